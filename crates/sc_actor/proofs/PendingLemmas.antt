@@ -1,11 +1,12 @@
 -- What is pending was sent, and has a copy.
-use Rattle.std.proofs.Common.{◌≡◌, ℕ, zero, suc, ◌+◌, ◌-◌, ◌<◌, List, [], ◌∷◌, ◌++◌, Bool, true, false, cond, eqb, replicate, refl, sym, ◌∙◌, ap, subst, arith, get_or, None, Some, inl, inr, ◌⊎◌}
-use Rattle.std.specs.Prelude.{slice_get}
+use Rattle.std.proofs.Common.{◌≡◌, ℕ, zero, suc, ◌+◌, ◌-◌, ◌<◌, List, [], ◌∷◌, ◌++◌, Bool, true, false, true≢false, cond, eqb, eq-eqb, ◌&&◌, Option, replicate, refl, sym, ◌∙◌, ap, subst, arith, get_or, None, Some, inl, inr, ◌⊎◌}
+use Rattle.std.specs.Prelude.{slice_get, is_none}
 use Rattle.std.proofs.lemmas.Bool.{eqb-true, and_parts, false≢true}
 use Rattle.sc_actor.specs.declared.rows.Row.{Row}
-use Rattle.sc_actor.specs.Mail.{mails, copies, numbers, may_get, is_for}
+use Rattle.sc_actor.specs.Mail.{mails, copies, numbers, numbered, may_get, is_for}
 use Rattle.sc_actor.specs.System.{System, waiting, kth, numbers_of}
 use Rattle.sc_actor.specs.Steps.{IsUnderWay}
+use Rattle.sc_actor.specs.Walk.{is_quiet}
 
 -- A number that is pending is that of a mail that passes the test, and it has a copy.
 pub record Pending {M : Type 0} (test : M → Bool) (first : ℕ) (sent : List M) (counts : List ℕ) (number : ℕ) : Type 0 where
@@ -111,3 +112,52 @@ module _ {M : Type 0} (p q : M → Bool) (narrower : (m : M) → q m ≡ true �
   first_own first (m ∷ sent) [] n place x e at is passes = cc
   first_own first (m ∷ sent) (c ∷ counts) n place x e at is passes =
       first_by first m sent c counts n (λ place' x' e' at' is' passes'. first_own (suc first) sent counts n place' x' e' at' is' passes') (p m) (q m) refl refl place x e at is passes
+
+-- a wider test has a first number where a narrower one has
+wide_some : {M : Type 0} (p q : M → Bool) → ((m : M) → q m ≡ true → p m ≡ true) → (first : ℕ) (sent : List M) (counts : List ℕ) (n : ℕ) → slice_get (numbers q first sent counts) 0 ≡ Some n → is_none (slice_get (numbers p first sent counts) 0) ≡ false
+wide_some p q wider first [] counts n e = cc
+wide_some p q wider first (m ∷ sent) [] n e = cc
+wide_some {M} p q wider first (m ∷ sent) (c ∷ counts) n e = by c (q m) (p m) refl refl e (wide_some p q wider (suc first) sent counts n)
+  where
+    by : (c : ℕ) (a b : Bool) → q m ≡ a → p m ≡ b → slice_get (cond a (replicate c first) [] ++ numbers q (suc first) sent counts) 0 ≡ Some n →
+        (slice_get (numbers q (suc first) sent counts) 0 ≡ Some n → is_none (slice_get (numbers p (suc first) sent counts) 0) ≡ false) → is_none (slice_get (cond b (replicate c first) [] ++ numbers p (suc first) sent counts) 0) ≡ false
+    by zero true true qa pb e later = later e
+    by zero true false qa pb e later = later e
+    by zero false true qa pb e later = later e
+    by zero false false qa pb e later = later e
+    by (suc c) true true qa pb e later = refl
+    by (suc c) true false qa pb e later = absurd (true≢false (sym (wider m qa) ∙ pb))
+    by (suc c) false true qa pb e later = refl
+    by (suc c) false false qa pb e later = later e
+
+-- and none where the wider one has none
+pub wide_none : {M : Type 0} (p q : M → Bool) → ((m : M) → q m ≡ true → p m ≡ true) → (first : ℕ) (sent : List M) (counts : List ℕ) → is_none (slice_get (numbers p first sent counts) 0) ≡ true → is_none (slice_get (numbers q first sent counts) 0) ≡ true
+wide_none p q wider first sent counts none = by (slice_get (numbers q first sent counts) 0) refl
+  where
+    by : (o : Option ℕ) → slice_get (numbers q first sent counts) 0 ≡ o → is_none (slice_get (numbers q first sent counts) 0) ≡ true
+    by None e = ap is_none e
+    by (Some n) e = absurd (true≢false (sym none ∙ wide_some p q wider first sent counts n e))
+
+module _ {A M O : Type 0} (s : System A M O) (rows : List (Row M O)) where
+  -- mail that waits for one waits
+  pub some_waits : (who n : ℕ) → kth (waiting s rows (Some who)) 1 ≡ Some n → is_quiet s rows ≡ false
+  some_waits who n e =
+      wide_some (is_for s.receiver (numbers_of s.births) rows None) (is_for s.receiver (numbers_of s.births) rows (Some who))
+      (λ m t. let parts = and_parts (eqb (s.receiver m) who) (may_get (numbers_of s.births) rows who) t in subst (λ w. may_get (numbers_of s.births) rows w ≡ true) (sym (eqb-true (s.receiver m) who parts.0)) parts.1)
+      1 (mails rows) (copies rows) n e
+
+  -- the first of all is the first of its receiver
+  pub first_is : (n : ℕ) → kth (waiting s rows None) 1 ≡ Some n → (mail : M) × (numbered (mails rows) n ≡ Some mail) × (may_get (numbers_of s.births) rows (s.receiver mail) ≡ true) × (kth (waiting s rows (Some (s.receiver mail))) 1 ≡ Some n)
+  first_is n e = by n e (waiting_any s rows 1 n e)
+    where
+      by : (n : ℕ) → kth (waiting s rows None) 1 ≡ Some n → ((mail : M) × IsUnderWay s rows n mail) → (mail : M) × (numbered (mails rows) n ≡ Some mail) × (may_get (numbers_of s.births) rows (s.receiver mail) ≡ true) × (kth (waiting s rows (Some (s.receiver mail))) 1 ≡ Some n)
+      by zero e u = (let bad : None ≡ Some u.0 = u.1.sent in cc)
+      by (suc place) e u = (
+        u.0,
+        u.1.sent,
+        u.1.may,
+        first_own (is_for s.receiver (numbers_of s.births) rows None) (is_for s.receiver (numbers_of s.births) rows (Some (s.receiver u.0)))
+            (λ x t. let parts = and_parts (eqb (s.receiver x) (s.receiver u.0)) (may_get (numbers_of s.births) rows (s.receiver u.0)) t in subst (λ w. may_get (numbers_of s.births) rows w ≡ true) (sym (eqb-true (s.receiver x) (s.receiver u.0) parts.0)) parts.1)
+            1 (mails rows) (copies rows) (suc place) place u.0 e (omega arith) u.1.sent
+            (ap (λ b. b && may_get (numbers_of s.births) rows (s.receiver u.0)) (eq-eqb (s.receiver u.0) (s.receiver u.0) refl) ∙ u.1.may),
+      )

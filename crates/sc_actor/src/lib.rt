@@ -13,4 +13,4 @@ pub use conditions::{are_apart, are_few};
 pub use gates::Gate;
 pub use laws::{journals_are_counted, journals_grow, lawful_journals_grow, next_rows_are_steps};
 pub use rows::{Event, Input, Journal, Row};
-pub use schedules::Line;
+pub use schedules::{Line, Played};

@@ -18,3 +18,18 @@ pub enum Line<O> {
     /// So many steps by the words that the number gives.
     Storm { number: u64, most: u32 },
 }
+
+/// How a schedule was played.
+#[derive(Clone, Copy, Debug, PartialEq, Eq)]
+pub enum Played {
+    /// To its end: whether a line ended with mail pending, whether none is pending now, and how
+    /// many lines were skipped.
+    Ended {
+        unsettled: bool,
+        quiet: bool,
+        skipped: u64,
+    },
+    /// To a row that would pass the limit of the exchange.
+    Full,
+    OutOfMemory,
+}

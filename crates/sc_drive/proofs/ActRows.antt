@@ -28,7 +28,7 @@ use Rattle.sc_workers.specs.Crews.{Still, AllStill, AllOf, IsAhead}
 use Rattle.sc_workers.specs.Ends.{IsGathered}
 use Rattle.sc_workers.proofs.Lists.{get_any}
 use Rattle.sc_workers.proofs.Attending.{prefix_snoc, count_split}
-use Rattle.sc_drive.specs.Companies.{Company}
+use Rattle.sc_drive.specs.Companies.{IsCompany}
 use Rattle.sc_drive.specs.Acts.{RowAdded, RowPasses, HasHalted, Told, KthIs, Served}
 use Rattle.sc_drive.proofs.RowCounts.{whole_front}
 use Rattle.sc_drive.proofs.OneActed.{nothing_seen, row_seen, seen_before, shell_later, company_after}
@@ -38,7 +38,7 @@ use Rattle.sc_turn.proofs.Lists.{starts_trans}
 -- the number at a place of the births is that of its shell
 module _ {A M O : Type 0} {g : Ghosts A M O} {h : MailGhosts M} where
   -- of the same place
-  pub birth_number : (births : List (Seat A)) (net : Port M O h) (ss : List (Shell A M O g h)) (k : ℕ) (d : Shell A M O g h) (e : Seat A) → Company births net ss → k < length ss → (get_or births k e).who ≡ (get_or ss k d).port.who
+  pub birth_number : (births : List (Seat A)) (net : Port M O h) (ss : List (Shell A M O g h)) (k : ℕ) (d : Shell A M O g h) (e : Seat A) → IsCompany births net ss → k < length ss → (get_or births k e).who ≡ (get_or ss k d).port.who
   birth_number births net ss k d e c lt =
       let f : Shell A M O g h → ℕ = λ s. s.port.who in
       let b : Seat A → ℕ = λ s. s.who in
@@ -46,7 +46,7 @@ module _ {A M O : Type 0} {g : Ghosts A M O} {h : MailGhosts M} where
       sym (get_or-map b births k e (e.who) inside) ∙ (ap (λ l. get_or l k e.who) (sym c.born) ∙ get_or-map f ss k d e.who lt)
 
   -- after one shell has acted and all have gathered
-  module _ (births : List (Seat A)) (net mid next : Port M O h) (ss after : List (Shell A M O g h)) (k : ℕ) (t : Shell A M O g h) (c : Company births net ss) (lt : k < length ss) (one : AllOf net ss)
+  module _ (births : List (Seat A)) (net mid next : Port M O h) (ss after : List (Shell A M O g h)) (k : ℕ) (t : Shell A M O g h) (c : IsCompany births net ss) (lt : k < length ss) (one : AllOf net ss)
       (met : Shell A M O g h) (still : Still (get_or ss k t) met) (ahead : IsAhead net met) (stays : Stays met.port t.port) (keeps : (birth : A) → IsReplay met birth → IsReplay t birth)
       (looked : Looked net next) (len : length after ≡ length ss) (rest : AllStill (set ss k t) after) (gathered : IsGathered next after) (rows : IsTrue next) where
     was : (d : Shell A M O g h) → Still (get_or ss k d) met
@@ -118,7 +118,7 @@ module _ {A M O : Type 0} {g : Ghosts A M O} {h : MailGhosts M} where
     passes event input free is l more = λ e.
         omega (arith, more, limit_is, ap (journal_bytes h.weighs) (sees_same l), ap (row_bytes h.weighs) (row_is e event input free (met_same l) is))
 
-    spent_company : met.spent ≡ true → t.actor ≡ met.actor → t.port ≡ met.port → Company births next after
+    spent_company : met.spent ≡ true → t.actor ≡ met.actor → t.port ≡ met.port → IsCompany births next after
     spent_company spent actor port =
         let crashed : met.port.crashed ≡ true = (was t).crashed ∙ halted_is spent t in
         company_after births net mid next ss after k t c lt met was ahead stays looked len rest gathered rows (λ _. ap (λ (p : Port M O h). p.crashed) port ∙ crashed) (λ e. actor ∙ (replays_met e (inr crashed) ∙ (λ i. value g.table (record { who = (sym port i).who; actor = (get_or births k e).actor }) (seen (sym port i)))))

@@ -1,7 +1,7 @@
 -- Lines of one row, from what an act did.
 use Rattle.std.proofs.Common.{◌≡◌, ◌≢◌, ℕ, suc, ◌<◌, Bool, true, false, eqb, cond, ◌||◌, List, [], ◌∷◌, length, get_or, refl, sym, ap, ◌∙◌, arith, Option, Some, None}
 use Rattle.std.proofs.lemmas.Bool.{eqb-true}
-use Rattle.std.specs.Prelude.{option_and_then}
+use Rattle.std.specs.Prelude.{option_and_then, Result, Ok, Err}
 use Rattle.sc_actor.specs.declared.actors.Actor.{Ghosts}
 use Rattle.sc_actor.specs.declared.actors.Parcel.{Ghosts as MailGhosts}
 use Rattle.sc_actor.specs.declared.actors.Seat.{Seat}
@@ -18,8 +18,8 @@ use Rattle.sc_shell.specs.declared.shells.Shell.{Shell}
 use Rattle.sc_shell.specs.declared.turns.Turn.TheVariants.{Did, Empty, Full, Spent}
 use Rattle.sc_workers.specs.Crews.{crew_numbers}
 use Rattle.sc_drive.specs.Numbers.{is_in}
-use Rattle.sc_drive.specs.declared.steps.LineResult.TheVariants.{Made, Skipped, Full as TooMuch}
-use Rattle.sc_drive.specs.Companies.{Company}
+use Rattle.sc_drive.specs.declared.company.Stop.TheVariants.{Full as TooMuch, OutOfMemory}
+use Rattle.sc_drive.specs.Companies.{IsCompany}
 use Rattle.sc_drive.specs.Acts.{HasHalted, Told, Served}
 use Rattle.sc_drive.specs.Stepping.{IsPlace, IsNowhere, Stepped, unless_crashed}
 use Rattle.sc_drive.proofs.Crashes.{both_out}
@@ -37,9 +37,9 @@ module _ {A M O : Type 0} {g : Ghosts A M O} {h : MailGhosts M} where
       by true e = absurd (none 0 s (omega arith) (sym (eqb-true who s.port.who e)))
       by false e = e
 
-  module _ (words : ℕ → ℕ → ℕ × ℕ) (births : List (Seat A)) (net next : Port M O h) (ss after : List (Shell A M O g h)) (c : Company births net ss) where
+  module _ (words : ℕ → ℕ → ℕ × ℕ) (births : List (Seat A)) (net next : Port M O h) (ss after : List (Shell A M O g h)) (c : IsCompany births net ss) where
     -- an event of an actor that is not there
-    pub happens_nowhere : (who : ℕ) (event : Event O) → IsNowhere ss who → Stepped (sys words births net ss c) (unless_crashed (sys words births net ss c) (seen net) who event) net net ss Skipped
+    pub happens_nowhere : (who : ℕ) (event : Event O) → IsNowhere ss who → Stepped (sys words births net ss c) (unless_crashed (sys words births net ss c) (seen net) who event) net net ss (Ok false)
     happens_nowhere who event out = (c, by (has_crashed (seen net) who), refl)
       where
         by : (b : Bool) → cond b None (acts (sys words births net ss c) (seen net) who event) ≡ None
@@ -64,23 +64,23 @@ module _ {A M O : Type 0} {g : Ghosts A M O} {h : MailGhosts M} where
       may_is event runs = ap (λ b. cond b None (acts (sys words births net ss c) (seen net) who event)) (halted false runs) ∙ act_is event
 
       -- it made its row
-      pub happens_did : (event : Event O) (n : ℕ) → Told births place event net next ss after (Did n) → Stepped (sys words births net ss c) (unless_crashed (sys words births net ss c) (seen net) who event) net next after Made
+      pub happens_did : (event : Event O) (n : ℕ) → Told births place event net next ss after (Did n) → Stepped (sys words births net ss c) (unless_crashed (sys words births net ss c) (seen net) who event) net next after (Ok true)
       happens_did event n t = (t.0, (row_of g.table (get_or births place e) (seen net) event, may_is event t.3, t.1 e), t.2)
 
       -- its row would pass the limit
-      pub happens_full : (event : Event O) (n : ℕ) → Told births place event net next ss after (Full n) → Stepped (sys words births net ss c) (unless_crashed (sys words births net ss c) (seen net) who event) net next after TooMuch
+      pub happens_full : (event : Event O) (n : ℕ) → Told births place event net next ss after (Full n) → Stepped (sys words births net ss c) (unless_crashed (sys words births net ss c) (seen net) who event) net next after (Err TooMuch)
       happens_full event n t = ((row_of g.table (get_or births place e) (seen net) event, may_is event t.2, t.1 e), t.0)
 
       -- the actor has crashed
-      pub happens_spent : (event : Event O) → Told births place event net next ss after Spent → Stepped (sys words births net ss c) (unless_crashed (sys words births net ss c) (seen net) who event) net next after Skipped
+      pub happens_spent : (event : Event O) → Told births place event net next ss after Spent → Stepped (sys words births net ss c) (unless_crashed (sys words births net ss c) (seen net) who event) net next after (Ok false)
       happens_spent event t = (t.0, ap (λ b. cond b None (acts (sys words births net ss c) (seen net) who event)) (halted true t.2), t.1)
 
       -- a Go, which is told to one that has not crashed
-      pub tells_did : (event : Event O) (n : ℕ) → Told births place event net next ss after (Did n) → Stepped (sys words births net ss c) (acts (sys words births net ss c) (seen net) who event) net next after Made
+      pub tells_did : (event : Event O) (n : ℕ) → Told births place event net next ss after (Did n) → Stepped (sys words births net ss c) (acts (sys words births net ss c) (seen net) who event) net next after (Ok true)
       tells_did event n t = (t.0, (row_of g.table (get_or births place e) (seen net) event, act_is event, t.1 e), t.2)
 
       -- its row would pass the limit
-      pub tells_full : (event : Event O) (n : ℕ) → Told births place event net next ss after (Full n) → Stepped (sys words births net ss c) (acts (sys words births net ss c) (seen net) who event) net next after TooMuch
+      pub tells_full : (event : Event O) (n : ℕ) → Told births place event net next ss after (Full n) → Stepped (sys words births net ss c) (acts (sys words births net ss c) (seen net) who event) net next after (Err TooMuch)
       tells_full event n t = ((row_of g.table (get_or births place e) (seen net) event, act_is event, t.1 e), t.0)
 
       -- the k-th pending mail
@@ -91,11 +91,11 @@ module _ {A M O : Type 0} {g : Ghosts A M O} {h : MailGhosts M} where
       delivers k number is = ap (option_and_then (λ mail. acts (sys words births net ss c) (seen net) who (Deliver mail))) (kth_at k (Some number) is) ∙ act_is (Deliver number)
 
       -- a mail was delivered
-      pub delivers_did : (k n : ℕ) → Served births place k net next ss after (Did n) → Stepped (sys words births net ss c) (line_row (sys words births net ss c) (seen net) (DeliverLine who k)) net next after Made
+      pub delivers_did : (k n : ℕ) → Served births place k net next ss after (Did n) → Stepped (sys words births net ss c) (line_row (sys words births net ss c) (seen net) (DeliverLine who k)) net next after (Ok true)
       delivers_did k n t = (t.0, (row_of g.table (get_or births place e) (seen net) (Deliver t.1.0), delivers k t.1.0 (t.1.1 d), t.1.2 e), t.2)
 
       -- its row would pass the limit
-      pub delivers_full : (k n : ℕ) → Served births place k net next ss after (Full n) → Stepped (sys words births net ss c) (line_row (sys words births net ss c) (seen net) (DeliverLine who k)) net next after TooMuch
+      pub delivers_full : (k n : ℕ) → Served births place k net next ss after (Full n) → Stepped (sys words births net ss c) (line_row (sys words births net ss c) (seen net) (DeliverLine who k)) net next after (Err TooMuch)
       delivers_full k n t = ((row_of g.table (get_or births place e) (seen net) (Deliver t.1.0), delivers k t.1.0 (t.1.1 d), t.1.2 e), t.0)
 
       -- no k-th mail is pending
@@ -107,21 +107,21 @@ module _ {A M O : Type 0} {g : Ghosts A M O} {h : MailGhosts M} where
       serves_spent k t = waiting_crashed words births net ss c who k (seen net) (halted true t.2)
 
       -- too few are pending
-      pub delivers_empty : (k n : ℕ) → Served births place k net next ss after (Empty n) → Stepped (sys words births net ss c) (line_row (sys words births net ss c) (seen net) (DeliverLine who k)) net next after Skipped
+      pub delivers_empty : (k n : ℕ) → Served births place k net next ss after (Empty n) → Stepped (sys words births net ss c) (line_row (sys words births net ss c) (seen net) (DeliverLine who k)) net next after (Ok false)
       delivers_empty k n t = (t.0, ap (option_and_then (λ mail. acts (sys words births net ss c) (seen net) who (Deliver mail))) (serves_empty k n t), t.1)
 
       -- the actor has crashed, and nothing is pending for it
-      pub delivers_spent : (k : ℕ) → Served births place k net next ss after Spent → Stepped (sys words births net ss c) (line_row (sys words births net ss c) (seen net) (DeliverLine who k)) net next after Skipped
+      pub delivers_spent : (k : ℕ) → Served births place k net next ss after Spent → Stepped (sys words births net ss c) (line_row (sys words births net ss c) (seen net) (DeliverLine who k)) net next after (Ok false)
       delivers_spent k t = (t.0, ap (option_and_then (λ mail. acts (sys words births net ss c) (seen net) who (Deliver mail))) (serves_spent k t), t.1)
 
     -- an actor that is not there
-    pub tells_nowhere : (who : ℕ) (event : Event O) → IsNowhere ss who → Stepped (sys words births net ss c) (acts (sys words births net ss c) (seen net) who event) net net ss Skipped
+    pub tells_nowhere : (who : ℕ) (event : Event O) → IsNowhere ss who → Stepped (sys words births net ss c) (acts (sys words births net ss c) (seen net) who event) net net ss (Ok false)
     tells_nowhere who event out = (c, acts_none words births net ss c who (seen net) event out, refl)
 
     -- mail of an actor that is not there
-    pub delivers_nowhere : (who k : ℕ) → IsNowhere ss who → Stepped (sys words births net ss c) (line_row (sys words births net ss c) (seen net) (DeliverLine who k)) net net ss Skipped
+    pub delivers_nowhere : (who k : ℕ) → IsNowhere ss who → Stepped (sys words births net ss c) (line_row (sys words births net ss c) (seen net) (DeliverLine who k)) net net ss (Ok false)
     delivers_nowhere who k out = (c, ap (option_and_then (λ mail. acts (sys words births net ss c) (seen net) who (Deliver mail))) (waiting_none words births net ss c who k (seen net) out), refl)
 
     -- mails are counted from 1
-    pub delivers_none : (who : ℕ) → Stepped (sys words births net ss c) (line_row (sys words births net ss c) (seen net) (DeliverLine who 0)) net net ss Skipped
+    pub delivers_none : (who : ℕ) → Stepped (sys words births net ss c) (line_row (sys words births net ss c) (seen net) (DeliverLine who 0)) net net ss (Ok false)
     delivers_none who = (c, refl, refl)

@@ -17,7 +17,7 @@ use Rattle.sc_workers.specs.Ends.{IsGathered}
 use Rattle.sc_workers.proofs.Crews.{still_all_go, still_sound, still_rows}
 use Rattle.sc_workers.proofs.Serving.{numbers_go}
 use Rattle.sc_drive.specs.Numbers.{is_in, apart}
-use Rattle.sc_drive.specs.Companies.{Company, AtBirth, seats}
+use Rattle.sc_drive.specs.Companies.{IsCompany, AtBirth, seats}
 use Rattle.sc_drive.proofs.RowCounts.{sum_each, sum_nothing, flip}
 use Rattle.sc_drive.proofs.OneActed.{replays_of, count_company}
 use Rattle.std.proofs.lemmas.List.{get_or-map, length-map, nil_from_length}
@@ -74,7 +74,7 @@ module _ {A M O : Type 0} {g : Ghosts A M O} {h : MailGhosts M} where
         subst (λ (birth : A). s.actor ≡ value g.table (record { who = s.port.who; actor = birth }) (seen s.port)) (ap (λ (x : Seat A). x.actor) (seat_is k d e lt)) (replay_born g.table s.port s.actor (b.fresh k d lt).0)
 
     -- a company at its birth
-    pub company_born : Company births next after
+    pub company_born : IsCompany births next after
     company_born = record {
       first = looked.stays.who ∙ b.crew.first;
       all = looked.stays.given ∙ (b.all ∙ sym numbers_are);

@@ -19,10 +19,11 @@ use Rattle.sc_workers.specs.Ends.{any_waits, IsGathered}
 use Rattle.sc_workers.proofs.Crews.{still_all_go, still_sound, still_rows}
 use Rattle.sc_workers.proofs.Serving.{numbers_go, count_later, list_same, waits_at, is_some_is}
 use Rattle.sc_drive.specs.Numbers.{is_in, apart}
-use Rattle.sc_drive.specs.Companies.{Company}
+use Rattle.sc_drive.specs.Companies.{IsCompany}
 use Rattle.sc_drive.proofs.OneActed.{count_seen, none_seen, replays_of, count_company}
 use Rattle.sc_drive.proofs.SystemWords.{sys, waiting_at}
-use Rattle.sc_drive.proofs.FreeRows.{some_waits, first_is, in_at, flip_in}
+use Rattle.sc_actor.proofs.PendingLemmas.{some_waits, first_is}
+use Rattle.sc_drive.proofs.FreeRows.{in_at, flip_in}
 use Rattle.std.proofs.lemmas.List.{nil_from_length}
 use Rattle.sc_workers.proofs.Lists.{one_of}
 use Rattle.sc_exchange.proofs.Knowing.{own_length}
@@ -41,7 +42,7 @@ module _ {M O : Type 0} {h : MailGhosts M} where
 
 module _ {A M O : Type 0} {g : Ghosts A M O} {h : MailGhosts M} where
   -- shells that have gone on are a company again
-  pub company_go : (births : List (Seat A)) (net next : Port M O h) (ss after : List (Shell A M O g h)) → Company births net ss → Looked net next → length after ≡ length ss → AllGo ss after → AllOver next after → IsTrue next → AllSound after → Company births next after
+  pub company_go : (births : List (Seat A)) (net next : Port M O h) (ss after : List (Shell A M O g h)) → IsCompany births net ss → Looked net next → length after ≡ length ss → AllGo ss after → AllOver next after → IsTrue next → AllSound after → IsCompany births next after
   company_go births net next ss after c looked len go over rows sound =
       let same : crew_numbers after ≡ crew_numbers ss = numbers_go ss after len go in record {
         first = looked.stays.who ∙ c.first;
@@ -56,15 +57,15 @@ module _ {A M O : Type 0} {g : Ghosts A M O} {h : MailGhosts M} where
       }
 
   -- all gather once more, and nothing was made
-  pub company_still : (births : List (Seat A)) (net next : Port M O h) (ss after : List (Shell A M O g h)) → Company births net ss → Looked net next → length after ≡ length ss → AllStill ss after → IsGathered next after → IsTrue next → Company births next after × (seen next ≡ seen net)
+  pub company_still : (births : List (Seat A)) (net next : Port M O h) (ss after : List (Shell A M O g h)) → IsCompany births net ss → Looked net next → length after ≡ length ss → AllStill ss after → IsGathered next after → IsTrue next → IsCompany births next after × (seen next ≡ seen net)
   company_still births net next ss after c looked len still gathered rows =
-      let d : Company births next after = company_go births net next ss after c looked len (still_all_go ss after still) gathered.over rows (still_sound ss after len still c.sound) in
+      let d : IsCompany births next after = company_go births net next ss after c looked len (still_all_go ss after still) gathered.over rows (still_sound ss after len still c.sound) in
       let a = count_company births net ss c in
       let b = count_company births next after d in
       (d, none_seen net next (length (seen net)) looked.later refl (omega (arith, a, b, ap length looked.made, still_rows ss after len still)))
 
   -- the same of what was seen alone
-  pub gathered_same : (births : List (Seat A)) (net mid next : Port M O h) (ss mids after : List (Shell A M O g h)) → Company births net ss → Looked net mid → length mids ≡ length ss → AllGo ss mids → AllOver mid mids → IsTrue mid →
+  pub gathered_same : (births : List (Seat A)) (net mid next : Port M O h) (ss mids after : List (Shell A M O g h)) → IsCompany births net ss → Looked net mid → length mids ≡ length ss → AllGo ss mids → AllOver mid mids → IsTrue mid →
       Looked mid next → length after ≡ length mids → AllStill mids after → IsGathered next after → IsTrue next → seen next ≡ seen mid
   gathered_same births net mid next ss mids after c looked len go over rows looked2 len2 still gathered rows2 =
       let one : crew_numbers mids ≡ crew_numbers ss = numbers_go ss mids len go in
@@ -78,7 +79,7 @@ module _ {A M O : Type 0} {g : Ghosts A M O} {h : MailGhosts M} where
   any_false p (s ∷ ss) e zero d lt = (or_parts (p s.port.who) (list_any p (crew_numbers ss)) e).0
   any_false p (s ∷ ss) e (suc k) d lt = any_false p ss (or_parts (p s.port.who) (list_any p (crew_numbers ss)) e).1 k d (omega (arith, lt))
 
-  module _ (words : ℕ → ℕ → ℕ × ℕ) (births : List (Seat A)) (net next : Port M O h) (ss : List (Shell A M O g h)) (c : Company births net ss) (actors : next.actors ≡ net.actors) where
+  module _ (words : ℕ → ℕ → ℕ × ℕ) (births : List (Seat A)) (net next : Port M O h) (ss : List (Shell A M O g h)) (c : IsCompany births net ss) (actors : next.actors ≡ net.actors) where
     -- nothing waits for the shells' actors, so nothing waits
     pub quiet_after : any_waits next (crew_numbers ss) ≡ false → is_quiet (sys words births net ss c) (seen next) ≡ true
     quiet_after none = by (kth (waiting (sys words births net ss c) (seen next) None) 1) refl

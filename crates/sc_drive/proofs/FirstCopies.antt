@@ -22,7 +22,7 @@ use Rattle.sc_shell.specs.declared.shells.Shell.{Shell}
 use Rattle.sc_workers.specs.Crews.{AllStill, crew_numbers}
 use Rattle.sc_workers.proofs.Crews.{still_rows}
 use Rattle.sc_drive.specs.Numbers.{is_in, apart}
-use Rattle.sc_drive.specs.Companies.{Company}
+use Rattle.sc_drive.specs.Companies.{IsCompany}
 use Rattle.sc_drive.specs.Goings.{IsTogether}
 use Rattle.sc_drive.specs.Stepping.{IsPlace}
 use Rattle.sc_drive.specs.Lowest.{FindsLowest, IsFirstPlaced}
@@ -135,7 +135,7 @@ module _ {A M O : Type 0} {g : Ghosts A M O} {h : MailGhosts M} where
       by (t ∷ ts) zero lt is = ap (λ b. b || is_in who (crew_numbers ts)) (eq-eqb who t.port.who (sym (is t)))
       by (t ∷ ts) (suc k) lt is = or_right (eqb who t.port.who) (is_in who (crew_numbers ts)) (by ts k (omega (arith, lt)) (λ d. is d))
 
-  module _ (words : ℕ → ℕ → ℕ × ℕ) (births : List (Seat A)) (net : Port M O h) (ss : List (Shell A M O g h)) (c : Company births net ss) (rows : List (Row M O)) where
+  module _ (words : ℕ → ℕ → ℕ × ℕ) (births : List (Seat A)) (net : Port M O h) (ss : List (Shell A M O g h)) (c : IsCompany births net ss) (rows : List (Row M O)) where
     abbrev has : ℕ → Bool
     has who = is_in who (crew_numbers ss)
 
@@ -181,7 +181,7 @@ module _ {A M O : Type 0} {g : Ghosts A M O} {h : MailGhosts M} where
 
   module _ (net mid next : Port M O h) (ss after : List (Shell A M O g h)) (together : IsTogether net ss) (looked : Looked net mid) (len : length after ≡ length ss) (still : AllStill ss after) (looked2 : Looked mid next) (same : crew_numbers after ≡ crew_numbers ss) where
     -- nothing was made meanwhile
-    pub nothing_more : (births : List (Seat A)) → Company births next after → seen next ≡ seen mid
+    pub nothing_more : (births : List (Seat A)) → IsCompany births next after → seen next ≡ seen mid
     nothing_more births c =
         let first : net.who ≡ 0 = together.crew.first in
         let all = looked.stays.given in
@@ -192,7 +192,7 @@ module _ {A M O : Type 0} {g : Ghosts A M O} {h : MailGhosts M} where
         shorter xs zs s = omega (arith, ap length s.1, length-append xs s.0)
 
     -- what was found of all spots then is found now
-    there : (births : List (Seat A)) → Company births next after → (spots : List Spot) → spots ≡ spots_of h.receiver mid.actors (seen mid) → (o : Option Spot)
+    there : (births : List (Seat A)) → IsCompany births next after → (spots : List Spot) → spots ≡ spots_of h.receiver mid.actors (seen mid) → (o : Option Spot)
         → find (λ spot. is_in spot.who (crew_numbers after)) spots ≡ o → find (λ spot. is_in spot.who (crew_numbers after)) (spots_of h.receiver next.actors (seen next)) ≡ o
     there births c spots is o e =
         (λ i. find (λ spot. is_in spot.who (crew_numbers after)) (spots_of h.receiver (looked2.stays.exchange.1 i) (nothing_more births c i)))

@@ -17,7 +17,7 @@ use Rattle.sc_actor.specs.System.{System, numbers_of, row_of, acts, waiting, kth
 use Rattle.sc_actor.specs.Steps.{IsUnderWay}
 use Rattle.sc_actor.specs.Walk.{Task, Frees, is_over, is_quiet, first_of}
 use Rattle.sc_actor.proofs.WalkLemmas.{Stands, Stands-row}
-use Rattle.sc_actor.proofs.PendingLemmas.{waiting_any, first_own}
+use Rattle.sc_actor.proofs.PendingLemmas.{some_waits}
 use Rattle.sc_ledger.specs.Pending.{kth_pending}
 use Rattle.sc_exchange.specs.declared.ports.Port.{Port}
 use Rattle.sc_exchange.specs.BareRows.{rows_of}
@@ -28,61 +28,12 @@ use Rattle.sc_workers.specs.Services.{IsService, AllServe}
 use Rattle.sc_workers.proofs.Serving.{numbers_go, count_later}
 use Rattle.sc_workers.proofs.Attending.{count_split}
 use Rattle.sc_drive.specs.Numbers.{is_in, apart}
-use Rattle.sc_drive.specs.Companies.{Company}
+use Rattle.sc_drive.specs.Companies.{IsCompany}
 use Rattle.sc_drive.proofs.RowCounts.{not_in}
 use Rattle.sc_drive.proofs.OneActed.{count_seen, count_company}
 use Rattle.sc_drive.proofs.ActRows.{birth_number}
 use Rattle.sc_drive.proofs.SystemWords.{sys, acts_at, waiting_at, gone_push}
 use Rattle.sc_workers.proofs.Lists.{one_of}
-
--- a wider test has a first number where a narrower one has
-wide_some : {M : Type 0} (p q : M → Bool) → ((m : M) → q m ≡ true → p m ≡ true) → (first : ℕ) (sent : List M) (counts : List ℕ) (n : ℕ) → slice_get (numbers q first sent counts) 0 ≡ Some n → is_none (slice_get (numbers p first sent counts) 0) ≡ false
-wide_some p q wider first [] counts n e = cc
-wide_some p q wider first (m ∷ sent) [] n e = cc
-wide_some {M} p q wider first (m ∷ sent) (c ∷ counts) n e = by c (q m) (p m) refl refl e (wide_some p q wider (suc first) sent counts n)
-  where
-    by : (c : ℕ) (a b : Bool) → q m ≡ a → p m ≡ b → slice_get (cond a (replicate c first) [] ++ numbers q (suc first) sent counts) 0 ≡ Some n →
-        (slice_get (numbers q (suc first) sent counts) 0 ≡ Some n → is_none (slice_get (numbers p (suc first) sent counts) 0) ≡ false) → is_none (slice_get (cond b (replicate c first) [] ++ numbers p (suc first) sent counts) 0) ≡ false
-    by zero true true qa pb e later = later e
-    by zero true false qa pb e later = later e
-    by zero false true qa pb e later = later e
-    by zero false false qa pb e later = later e
-    by (suc c) true true qa pb e later = refl
-    by (suc c) true false qa pb e later = absurd (true≢false (sym (wider m qa) ∙ pb))
-    by (suc c) false true qa pb e later = refl
-    by (suc c) false false qa pb e later = later e
-
--- and none where the wider one has none
-pub wide_none : {M : Type 0} (p q : M → Bool) → ((m : M) → q m ≡ true → p m ≡ true) → (first : ℕ) (sent : List M) (counts : List ℕ) → is_none (slice_get (numbers p first sent counts) 0) ≡ true → is_none (slice_get (numbers q first sent counts) 0) ≡ true
-wide_none p q wider first sent counts none = by (slice_get (numbers q first sent counts) 0) refl
-  where
-    by : (o : Option ℕ) → slice_get (numbers q first sent counts) 0 ≡ o → is_none (slice_get (numbers q first sent counts) 0) ≡ true
-    by None e = ap is_none e
-    by (Some n) e = absurd (true≢false (sym none ∙ wide_some p q wider first sent counts n e))
-
-module _ {A M O : Type 0} (s : System A M O) (rows : List (Row M O)) where
-  -- mail that waits for one waits
-  pub some_waits : (who n : ℕ) → kth (waiting s rows (Some who)) 1 ≡ Some n → is_quiet s rows ≡ false
-  some_waits who n e =
-      wide_some (is_for s.receiver (numbers_of s.births) rows None) (is_for s.receiver (numbers_of s.births) rows (Some who))
-      (λ m t. let parts = and_parts (eqb (s.receiver m) who) (may_get (numbers_of s.births) rows who) t in subst (λ w. may_get (numbers_of s.births) rows w ≡ true) (sym (eqb-true (s.receiver m) who parts.0)) parts.1)
-      1 (mails rows) (copies rows) n e
-
-  -- the first of all is the first of its receiver
-  pub first_is : (n : ℕ) → kth (waiting s rows None) 1 ≡ Some n → (mail : M) × (numbered (mails rows) n ≡ Some mail) × (may_get (numbers_of s.births) rows (s.receiver mail) ≡ true) × (kth (waiting s rows (Some (s.receiver mail))) 1 ≡ Some n)
-  first_is n e = by n e (waiting_any s rows 1 n e)
-    where
-      by : (n : ℕ) → kth (waiting s rows None) 1 ≡ Some n → ((mail : M) × IsUnderWay s rows n mail) → (mail : M) × (numbered (mails rows) n ≡ Some mail) × (may_get (numbers_of s.births) rows (s.receiver mail) ≡ true) × (kth (waiting s rows (Some (s.receiver mail))) 1 ≡ Some n)
-      by zero e u = (let bad : None ≡ Some u.0 = u.1.sent in cc)
-      by (suc place) e u = (
-        u.0,
-        u.1.sent,
-        u.1.may,
-        first_own (is_for s.receiver (numbers_of s.births) rows None) (is_for s.receiver (numbers_of s.births) rows (Some (s.receiver u.0)))
-            (λ x t. let parts = and_parts (eqb (s.receiver x) (s.receiver u.0)) (may_get (numbers_of s.births) rows (s.receiver u.0)) t in subst (λ w. may_get (numbers_of s.births) rows w ≡ true) (sym (eqb-true (s.receiver x) (s.receiver u.0) parts.0)) parts.1)
-            1 (mails rows) (copies rows) (suc place) place u.0 e (omega arith) u.1.sent
-            (ap (λ b. b && may_get (numbers_of s.births) rows (s.receiver u.0)) (eq-eqb (s.receiver u.0) (s.receiver u.0) refl) ∙ u.1.may),
-      )
 
 -- a number that is in a list
 pub flip_in : (n : ℕ) (ws : List ℕ) → list_any (λ a. eqb a n) ws ≡ true → is_in n ws ≡ true
@@ -107,7 +58,7 @@ module _ {A M O : Type 0} {g : Ghosts A M O} {h : MailGhosts M} where
       by true is later = (0, omega arith, λ d. sym (eqb-true n s.port.who is))
       by false is later = let q = later (ap (λ b. b || is_in n (crew_numbers ss)) (sym is) ∙ e) in (suc q.0, omega (arith, q.1), λ d. q.2 d)
 
-  module _ (words : ℕ → ℕ → ℕ × ℕ) (births : List (Seat A)) (net next : Port M O h) (ss after : List (Shell A M O g h)) (c : Company births net ss) (looked : Looked net next) (len : length after ≡ length ss) (go : AllGo ss after) (over : AllOver next after) (rows : IsTrue next) (served : AllServe next ss) where
+  module _ (words : ℕ → ℕ → ℕ × ℕ) (births : List (Seat A)) (net next : Port M O h) (ss after : List (Shell A M O g h)) (c : IsCompany births net ss) (looked : Looked net next) (len : length after ≡ length ss) (go : AllGo ss after) (over : AllOver next after) (rows : IsTrue next) (served : AllServe next ss) where
     abbrev world : System A M O
     world = sys words births net ss c
 

@@ -21,12 +21,13 @@ use Rattle.sc_workers.specs.declared.answers.Rounds.TheVariants.{Quiet, Limit, F
 use Rattle.sc_workers.specs.Crews.{AllGo, AllOver, AllStill, AllSound, crew_numbers, rows_made}
 use Rattle.sc_workers.specs.Services.{AllServe}
 use Rattle.sc_workers.specs.Ends.{IsEnd, IsGathered}
-use Rattle.sc_drive.specs.declared.steps.Score.{Score}
+use Rattle.sc_drive.specs.declared.company.Score.{Score}
 use Rattle.sc_drive.specs.Numbers.{is_in}
 use Rattle.sc_drive.specs.Goings.{HasReached, Goes, Fills}
 use Rattle.sc_drive.proofs.ActRows.{birth_number}
 use Rattle.sc_drive.proofs.SystemWords.{acts_at, waiting_at}
-use Rattle.sc_drive.proofs.FreeRows.{some_waits, more_count, free_walk, gone_same}
+use Rattle.sc_actor.proofs.PendingLemmas.{some_waits}
+use Rattle.sc_drive.proofs.FreeRows.{more_count, free_walk, gone_same}
 use Rattle.sc_drive.proofs.Companies.{true_before, company_go, company_still, gathered_same, quiet_after, cut_after}
 use Rattle.sc_workers.proofs.Lists.{one_of}
 use Rattle.std.proofs.Math.Bool.{or-false, or-true}

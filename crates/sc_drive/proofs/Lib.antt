@@ -19,3 +19,6 @@ pub mod Closed
 pub mod Crashes
 pub mod FirstCopies
 pub mod StormSteps
+pub mod Working
+pub mod Settled
+pub mod Singles

@@ -10,24 +10,24 @@ use Rattle.sc_actor.specs.declared.rows.Row.{Row}
 use Rattle.sc_actor.specs.Mail.{mails, copies, numbered, is_for, may_get, has_crashed}
 use Rattle.sc_actor.specs.System.{numbers_of, waiting, kth}
 use Rattle.sc_actor.specs.Walk.{is_quiet}
-use Rattle.sc_actor.proofs.PendingLemmas.{pending_sound, first_own}
+use Rattle.sc_actor.proofs.PendingLemmas.{pending_sound, first_own, wide_none}
 use Rattle.sc_ledger.specs.Pending.{upto, kth_pending}
 use Rattle.sc_exchange.specs.declared.ports.Port.{Port}
 use Rattle.sc_exchange.specs.declared.answers.Fetched.TheVariants.{Mail, Empty}
 use Rattle.sc_exchange.specs.Ports.{seen}
 use Rattle.sc_shell.specs.declared.shells.Shell.{Shell}
 use Rattle.sc_workers.specs.Ends.{IsFirst}
-use Rattle.sc_drive.specs.Companies.{Company}
+use Rattle.sc_drive.specs.Companies.{IsCompany}
 use Rattle.sc_drive.specs.Stepping.{IsPlace}
 use Rattle.sc_drive.specs.Lowest.{Lowest, FindsLowest, IsReceiverAt}
 use Rattle.sc_drive.proofs.SystemWords.{sys, upto_has, births_have, births_long}
 use Rattle.sc_drive.proofs.ActRows.{birth_number}
-use Rattle.sc_drive.proofs.FreeRows.{wide_none, in_at, flip_in}
+use Rattle.sc_drive.proofs.FreeRows.{in_at, flip_in}
 use Rattle.sc_workers.proofs.Lists.{one_of}
 use Rattle.sc_exchange.specs.declared.answers.Fetched.{Fetched}
 
 module _ {A M O : Type 0} {g : Ghosts A M O} {h : MailGhosts M} where
-  module _ (words : ℕ → ℕ → ℕ × ℕ) (births : List (Seat A)) (net : Port M O h) (ss : List (Shell A M O g h)) (c : Company births net ss) (rows : List (Row M O)) where
+  module _ (words : ℕ → ℕ → ℕ × ℕ) (births : List (Seat A)) (net : Port M O h) (ss : List (Shell A M O g h)) (c : IsCompany births net ss) (rows : List (Row M O)) where
     -- an actor of the system is one of the exchange
     pub wider : (m : M) → may_get (numbers_of births) rows (h.receiver m) ≡ true → may_get (upto net.actors) rows (h.receiver m) ≡ true
     wider m t =
@@ -71,7 +71,7 @@ module _ {A M O : Type 0} {g : Ghosts A M O} {h : MailGhosts M} where
         may = λ i. subst (λ v. list_any (λ a. eqb a v) (numbers_of births) ≡ true) born (births_have births place e (omega (arith, at.inside, births_long words births net ss c))) i && ap not crashed i
 
   -- what was found when all gathered, and the place of the shell that gets it
-  module _ (words : ℕ → ℕ → ℕ × ℕ) (births : List (Seat A)) (net : Port M O h) (ss : List (Shell A M O g h)) (c : Company births net ss) where
+  module _ (words : ℕ → ℕ → ℕ × ℕ) (births : List (Seat A)) (net : Port M O h) (ss : List (Shell A M O g h)) (c : IsCompany births net ss) where
     lowest_placed : (found : Fetched M) (place : Option ℕ) → IsFirst net found → IsReceiverAt ss found place → Lowest (sys words births net ss c) net ss place
     lowest_placed (Empty told) None f p = none_quiet words births net ss c (seen net) (ap (λ n. kth_pending h.receiver net.actors (seen net) n 1) (sym c.first) ∙ f.0)
     lowest_placed (Empty told) (Some place) f p = absurd p

@@ -1,6 +1,6 @@
 -- Lines of the network.
 use Rattle.std.proofs.Common.{◌≡◌, ℕ, ◌+◌, ◌<◌, ◌≤◌, Bool, true, false, eqb, cond, not, ◌&&◌, List, [], ◌∷◌, ◌++◌, length, get_or, refl, sym, ap, ◌∙◌, subst, arith, length-append, Option, Some, None, zero, nat_lt, ◌-◌, ◌≢◌, true≢false, suc}
-use Rattle.std.specs.Prelude.{option_and_then}
+use Rattle.std.specs.Prelude.{option_and_then, Result, Ok, Err}
 use Rattle.std.specs.List.{list_any}
 use Rattle.std.specs.Option.{option_map}
 use Rattle.sc_turn.specs.Turn.{StartsWith}
@@ -24,9 +24,9 @@ use Rattle.sc_workers.specs.Ends.{IsGathered}
 use Rattle.sc_workers.proofs.Lists.{one_of}
 use Rattle.sc_workers.proofs.Crews.{still_all_go, still_sound, still_rows}
 use Rattle.sc_workers.proofs.Serving.{numbers_go}
-use Rattle.sc_drive.specs.declared.steps.LineResult.TheVariants.{Made, Skipped, Full as TooMuch}
+use Rattle.sc_drive.specs.declared.company.Stop.TheVariants.{Full as TooMuch, OutOfMemory}
 use Rattle.sc_drive.specs.Numbers.{is_in, apart}
-use Rattle.sc_drive.specs.Companies.{Company}
+use Rattle.sc_drive.specs.Companies.{IsCompany}
 use Rattle.sc_drive.specs.Stepping.{IsPlace, IsNowhere, Stepped}
 use Rattle.sc_drive.proofs.RowCounts.{whole_front}
 use Rattle.sc_drive.proofs.OneActed.{one_seen, none_seen, replays_of, count_company}
@@ -38,7 +38,7 @@ use Rattle.std.proofs.lemmas.Bool.{and_parts, eqb-true, lt-ltb}
 use Rattle.sc_exchange.specs.declared.fates.Fate.{Fate}
 use Rattle.sc_exchange.specs.declared.fates.Fate.TheVariants.{Lost, Repeated}
 use Rattle.sc_drive.specs.Changing.{Changes}
-use Rattle.sc_drive.specs.declared.steps.LineResult.{LineResult}
+use Rattle.sc_drive.specs.declared.company.Stop.{Stop}
 use Rattle.sc_exchange.proofs.Knowing.{looked_trans, stays_trans}
 use Rattle.sc_turn.proofs.Lists.{starts_trans}
 
@@ -63,11 +63,11 @@ module _ {M O : Type 0} {h : MailGhosts M} where
 
 module _ {A M O : Type 0} {g : Ghosts A M O} {h : MailGhosts M} where
   -- the network's port changed, and all have gathered
-  module _ (births : List (Seat A)) (net mid next : Port M O h) (ss after : List (Shell A M O g h)) (c : Company births net ss) (stays : Stays net mid) (looked : Looked mid next) (len : length after ≡ length ss) (still : AllStill ss after) (gathered : IsGathered next after) (rows : IsTrue next) where
+  module _ (births : List (Seat A)) (net mid next : Port M O h) (ss after : List (Shell A M O g h)) (c : IsCompany births net ss) (stays : Stays net mid) (looked : Looked mid next) (len : length after ≡ length ss) (still : AllStill ss after) (gathered : IsGathered next after) (rows : IsTrue next) where
     numbers_are : crew_numbers after ≡ crew_numbers ss
     numbers_are = numbers_go ss after len (still_all_go ss after still)
 
-    pub company_net : Company births next after
+    pub company_net : IsCompany births next after
     company_net = record {
       first = looked.stays.who ∙ (stays.who ∙ c.first);
       all = looked.stays.given ∙ (stays.given ∙ (c.all ∙ sym numbers_are));
@@ -100,11 +100,11 @@ module _ {A M O : Type 0} {g : Ghosts A M O} {h : MailGhosts M} where
         whole_front (seen net) (seen mid) a (omega (arith, ap length a.1, length-append (seen net) a.0, ap length b.1, length-append (seen mid) b.0, ap length (net_same l)))
 
   -- mail of an actor that there is not
-  pub loses_nowhere : (words : ℕ → ℕ → ℕ × ℕ) (births : List (Seat A)) (net : Port M O h) (ss : List (Shell A M O g h)) (c : Company births net ss) (who k : ℕ) → IsNowhere ss who → Stepped (sys words births net ss c) (line_row (sys words births net ss c) (seen net) (DropLine who k)) net net ss Skipped
+  pub loses_nowhere : (words : ℕ → ℕ → ℕ × ℕ) (births : List (Seat A)) (net : Port M O h) (ss : List (Shell A M O g h)) (c : IsCompany births net ss) (who k : ℕ) → IsNowhere ss who → Stepped (sys words births net ss c) (line_row (sys words births net ss c) (seen net) (DropLine who k)) net net ss (Ok false)
   loses_nowhere words births net ss c who k out = (c, ap (option_map (λ mail. network (Drop mail))) (waiting_none words births net ss c who k (seen net) out), refl)
 
   -- a line of the network, whose port looked first
-  module _ (words : ℕ → ℕ → ℕ × ℕ) (births : List (Seat A)) (net first : Port M O h) (ss after : List (Shell A M O g h)) (c : Company births net ss) (l : Looked net first) (len : length after ≡ length ss) (still : AllStill ss after) where
+  module _ (words : ℕ → ℕ → ℕ × ℕ) (births : List (Seat A)) (net first : Port M O h) (ss after : List (Shell A M O g h)) (c : IsCompany births net ss) (l : Looked net first) (len : length after ≡ length ss) (still : AllStill ss after) where
     -- the pending mail of an actor, as it was first seen
     kth_there : (who k place : ℕ) (o : Option ℕ) → IsPlace ss who place → seen first ≡ seen net → o ≡ kth_pending h.receiver net.actors (seen first) who k → kth (waiting (sys words births net ss c) (seen net) (Some who)) k ≡ o
     kth_there who k place o at same is =
@@ -113,7 +113,7 @@ module _ {A M O : Type 0} {g : Ghosts A M O} {h : MailGhosts M} where
         ∙ (sym (waiting_at words births net ss c place at.inside d (seen net) k) ∙ ((λ i. kth_pending h.receiver net.actors (sym same i) (at.number d i) k) ∙ sym is))
 
     module _ (next : Port M O h) (looked : Looked first next) (gathered : IsGathered next after) (rows : IsTrue next) where
-      rested : Company births next after
+      rested : IsCompany births next after
       rested = company_net births net first next ss after c l.stays looked len still gathered rows
 
       rested_same : seen next ≡ seen net
@@ -123,11 +123,11 @@ module _ {A M O : Type 0} {g : Ghosts A M O} {h : MailGhosts M} where
       first_same = mid_same births net first next ss after c l.stays looked len still gathered rows l
 
       -- too few mails are pending
-      pub loses_none : (who k place : ℕ) → IsPlace ss who place → None ≡ kth_pending h.receiver net.actors (seen first) who k → Stepped (sys words births net ss c) (line_row (sys words births net ss c) (seen net) (DropLine who k)) net next after Skipped
+      pub loses_none : (who k place : ℕ) → IsPlace ss who place → None ≡ kth_pending h.receiver net.actors (seen first) who k → Stepped (sys words births net ss c) (line_row (sys words births net ss c) (seen net) (DropLine who k)) net next after (Ok false)
       loses_none who k place at is = (rested, ap (option_map (λ mail. network (Drop mail))) (kth_there who k place None at first_same is), rested_same)
 
       -- the mail was not sent
-      pub repeats_unsent : (number : ℕ) → None ≡ option_map h.receiver (numbered (mails (seen first)) number) → Stepped (sys words births net ss c) (line_row (sys words births net ss c) (seen net) (AgainLine number)) net next after Skipped
+      pub repeats_unsent : (number : ℕ) → None ≡ option_map h.receiver (numbered (mails (seen first)) number) → Stepped (sys words births net ss c) (line_row (sys words births net ss c) (seen net) (AgainLine number)) net next after (Ok false)
       repeats_unsent number is = (rested, by (numbered (mails (seen net)) number) (is ∙ ap (λ r. option_map h.receiver (numbered (mails r) number)) first_same), rested_same)
         where
           by : (o : Option M) → None ≡ option_map h.receiver o → option_and_then (λ m. cond (may_get (numbers_of births) (seen net) (h.receiver m)) (Some (network {M = M} {O = O} (Again number))) None) o ≡ None
@@ -135,7 +135,7 @@ module _ {A M O : Type 0} {g : Ghosts A M O} {h : MailGhosts M} where
           by (Some m) e = cc
 
       -- it was sent to an actor that is not there
-      pub repeats_nowhere : (number who : ℕ) → Some who ≡ option_map h.receiver (numbered (mails (seen first)) number) → IsNowhere ss who → Stepped (sys words births net ss c) (line_row (sys words births net ss c) (seen net) (AgainLine number)) net next after Skipped
+      pub repeats_nowhere : (number who : ℕ) → Some who ≡ option_map h.receiver (numbered (mails (seen first)) number) → IsNowhere ss who → Stepped (sys words births net ss c) (line_row (sys words births net ss c) (seen net) (AgainLine number)) net next after (Ok false)
       repeats_nowhere number who is out = (rested, by (numbered (mails (seen net)) number) (is ∙ ap (λ r. option_map h.receiver (numbered (mails r) number)) first_same), rested_same)
         where
           by : (o : Option M) → Some who ≡ option_map h.receiver o → option_and_then (λ m. cond (may_get (numbers_of births) (seen net) (h.receiver m)) (Some (network {M = M} {O = O} (Again number))) None) o ≡ None
@@ -156,7 +156,7 @@ module _ {A M O : Type 0} {g : Ghosts A M O} {h : MailGhosts M} where
         appended : (a.before ≡ seen net) × (seen next ≡ seen net ++ change fate number ∷ [])
         appended = net_row births net mid next ss after c stays looked len still gathered rows first (change fate number) l.later l.made a
 
-        changed_there : Company births next after
+        changed_there : IsCompany births next after
         changed_there = company_net births net mid next ss after c stays looked len still gathered rows
 
         before_same : seen first ≡ seen net
@@ -178,21 +178,21 @@ module _ {A M O : Type 0} {g : Ghosts A M O} {h : MailGhosts M} where
         refused_first : seen first ≡ seen net
         refused_first = front_same net first (seen mid) l.later l2.later refused_mid
 
-        refused_there : Company births next after
+        refused_there : IsCompany births next after
         refused_there = company_net births net mid next ss after c refused_stays looked len still gathered rows
 
         passes_net : (fate : Fate) (number : ℕ) → first.limit < journal_bytes h.weighs (seen mid) + row_bytes h.weighs (change {M = M} {O = O} fate number) → net.limit < journal_bytes h.weighs (seen net) + row_bytes h.weighs (change {M = M} {O = O} fate number)
         passes_net fate number more = omega (arith, more, ap (journal_bytes h.weighs) refused_mid, l.stays.exchange.2)
 
       module _ (who k place number : ℕ) (at : IsPlace ss who place) (is : Some number ≡ kth_pending h.receiver net.actors (seen first) who k) where
-        loses_done : (changed : ChangedBy Lost number first mid) → Stepped (sys words births net ss c) (line_row (sys words births net ss c) (seen net) (DropLine who k)) net next after Made
+        loses_done : (changed : ChangedBy Lost number first mid) → Stepped (sys words births net ss c) (line_row (sys words births net ss c) (seen net) (DropLine who k)) net next after (Ok true)
         loses_done changed = (
           changed_there Lost number changed,
           (network (Drop number), ap (option_map (λ mail. network (Drop mail))) (kth_there who k place (Some number) at (before_same Lost number changed) is), (appended Lost number changed).1),
           fits_next Lost number changed,
         )
 
-        loses_full : Looked first mid → first.limit < journal_bytes h.weighs (seen mid) + row_bytes h.weighs (change {M = M} {O = O} Lost number) → Stepped (sys words births net ss c) (line_row (sys words births net ss c) (seen net) (DropLine who k)) net next after TooMuch
+        loses_full : Looked first mid → first.limit < journal_bytes h.weighs (seen mid) + row_bytes h.weighs (change {M = M} {O = O} Lost number) → Stepped (sys words births net ss c) (line_row (sys words births net ss c) (seen net) (DropLine who k)) net next after (Err TooMuch)
         loses_full l2 more =
             ((network (Drop number), ap (option_map (λ mail. network (Drop mail))) (kth_there who k place (Some number) at (refused_first l2) is), passes_net l2 Lost number more), refused_same l2)
 
@@ -206,10 +206,11 @@ module _ {A M O : Type 0} {g : Ghosts A M O} {h : MailGhosts M} where
             true≢false (sym there ∙ ((λ i. is_pending h.receiver (sym l.stays.exchange.1 i) (same i) number) ∙ no_more.may))
 
         -- what a loss came to
-        pub loses_so : (step : LineResult) → Changes Lost number first mid step → Stepped (sys words births net ss c) (line_row (sys words births net ss c) (seen net) (DropLine who k)) net next after step
-        loses_so Made x = loses_done x
-        loses_so Skipped x = absurd (never_undone x)
-        loses_so TooMuch x = loses_full x.0 x.1
+        pub loses_so : (step : Result Bool Stop) → Changes Lost number first mid step → Stepped (sys words births net ss c) (line_row (sys words births net ss c) (seen net) (DropLine who k)) net next after step
+        loses_so (Ok true) x = loses_done x
+        loses_so (Ok false) x = absurd (never_undone x)
+        loses_so (Err TooMuch) x = loses_full x.0 x.1
+        loses_so (Err OutOfMemory) x = tt
 
       module _ (who place number : ℕ) (at : IsPlace ss who place) (is : Some who ≡ option_map h.receiver (numbered (mails (seen first)) number)) where
         -- the mail was sent to this actor
@@ -247,7 +248,7 @@ module _ {A M O : Type 0} {g : Ghosts A M O} {h : MailGhosts M} where
         may_at : (rows_ : List (Row M O)) (actors : ℕ) (b : Bool) → rows_ ≡ seen net → actors ≡ net.actors → may_repeat h.receiver actors rows_ number ≡ b → may_repeat h.receiver net.actors (seen net) number ≡ b
         may_at rows_ actors b same count e = (λ i. may_repeat h.receiver (sym count i) (sym same i) number) ∙ e
 
-        repeats_done : (changed : ChangedBy Repeated number first mid) → Stepped (sys words births net ss c) (line_row (sys words births net ss c) (seen net) (AgainLine number)) net next after Made
+        repeats_done : (changed : ChangedBy Repeated number first mid) → Stepped (sys words births net ss c) (line_row (sys words births net ss c) (seen net) (AgainLine number)) net next after (Ok true)
         unfolding a
         repeats_done changed =
             let x = sent_to (before_same Repeated number changed) in
@@ -257,18 +258,19 @@ module _ {A M O : Type 0} {g : Ghosts A M O} {h : MailGhosts M} where
               fits_next Repeated number changed,
             )
 
-        repeats_undone : (l2 : Looked first mid) → may_repeat h.receiver first.actors (seen mid) number ≡ false → Stepped (sys words births net ss c) (line_row (sys words births net ss c) (seen net) (AgainLine number)) net next after Skipped
+        repeats_undone : (l2 : Looked first mid) → may_repeat h.receiver first.actors (seen mid) number ≡ false → Stepped (sys words births net ss c) (line_row (sys words births net ss c) (seen net) (AgainLine number)) net next after (Ok false)
         repeats_undone l2 no_more =
             let x = sent_to (refused_first l2) in
             (refused_there l2, repeat_is x false (may_same x false (may_at (seen mid) first.actors false (refused_mid l2) l.stays.exchange.1 no_more)), refused_same l2)
 
-        repeats_full : (l2 : Looked first mid) → first.limit < journal_bytes h.weighs (seen mid) + row_bytes h.weighs (change {M = M} {O = O} Repeated number) → may_repeat h.receiver first.actors (seen mid) number ≡ true → Stepped (sys words births net ss c) (line_row (sys words births net ss c) (seen net) (AgainLine number)) net next after TooMuch
+        repeats_full : (l2 : Looked first mid) → first.limit < journal_bytes h.weighs (seen mid) + row_bytes h.weighs (change {M = M} {O = O} Repeated number) → may_repeat h.receiver first.actors (seen mid) number ≡ true → Stepped (sys words births net ss c) (line_row (sys words births net ss c) (seen net) (AgainLine number)) net next after (Err TooMuch)
         repeats_full l2 more may =
             let x = sent_to (refused_first l2) in
             ((network (Again number), repeat_is x true (may_same x true (may_at (seen mid) first.actors true (refused_mid l2) l.stays.exchange.1 may)), passes_net l2 Repeated number more), refused_same l2)
 
         -- what a repeat came to
-        pub repeats_so : (step : LineResult) → Changes Repeated number first mid step → Stepped (sys words births net ss c) (line_row (sys words births net ss c) (seen net) (AgainLine number)) net next after step
-        repeats_so Made x = repeats_done x
-        repeats_so Skipped x = repeats_undone x.looked x.may
-        repeats_so TooMuch x = repeats_full x.0 x.1 x.2
+        pub repeats_so : (step : Result Bool Stop) → Changes Repeated number first mid step → Stepped (sys words births net ss c) (line_row (sys words births net ss c) (seen net) (AgainLine number)) net next after step
+        repeats_so (Ok true) x = repeats_done x
+        repeats_so (Ok false) x = repeats_undone x.looked x.may
+        repeats_so (Err TooMuch) x = repeats_full x.0 x.1 x.2
+        repeats_so (Err OutOfMemory) x = tt

@@ -18,7 +18,7 @@ use Rattle.sc_workers.proofs.Lists.{sum_set, get_any}
 use Rattle.sc_workers.proofs.Crews.{still_rows, still_all_go}
 use Rattle.sc_workers.proofs.Serving.{numbers_go}
 use Rattle.sc_drive.specs.Numbers.{is_in, apart}
-use Rattle.sc_drive.specs.Companies.{Company}
+use Rattle.sc_drive.specs.Companies.{IsCompany}
 use Rattle.sc_drive.proofs.RowCounts.{count_rows, all_in, not_in, sum_map, sum_each, whole_front}
 use Rattle.std.proofs.lemmas.Bool.{or_parts}
 use Rattle.std.proofs.lemmas.List.Sums.{sum_by-cons}
@@ -37,7 +37,7 @@ module _ {A M O : Type 0} {g : Ghosts A M O} {h : MailGhosts M} where
       omega (arith, total, sum_by-cons (λ w. length (rows_of w (seen net))) 0 (crew_numbers ss), net_rows, sum_map (λ w. length (rows_of w (seen net))) (λ (s : Shell A M O g h). s.port.who) ss, each)
 
   -- the same of a company
-  pub count_company : (births : List (Seat A)) (net : Port M O h) (ss : List (Shell A M O g h)) → Company births net ss → length (seen net) ≡ length (made net) + rows_made ss
+  pub count_company : (births : List (Seat A)) (net : Port M O h) (ss : List (Shell A M O g h)) → IsCompany births net ss → length (seen net) ≡ length (made net) + rows_made ss
   count_company births net ss c = count_seen net ss c.first c.all c.far c.over c.rows
 
 module _ {M O : Type 0} {h : MailGhosts M} where
@@ -91,7 +91,7 @@ module _ {A M O : Type 0} {g : Ghosts A M O} {h : MailGhosts M} where
       s.crashed ∙ set_all (λ i x. Sound x) ss k t lt mine (λ i e l. sound i e l) j d (omega (arith, le, length_set ss k t)) (sym s.spent ∙ spent)
 
   -- after one shell has acted and all have gathered
-  module _ (births : List (Seat A)) (net mid next : Port M O h) (ss after : List (Shell A M O g h)) (k : ℕ) (t : Shell A M O g h) (c : Company births net ss) (lt : k < length ss)
+  module _ (births : List (Seat A)) (net mid next : Port M O h) (ss after : List (Shell A M O g h)) (k : ℕ) (t : Shell A M O g h) (c : IsCompany births net ss) (lt : k < length ss)
       (met : Shell A M O g h) (still : (d : Shell A M O g h) → Still (get_or ss k d) met) (ahead : IsAhead net met) (stays : Stays met.port t.port)
       (looked : Looked net next) (len : length after ≡ length ss) (rest : AllStill (set ss k t) after) (gathered : IsGathered next after) (rows : IsTrue next) where
     abbrev middle : List (Shell A M O g h)
@@ -152,7 +152,7 @@ module _ {A M O : Type 0} {g : Ghosts A M O} {h : MailGhosts M} where
         whole_front (seen net) (seen met.port) low (omega (arith, ap length low.1, length-append (seen net) low.0, ap length high.1, length-append (seen met.port) high.0))
 
     -- the shells are a company again
-    pub company_after : Sound t → ((e : Seat A) → Replays t (get_or births k e).actor) → Company births next after
+    pub company_after : Sound t → ((e : Seat A) → Replays t (get_or births k e).actor) → IsCompany births next after
     company_after mine replay = record {
       first = first_is;
       all = all_is;

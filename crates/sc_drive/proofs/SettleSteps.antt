@@ -18,14 +18,14 @@ use Rattle.sc_exchange.specs.declared.ports.Port.{Port}
 use Rattle.sc_exchange.specs.Ports.{seen}
 use Rattle.sc_shell.specs.declared.shells.Shell.{Shell}
 use Rattle.sc_shell.specs.declared.turns.Turn.TheVariants.{Did, Empty, Full, Spent}
-use Rattle.sc_drive.specs.declared.steps.Score.{Score}
+use Rattle.sc_drive.specs.declared.company.Score.{Score}
 use Rattle.sc_drive.specs.Numbers.{is_in}
 use Rattle.sc_drive.specs.Acts.{Served, ServedAll}
-use Rattle.sc_drive.specs.Companies.{Company}
+use Rattle.sc_drive.specs.Companies.{IsCompany}
 use Rattle.sc_drive.specs.Goings.{HasReached, Goes, Fills}
 use Rattle.sc_drive.specs.Lowest.{FindsLowest, LowestAt, Rests}
 use Rattle.sc_drive.proofs.ActorRows.{delivers_did, delivers_full, serves_empty, serves_spent}
-use Rattle.sc_drive.proofs.FreeRows.{first_is}
+use Rattle.sc_actor.proofs.PendingLemmas.{first_is}
 use Rattle.sc_drive.proofs.SingleSteps.{no_go}
 use Rattle.std.proofs.Math.Bool.{or-false, or-true}
 use Rattle.sc_drive.proofs.SystemWords.{gone_push}
@@ -60,7 +60,7 @@ module _ {A M O : Type 0} {g : Ghosts A M O} {h : MailGhosts M} where
       let wait : kth (waiting s (seen net) (Some (s.receiver l.mail))) 1 ≡ Some l.number = subst (λ m. kth (waiting s (seen net) (Some (s.receiver m))) 1 ≡ Some l.number) same f.3 in
       let lost : None ≡ Some l.number = sym none ∙ wait in cc
 
-  module _ (births : List (Seat A)) (net next : Port M O h) (ss after : List (Shell A M O g h)) (place : ℕ) (company : Company births net ss) (found : FindsLowest net ss (Some place)) where
+  module _ (births : List (Seat A)) (net next : Port M O h) (ss after : List (Shell A M O g h)) (place : ℕ) (company : IsCompany births net ss) (found : FindsLowest net ss (Some place)) where
     -- what was found is taken
     pub never_empty : (n : ℕ) → Served births place 1 net next ss after (Empty n) → ⊥
     never_empty n served =

@@ -1,6 +1,6 @@
 -- A line of one row takes the walk on.
 use Rattle.std.proofs.Common.{◌≡◌, ℕ, ◌+◌, ◌<◌, ◌≤◌, Bool, true, false, eqb, cond, ◌||◌, ◌&&◌, find, List, [], ◌∷◌, ◌++◌, refl, sym, ap, ◌∙◌, subst, Option, Some, None}
-use Rattle.std.specs.Prelude.{is_none, option_and_then}
+use Rattle.std.specs.Prelude.{is_none, option_and_then, Result, Ok, Err}
 use Rattle.std.specs.Option.{option_map}
 use Rattle.std.proofs.lemmas.List.Folds.{list_any-append}
 use Rattle.sc_actor.proofs.Induction.{find-who}
@@ -21,11 +21,11 @@ use Rattle.sc_ledger.proofs.Kept.{bytes-push}
 use Rattle.sc_exchange.specs.declared.ports.Port.{Port}
 use Rattle.sc_exchange.specs.Ports.{seen}
 use Rattle.sc_shell.specs.declared.shells.Shell.{Shell}
-use Rattle.sc_drive.specs.declared.steps.Score.{Score}
-use Rattle.sc_drive.specs.declared.steps.LineResult.{LineResult}
-use Rattle.sc_drive.specs.declared.steps.LineResult.TheVariants.{Made, Skipped, Full}
+use Rattle.sc_drive.specs.declared.company.Score.{Score}
+use Rattle.sc_drive.specs.declared.company.Stop.{Stop}
+use Rattle.sc_drive.specs.declared.company.Stop.TheVariants.{Full, OutOfMemory}
 use Rattle.sc_drive.specs.Numbers.{is_in}
-use Rattle.sc_drive.specs.Companies.{Company}
+use Rattle.sc_drive.specs.Companies.{IsCompany}
 use Rattle.sc_drive.specs.Stepping.{Stepped}
 use Rattle.sc_drive.specs.Goings.{Goes, Fills, IsCalm, StepsSo}
 use Rattle.std.proofs.Math.Bool.{or-false}
@@ -98,7 +98,7 @@ go_push rows row n who maker event =
 module _ {A M O : Type 0} {g : Ghosts A M O} {h : MailGhosts M} where
   module _ (line : Line O) (net next : Port M O h) (ss after : List (Shell A M O g h)) (score now : Score) (limit : next.limit ≡ net.limit) where
     -- a line that made its row takes the walk on
-    pub goes_made : StepsSo line net ss score next after Made →
+    pub goes_made : StepsSo line net ss score next after (Ok true) →
         IsCalm line → now.skipped ≡ score.skipped → now.unsettled ≡ score.unsettled → now.gone.items ≡ score.gone.items → Goes net ss score (Once line ∷ []) next after now []
     goes_made stepped quiet skipped cut gone = λ words births lines rest at.
         let s = system g.table h.receiver words births in
@@ -115,7 +115,7 @@ module _ {A M O : Type 0} {g : Ghosts A M O} {h : MailGhosts M} where
         }
 
     -- a Go
-    pub goes_go : (who : ℕ) → line ≡ GoLine who → StepsSo line net ss score next after Made →
+    pub goes_go : (who : ℕ) → line ≡ GoLine who → StepsSo line net ss score next after (Ok true) →
         now.skipped ≡ score.skipped → now.unsettled ≡ score.unsettled → ((n : ℕ) → is_in n now.gone.items ≡ (is_in n score.gone.items || eqb n who)) → Goes net ss score (Once line ∷ []) next after now []
     goes_go who is stepped skipped cut gone = λ words births lines rest at.
         let s = system g.table h.receiver words births in
@@ -133,7 +133,7 @@ module _ {A M O : Type 0} {g : Ghosts A M O} {h : MailGhosts M} where
         }
 
     -- a line that makes no row is skipped
-    pub goes_skipped : StepsSo line net ss score next after Skipped →
+    pub goes_skipped : StepsSo line net ss score next after (Ok false) →
         now.skipped ≡ score.skipped + 1 → now.unsettled ≡ score.unsettled → now.gone.items ≡ score.gone.items → Goes net ss score (Once line ∷ []) next after now []
     goes_skipped stepped skipped cut gone = λ words births lines rest at.
         let s = system g.table h.receiver words births in
@@ -149,7 +149,7 @@ module _ {A M O : Type 0} {g : Ghosts A M O} {h : MailGhosts M} where
         }
 
     -- a line whose row passes the limit
-    pub fills_full : StepsSo line net ss score next after Full → Fills net ss score (Once line ∷ []) next
+    pub fills_full : StepsSo line net ss score next after (Err Full) → Fills net ss score (Once line ∷ []) next
     fills_full stepped = λ words births lines rest at.
         let s = system g.table h.receiver words births in
         let t = stepped words births at.company (λ n. sym (at.told n)) in
@@ -169,8 +169,8 @@ pub go_pushed : (n who : ℕ) (ws vs : List ℕ) → vs ≡ ws ++ who ∷ [] →
 go_pushed n who ws vs is = ap (is_in n) is ∙ (list_any-append (λ w. eqb n w) ws (who ∷ []) ∙ ap (λ b. is_in n ws || b) (or-false (eqb n who)))
 
 -- a Go of one who was not told to go
-pub go_steps : {A M O : Type 0} {g : Ghosts A M O} {h : MailGhosts M} (who : ℕ) (net next : Port M O h) (ss after : List (Shell A M O g h)) (score : Score) (step : LineResult) → is_in who score.gone.items ≡ false →
-    ((words : ℕ → ℕ → ℕ × ℕ) (births : List (Seat A)) → Company births net ss → Stepped (system g.table h.receiver words births) (acts (system g.table h.receiver words births) (seen net) who Go) net next after step) → StepsSo (GoLine who) net ss score next after step
+pub go_steps : {A M O : Type 0} {g : Ghosts A M O} {h : MailGhosts M} (who : ℕ) (net next : Port M O h) (ss after : List (Shell A M O g h)) (score : Score) (step : Result Bool Stop) → is_in who score.gone.items ≡ false →
+    ((words : ℕ → ℕ → ℕ × ℕ) (births : List (Seat A)) → IsCompany births net ss → Stepped (system g.table h.receiver words births) (acts (system g.table h.receiver words births) (seen net) who Go) net next after step) → StepsSo (GoLine who) net ss score next after step
 go_steps {g = g} {h = h} who net next ss after score step not_told f = λ words births company told.
     let s = system g.table h.receiver words births in
     subst (λ o. Stepped s o net next after step) (sym (ap (λ b. cond b None (acts s (seen net) who Go)) (told who ∙ not_told))) (f words births company)

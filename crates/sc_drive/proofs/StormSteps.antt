@@ -1,6 +1,6 @@
 -- A storm takes the walk on, step by step.
-use Rattle.std.proofs.Common.{◌≡◌, ℕ, ◌+◌, ◌-◌, ◌%◌, ◌<◌, ◌≤◌, Bool, false, ◌||◌, List, [], ◌∷◌, ◌++◌, length, get_or, sym, ap, ◌∙◌, subst, arith, Option, None, Some}
-use Rattle.std.specs.Prelude.{is_none, option_and_then, IfSome}
+use Rattle.std.proofs.Common.{◌≡◌, ℕ, ◌+◌, ◌-◌, ◌%◌, ◌<◌, ◌≤◌, Bool, true, false, ◌||◌, List, [], ◌∷◌, ◌++◌, length, get_or, sym, ap, ◌∙◌, subst, arith, Option, None, Some}
+use Rattle.std.specs.Prelude.{is_none, option_and_then, IfSome, Result, Ok, Err}
 use Rattle.std.proofs.Math.Bool.{or-false}
 use Rattle.sc_actor.specs.declared.actors.Actor.{Ghosts}
 use Rattle.sc_actor.specs.declared.actors.Parcel.{Ghosts as MailGhosts}
@@ -23,9 +23,9 @@ use Rattle.sc_sched.specs.Deeds.{deed_of, deed_line}
 use Rattle.sc_sched.specs.Laws.{AreWithin, MakesItsRow}
 use Rattle.sc_shell.specs.declared.shells.Shell.{Shell}
 use Rattle.sc_workers.proofs.Lists.{one_of}
-use Rattle.sc_drive.specs.declared.steps.Score.{Score}
-use Rattle.sc_drive.specs.declared.steps.LineResult.TheVariants.{Made, Skipped, Full}
-use Rattle.sc_drive.specs.Companies.{Company}
+use Rattle.sc_drive.specs.declared.company.Score.{Score}
+use Rattle.sc_drive.specs.declared.company.Stop.TheVariants.{Full, OutOfMemory}
+use Rattle.sc_drive.specs.Companies.{IsCompany}
 use Rattle.sc_drive.specs.Goings.{HasReached, Goes, Fills, DeedMade, IsCalm}
 use Rattle.sc_drive.specs.Storming.{IsStormLine}
 use Rattle.sc_drive.proofs.ActRows.{birth_number}
@@ -42,7 +42,7 @@ calm_deed O Nothing = tt
 
 module _ {A M O : Type 0} {g : Ghosts A M O} {h : MailGhosts M} where
   -- the actors of a company have numbers of its exchange
-  company_within : (births : List (Seat A)) (net : Port M O h) (ss : List (Shell A M O g h)) → Company births net ss → AreWithin net.actors births
+  company_within : (births : List (Seat A)) (net : Port M O h) (ss : List (Shell A M O g h)) → IsCompany births net ss → AreWithin net.actors births
   company_within births net ss c = λ k e lt.
       let inside : k < length ss = omega (arith, lt, births_long no_words births net ss c) in
       let d = one_of ss k inside in
@@ -52,7 +52,7 @@ module _ {A M O : Type 0} {g : Ghosts A M O} {h : MailGhosts M} where
   -- the line of the deed that was drawn is that of the step
   pub storm_line_is : (law : (draws : ℕ → ℕ → ℕ × ℕ) (births : List (Seat A)) (actors : ℕ) (rows : List (Row M O)) (look : Look) (words : ℕ × ℕ) → MakesItsRow (system g.table h.receiver draws births) actors rows look words)
       (next : Port M O h) (after : List (Shell A M O g h)) (numbers : List ℕ) (look : Look) (step : ℕ × ℕ) →
-      ((births : List (Seat A)) → Company births next after → (numbers ≡ numbers_of births) × IsLook h.receiver next.actors (seen next) look) → IsStormLine step next after (deed_line (deed_of numbers look step))
+      ((births : List (Seat A)) → IsCompany births next after → (numbers ≡ numbers_of births) × IsLook h.receiver next.actors (seen next) look) → IsStormLine step next after (deed_line (deed_of numbers look step))
   storm_line_is law next after numbers look step seen_so = λ words births c.
       let s = system g.table h.receiver words births in
       let so = seen_so births c in
@@ -65,7 +65,7 @@ module _ {A M O : Type 0} {g : Ghosts A M O} {h : MailGhosts M} where
     calm_row s (Some l) row calm e = no_go s (seen net) l row calm e
 
     -- a step that made its row takes the walk on
-    pub storms_made : IfSome line IsCalm → DeedMade line net ss next after Made → Goes net ss score (Storms step ∷ []) next after score []
+    pub storms_made : IfSome line IsCalm → DeedMade line net ss next after (Ok true) → Goes net ss score (Storms step ∷ []) next after score []
     storms_made calm made = λ words births lines rest at.
         let s = system g.table h.receiver words births in
         let t = made words births at.company in
@@ -82,7 +82,7 @@ module _ {A M O : Type 0} {g : Ghosts A M O} {h : MailGhosts M} where
         }
 
     -- a step that makes no row is passed
-    pub storms_skipped : DeedMade line net ss next after Skipped → Goes net ss score (Storms step ∷ []) next after score []
+    pub storms_skipped : DeedMade line net ss next after (Ok false) → Goes net ss score (Storms step ∷ []) next after score []
     storms_skipped skipped = λ words births lines rest at.
         let s = system g.table h.receiver words births in
         let t = skipped words births at.company in
@@ -99,7 +99,7 @@ module _ {A M O : Type 0} {g : Ghosts A M O} {h : MailGhosts M} where
         }
 
     -- a step whose row passes the limit
-    pub storms_full : DeedMade line net ss next after Full → Fills net ss score (Storms step ∷ []) next
+    pub storms_full : DeedMade line net ss next after (Err Full) → Fills net ss score (Storms step ∷ []) next
     storms_full full = λ words births lines rest at.
         let s = system g.table h.receiver words births in
         let t = full words births at.company in
@@ -115,20 +115,20 @@ module _ {A M O : Type 0} {g : Ghosts A M O} {h : MailGhosts M} where
         } in
         subst (IsFull s h.weighs lines net.limit) (sym t.1) here
 
-module _ {A M O : Type 0} {g : Ghosts A M O} {h : MailGhosts M} (net mid next : Port M O h) (ss mids after : List (Shell A M O g h)) (score : Score) (words : ℕ → ℕ × ℕ) (most done : ℕ) (lt : done < most)
-    (goes : Goes net ss score (storm_steps words 0 most) mid mids score (storm_steps words done (most - done))) where
+module _ {A M O : Type 0} {g : Ghosts A M O} {h : MailGhosts M} (net mid next : Port M O h) (ss mids after : List (Shell A M O g h)) (score between now : Score) (words : ℕ → ℕ × ℕ) (most done : ℕ) (lt : done < most)
+    (goes : Goes net ss score (storm_steps words 0 most) mid mids between (storm_steps words done (most - done))) where
   -- a storm goes on by a step
-  pub storm_goes : Goes mid mids score (Storms (words done) ∷ []) next after score [] → Goes net ss score (storm_steps words 0 most) next after score (storm_steps words (done + 1) (most - (done + 1)))
+  pub storm_goes : Goes mid mids between (Storms (words done) ∷ []) next after now [] → Goes net ss score (storm_steps words 0 most) next after now (storm_steps words (done + 1) (most - (done + 1)))
   storm_goes step = λ draws births lines rest at.
       step draws births lines (storm_steps words (done + 1) (most - (done + 1)) ++ rest)
-      (subst (λ ts. HasReached draws births lines mid mids score (ts ++ rest)) (steps_left words most done lt) (goes draws births lines rest at))
+      (subst (λ ts. HasReached draws births lines mid mids between (ts ++ rest)) (steps_left words most done lt) (goes draws births lines rest at))
 
   -- a step of it comes to a row that passes the limit
-  pub storm_fills : mid.limit ≡ net.limit → Fills mid mids score (Storms (words done) ∷ []) next → Fills net ss score (storm_steps words 0 most) next
+  pub storm_fills : mid.limit ≡ net.limit → Fills mid mids between (Storms (words done) ∷ []) next → Fills net ss score (storm_steps words 0 most) next
   storm_fills limit step = λ draws births lines rest at.
       subst (λ n. IsFull (system g.table h.receiver draws births) h.weighs lines n (seen next)) limit
       (step draws births lines (storm_steps words (done + 1) (most - (done + 1)) ++ rest)
-      (subst (λ ts. HasReached draws births lines mid mids score (ts ++ rest)) (steps_left words most done lt) (goes draws births lines rest at)))
+      (subst (λ ts. HasReached draws births lines mid mids between (ts ++ rest)) (steps_left words most done lt) (goes draws births lines rest at)))
 
 module _ {A M O : Type 0} {g : Ghosts A M O} {h : MailGhosts M} where
   -- a storm begins
@@ -138,8 +138,8 @@ module _ {A M O : Type 0} {g : Ghosts A M O} {h : MailGhosts M} where
       subst (λ n. HasReached draws births lines net ss score (storm_steps words 0 n ++ rest)) all at
 
   -- after its last step nothing of it is left
-  pub storm_ends : (net next : Port M O h) (ss after : List (Shell A M O g h)) (score : Score) (words : ℕ → ℕ × ℕ) (most done : ℕ) → most ≤ done → Goes net ss score (storm_steps words 0 most) next after score (storm_steps words done (most - done)) →
-      Goes net ss score (storm_steps words 0 most) next after score []
-  storm_ends net next ss after score words most done le goes = λ draws births lines rest at.
+  pub storm_ends : (net next : Port M O h) (ss after : List (Shell A M O g h)) (score now : Score) (words : ℕ → ℕ × ℕ) (most done : ℕ) → most ≤ done → Goes net ss score (storm_steps words 0 most) next after now (storm_steps words done (most - done)) →
+      Goes net ss score (storm_steps words 0 most) next after now []
+  storm_ends net next ss after score now words most done le goes = λ draws births lines rest at.
       let none : most - done ≡ 0 = omega (arith, le) in
-      subst (λ n. HasReached draws births lines next after score (storm_steps words done n ++ rest)) none (goes draws births lines rest at)
+      subst (λ n. HasReached draws births lines next after now (storm_steps words done n ++ rest)) none (goes draws births lines rest at)

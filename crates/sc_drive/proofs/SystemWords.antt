@@ -19,7 +19,7 @@ use Rattle.sc_shell.specs.declared.shells.Shell.{Shell}
 use Rattle.sc_workers.specs.Crews.{crew_numbers}
 use Rattle.sc_workers.proofs.Serving.{crashed_is}
 use Rattle.sc_drive.specs.Numbers.{is_in, apart}
-use Rattle.sc_drive.specs.Companies.{Company}
+use Rattle.sc_drive.specs.Companies.{IsCompany}
 use Rattle.sc_drive.proofs.ActRows.{birth_number}
 use Rattle.std.proofs.lemmas.List.{length-map}
 use Rattle.sc_drive.proofs.RowCounts.{flip}
@@ -103,7 +103,7 @@ gone_push rows row who none =
     and_false true = refl
     and_false false = refl
 
-module _ {A M O : Type 0} {g : Ghosts A M O} {h : MailGhosts M} (words : ℕ → ℕ → ℕ × ℕ) (births : List (Seat A)) (net : Port M O h) (ss : List (Shell A M O g h)) (c : Company births net ss) where
+module _ {A M O : Type 0} {g : Ghosts A M O} {h : MailGhosts M} (words : ℕ → ℕ → ℕ × ℕ) (births : List (Seat A)) (net : Port M O h) (ss : List (Shell A M O g h)) (c : IsCompany births net ss) where
   -- the system of a company
   abbrev pub sys : System A M O
   sys = system g.table h.receiver words births

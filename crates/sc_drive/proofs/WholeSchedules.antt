@@ -17,9 +17,9 @@ use Rattle.sc_exchange.specs.Ports.{seen}
 use Rattle.sc_shell.specs.declared.shells.Shell.{Shell}
 use Rattle.sc_shell.specs.Shells.{ReplaysOver}
 use Rattle.sc_workers.specs.Crews.{crew_numbers}
-use Rattle.sc_drive.specs.declared.steps.Score.{Score}
+use Rattle.sc_drive.specs.declared.company.Score.{Score}
 use Rattle.sc_drive.specs.Numbers.{is_in}
-use Rattle.sc_drive.specs.Companies.{Company, seats}
+use Rattle.sc_drive.specs.Companies.{IsCompany, seats}
 use Rattle.sc_drive.specs.Lowest.{FindsLowest, Lowest, Rests}
 use Rattle.sc_drive.specs.Goings.{HasReached, Goes, Fills, HasEnded}
 use Rattle.sc_actor.proofs.TaskLemmas.{split}
@@ -37,12 +37,12 @@ module _ {A M O : Type 0} {g : Ghosts A M O} {h : MailGhosts M} where
       λ i. record { who = first i; actor = actor i } ∷ values_are births ss rows rest (λ k d e lt. each (suc k) d e (omega (arith, lt))) i
 
   -- each actor is the replay of its rows among all
-  seats_left : (births : List (Seat A)) (net : Port M O h) (ss : List (Shell A M O g h)) → Company births net ss → seats ss ≡ values g.table births (seen net)
+  seats_left : (births : List (Seat A)) (net : Port M O h) (ss : List (Shell A M O g h)) → IsCompany births net ss → seats ss ≡ values g.table births (seen net)
   seats_left births net ss c = values_are births ss (seen net) c.born (λ k d e lt. (c.over k d lt).replay (get_or births k e).actor (c.replay k d e lt))
 
   module _ (words : ℕ → ℕ → ℕ × ℕ) (births : List (Seat A)) (lines : List (Line O)) where
     -- before the first line
-    pub drive_begins : (net : Port M O h) (ss : List (Shell A M O g h)) (score : Score) → Company births net ss → seen net ≡ [] → score.skipped ≡ 0 → score.unsettled ≡ false → score.gone.items ≡ [] → HasReached words births lines net ss score (flat_map (tasks_of words) (drop 0 lines))
+    pub drive_begins : (net : Port M O h) (ss : List (Shell A M O g h)) (score : Score) → IsCompany births net ss → seen net ≡ [] → score.skipped ≡ 0 → score.unsettled ≡ false → score.gone.items ≡ [] → HasReached words births lines net ss score (flat_map (tasks_of words) (drop 0 lines))
     drive_begins net ss score company none skips_ cut gone =
         let s = system g.table h.receiver words births in
         let there : Stands s lines (seen net) (flat_map (tasks_of words) lines) score.skipped score.unsettled =

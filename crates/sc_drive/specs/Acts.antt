@@ -16,7 +16,7 @@ use Rattle.sc_shell.specs.declared.turns.Turn.{Turn}
 use Rattle.sc_shell.specs.declared.turns.Turn.TheVariants.{Did, Empty, Full, Spent, OutOfMemory}
 use Rattle.sc_shell.specs.Shells.{Happens, Takes, KeepsReplay, state}
 use Rattle.sc_workers.specs.Crews.{AllSound, Still, IsAhead}
-use Rattle.sc_drive.specs.Companies.{Company}
+use Rattle.sc_drive.specs.Companies.{IsCompany}
 
 module _ {A M O : Type 0} {h : MailGhosts M} where
   -- the one new row is that of an event of the actor at a place
@@ -52,9 +52,9 @@ module _ {A M O : Type 0} {g : Ghosts A M O} {h : MailGhosts M} where
 
   -- what an event at a place did
   abbrev pub Told : List (Seat A) → ℕ → Event O → Port M O h → Port M O h → List (Shell A M O g h) → List (Shell A M O g h) → Turn → Type 0
-  Told births place event net next ss after (Did at) = Company births next after × RowAdded g.table births place event net next × (journal_bytes h.weighs (seen next) ≤ net.limit) × HasHalted ss place false
+  Told births place event net next ss after (Did at) = IsCompany births next after × RowAdded g.table births place event net next × (journal_bytes h.weighs (seen next) ≤ net.limit) × HasHalted ss place false
   Told births place event net next ss after (Full bytes) = (seen next ≡ seen net) × RowPasses g.table births place event net × HasHalted ss place false
-  Told births place event net next ss after Spent = Company births next after × (seen next ≡ seen net) × HasHalted ss place true
+  Told births place event net next ss after Spent = IsCompany births next after × (seen next ≡ seen net) × HasHalted ss place true
   Told births place event net next ss after (Empty told) = ⊥
   Told births place event net next ss after OutOfMemory = ⊤
 
@@ -64,19 +64,19 @@ module _ {A M O : Type 0} {g : Ghosts A M O} {h : MailGhosts M} where
 
   -- what a turn at a place did
   abbrev pub Served : List (Seat A) → ℕ → ℕ → Port M O h → Port M O h → List (Shell A M O g h) → List (Shell A M O g h) → Turn → Type 0
-  Served births place k net next ss after (Did at) = Company births next after × ((number : ℕ) × KthIs ss place k net number × RowAdded g.table births place (Deliver number) net next) × (journal_bytes h.weighs (seen next) ≤ net.limit)
+  Served births place k net next ss after (Did at) = IsCompany births next after × ((number : ℕ) × KthIs ss place k net number × RowAdded g.table births place (Deliver number) net next) × (journal_bytes h.weighs (seen next) ≤ net.limit)
   Served births place k net next ss after (Full bytes) = (seen next ≡ seen net) × ((number : ℕ) × KthIs ss place k net number × RowPasses g.table births place (Deliver number) net)
-  Served births place k net next ss after (Empty told) = Company births next after × (seen next ≡ seen net) × ((d : Shell A M O g h) → kth_pending h.receiver net.actors (seen net) (slice_index_or ss place d).port.who k ≡ None)
-  Served births place k net next ss after Spent = Company births next after × (seen next ≡ seen net) × HasHalted ss place true
+  Served births place k net next ss after (Empty told) = IsCompany births next after × (seen next ≡ seen net) × ((d : Shell A M O g h) → kth_pending h.receiver net.actors (seen net) (slice_index_or ss place d).port.who k ≡ None)
+  Served births place k net next ss after Spent = IsCompany births next after × (seen next ≡ seen net) × HasHalted ss place true
   Served births place k net next ss after OutOfMemory = ⊤
 
   -- the same, whatever the actors' births are
   abbrev pub ToldAll : ℕ → Event O → Port M O h → Port M O h → List (Shell A M O g h) → List (Shell A M O g h) → Turn → Type 0
-  ToldAll place event net next ss after turn = (births : List (Seat A)) → Company births net ss → Told births place event net next ss after turn
+  ToldAll place event net next ss after turn = (births : List (Seat A)) → IsCompany births net ss → Told births place event net next ss after turn
 
   -- what a turn at a place did, whatever the actors' births are
   abbrev pub ServedAll : ℕ → ℕ → Port M O h → Port M O h → List (Shell A M O g h) → List (Shell A M O g h) → Turn → Type 0
-  ServedAll place k net next ss after turn = (births : List (Seat A)) → Company births net ss → Served births place k net next ss after turn
+  ServedAll place k net next ss after turn = (births : List (Seat A)) → IsCompany births net ss → Served births place k net next ss after turn
 
   -- each shell that is spent has posted a Crash, where the turn was not refused
   abbrev pub SoundAfter : Turn → List (Shell A M O g h) → Type 0

@@ -17,7 +17,7 @@ module _ {A M O : Type 0} {g : Ghosts A M O} {h : MailGhosts M} where
   seats ss = map (λ s. record { who = s.port.who; actor = s.actor }) ss
 
   -- Each actor of the births has a shell, at the one port of its number, and no other port was split off. The network's port has seen all that they have, the rows of each actor are those that its shell made, and each actor is the replay of its rows from its birth.
-  pub record Company (births : List (Seat A)) (net : Port M O h) (ss : List (Shell A M O g h)) : Type 0 where
+  pub record IsCompany (births : List (Seat A)) (net : Port M O h) (ss : List (Shell A M O g h)) : Type 0 where
     pub first : net.who ≡ 0
     pub all : given net ≡ crew_numbers ss
     pub born : crew_numbers ss ≡ numbers_of births

@@ -1,5 +1,5 @@
 -- How a driver stands with the walk of a schedule.
-use Rattle.std.specs.Prelude.{◌≡◌, ℕ, ◌≤◌, List, ◌++◌, Bool, false, Option, option_and_then, ⊤, Contains}
+use Rattle.std.specs.Prelude.{◌≡◌, ℕ, ◌≤◌, List, ◌++◌, Bool, true, false, Option, option_and_then, Result, Ok, Err, ⊤, Contains}
 use Rattle.sc_actor.specs.declared.actors.Actor.{Ghosts}
 use Rattle.sc_actor.specs.declared.actors.Parcel.{Ghosts as MailGhosts}
 use Rattle.sc_actor.specs.declared.actors.Seat.{Seat}
@@ -17,13 +17,11 @@ use Rattle.sc_exchange.specs.declared.ports.Port.{Port}
 use Rattle.sc_exchange.specs.Ports.{seen, Stays, IsTrue}
 use Rattle.sc_workers.specs.Crews.{AllOf, AllOver, AllSound, IsCrew, crew_numbers}
 use Rattle.sc_shell.specs.declared.shells.Shell.{Shell}
-use Rattle.sc_drive.specs.declared.steps.Score.{Score}
-use Rattle.sc_drive.specs.declared.steps.LineResult.{LineResult}
-use Rattle.sc_drive.specs.declared.steps.LineResult.TheVariants.{Made, Skipped, Full}
-use Rattle.sc_drive.specs.declared.steps.Driven.{Driven}
-use Rattle.sc_drive.specs.declared.steps.Driven.TheVariants.{Ended, Full as TooMuch, OutOfMemory}
+use Rattle.sc_drive.specs.declared.company.Score.{Score}
+use Rattle.sc_drive.specs.declared.company.Stop.{Stop}
+use Rattle.sc_drive.specs.declared.company.Stop.TheVariants.{Full, OutOfMemory}
 use Rattle.sc_drive.specs.Numbers.{is_in}
-use Rattle.sc_drive.specs.Companies.{Company, seats}
+use Rattle.sc_drive.specs.Companies.{IsCompany, seats}
 use Rattle.sc_drive.specs.Stepping.{Stepped, unless_crashed}
 
 -- a line of one row at which no actor is told to go
@@ -41,39 +39,39 @@ SparesGoers lines = (who : ℕ) → Contains lines (Go who) → ¬ Contains line
 module _ {A M O : Type 0} {g : Ghosts A M O} {h : MailGhosts M} where
   -- the shells are those of all actors, and this one has not crashed
   abbrev pub MayGo : ℕ → Port M O h → List (Shell A M O g h) → Type 0
-  MayGo who net ss = (births : List (Seat A)) × Company births net ss × (has_crashed (seen net) who ≡ false)
+  MayGo who net ss = (births : List (Seat A)) × IsCompany births net ss × (has_crashed (seen net) who ≡ false)
 
   -- What it came to that this row might be made.
-  abbrev pub MakesSo : (System A M O → List (Row M O) → Option (Row M O)) → Port M O h → List (Shell A M O g h) → Port M O h → List (Shell A M O g h) → LineResult → Type 0
+  abbrev pub MakesSo : (System A M O → List (Row M O) → Option (Row M O)) → Port M O h → List (Shell A M O g h) → Port M O h → List (Shell A M O g h) → Result Bool Stop → Type 0
   MakesSo may net ss next after step =
-      (words : ℕ → ℕ → ℕ × ℕ) (births : List (Seat A)) → Company births net ss → Stepped (system g.table h.receiver words births) (may (system g.table h.receiver words births) (seen net)) net next after step
+      (words : ℕ → ℕ → ℕ × ℕ) (births : List (Seat A)) → IsCompany births net ss → Stepped (system g.table h.receiver words births) (may (system g.table h.receiver words births) (seen net)) net next after step
 
   -- the row of a line
-  abbrev pub LineMade : Line O → Port M O h → List (Shell A M O g h) → Port M O h → List (Shell A M O g h) → LineResult → Type 0
+  abbrev pub LineMade : Line O → Port M O h → List (Shell A M O g h) → Port M O h → List (Shell A M O g h) → Result Bool Stop → Type 0
   LineMade line = MakesSo (λ s rows. line_row s rows line)
 
   -- the row of a line, if there is one
-  abbrev pub DeedMade : Option (Line O) → Port M O h → List (Shell A M O g h) → Port M O h → List (Shell A M O g h) → LineResult → Type 0
+  abbrev pub DeedMade : Option (Line O) → Port M O h → List (Shell A M O g h) → Port M O h → List (Shell A M O g h) → Result Bool Stop → Type 0
   DeedMade line = MakesSo (λ s rows. option_and_then (line_row s rows) line)
 
   -- the row of an event of an actor, unless it has crashed
-  abbrev pub EventMade : ℕ → Event O → Port M O h → List (Shell A M O g h) → Port M O h → List (Shell A M O g h) → LineResult → Type 0
+  abbrev pub EventMade : ℕ → Event O → Port M O h → List (Shell A M O g h) → Port M O h → List (Shell A M O g h) → Result Bool Stop → Type 0
   EventMade who event = MakesSo (λ s rows. unless_crashed s rows who event)
 
   -- the row of an actor that is told to go
-  abbrev pub GoMade : ℕ → Port M O h → List (Shell A M O g h) → Port M O h → List (Shell A M O g h) → LineResult → Type 0
+  abbrev pub GoMade : ℕ → Port M O h → List (Shell A M O g h) → Port M O h → List (Shell A M O g h) → Result Bool Stop → Type 0
   GoMade who = MakesSo (λ s rows. acts s rows who GoEvent)
 
   -- what a line of one row came to, where it is noted who was told to go
-  abbrev pub StepsSo : Line O → Port M O h → List (Shell A M O g h) → Score → Port M O h → List (Shell A M O g h) → LineResult → Type 0
+  abbrev pub StepsSo : Line O → Port M O h → List (Shell A M O g h) → Score → Port M O h → List (Shell A M O g h) → Result Bool Stop → Type 0
   StepsSo line net ss score next after step =
-      (words : ℕ → ℕ → ℕ × ℕ) (births : List (Seat A)) → Company births net ss → ((who : ℕ) → has_gone (seen net) who ≡ is_in who score.gone.items) → Stepped (system g.table h.receiver words births) (line_row (system g.table h.receiver words births) (seen net) line) net next after step
+      (words : ℕ → ℕ → ℕ × ℕ) (births : List (Seat A)) → IsCompany births net ss → ((who : ℕ) → has_gone (seen net) who ≡ is_in who score.gone.items) → Stepped (system g.table h.receiver words births) (line_row (system g.table h.receiver words births) (seen net) line) net next after step
 
   -- What the network's port has seen is a lawful journal within the limit, the walk after it has these tasks left, the score is the walk's, and all is as it is between two lines.
   pub record HasReached (words : ℕ → ℕ → ℕ × ℕ) (births : List (Seat A)) (lines : List (Line O)) (net : Port M O h) (ss : List (Shell A M O g h)) (score : Score) (tasks : List (Task O)) : Type 0 where
     pub lawful : IsLawful (system g.table h.receiver words births) lines (seen net)
     pub place : place_after (system g.table h.receiver words births) lines (seen net) ≡ onward (system g.table h.receiver words births) (seen net) tasks score.skipped score.unsettled
-    pub company : Company births net ss
+    pub company : IsCompany births net ss
     pub told : (who : ℕ) → is_in who score.gone.items ≡ has_gone (seen net) who
     pub within : journal_bytes h.weighs (seen net) ≤ net.limit
 
@@ -107,10 +105,11 @@ module _ {A M O : Type 0} {g : Ghosts A M O} {h : MailGhosts M} where
     pub rows : IsTrue net
 
   -- how the exchange stands after a line of one row
-  abbrev pub StaysSo : LineResult → Port M O h → List (Shell A M O g h) → Port M O h → List (Shell A M O g h) → Type 0
-  StaysSo Made net ss next after = IsOn net ss next after
-  StaysSo Skipped net ss next after = IsOn net ss next after
-  StaysSo Full net ss next after = IsKept net ss next after
+  abbrev pub StaysSo : Result Bool Stop → Port M O h → List (Shell A M O g h) → Port M O h → List (Shell A M O g h) → Type 0
+  StaysSo (Ok true) net ss next after = IsOn net ss next after
+  StaysSo (Ok false) net ss next after = IsOn net ss next after
+  StaysSo (Err Full) net ss next after = IsKept net ss next after
+  StaysSo (Err OutOfMemory) net ss next after = ⊤
 
   -- The journal is lawful, whole and within the limit, the lines that were cut off and skipped are the walk's, it is told whether mail is pending, and each actor is the replay of its rows.
   pub record HasEnded (words : ℕ → ℕ → ℕ × ℕ) (births : List (Seat A)) (lines : List (Line O)) (net : Port M O h) (ss : List (Shell A M O g h)) (cut quiet : Bool) (skips : ℕ) : Type 0 where
@@ -121,9 +120,3 @@ module _ {A M O : Type 0} {g : Ghosts A M O} {h : MailGhosts M} where
     pub quiet_is : quiet ≡ is_quiet (system g.table h.receiver words births) (seen net)
     pub skips_are : skips ≡ skipped (system g.table h.receiver words births) lines (seen net)
     pub left : seats ss ≡ values g.table births (seen net)
-
-  -- how a schedule was driven, from an empty journal
-  abbrev pub IsDriven : (ℕ → ℕ → ℕ × ℕ) → List (Seat A) → List (Line O) → ℕ → Port M O h → List (Shell A M O g h) → Driven → Type 0
-  IsDriven words births lines limit net ss (Ended cut quiet skips) = HasEnded words births lines net ss cut quiet skips
-  IsDriven words births lines limit net ss TooMuch = IsFull (system g.table h.receiver words births) h.weighs lines limit (seen net)
-  IsDriven words births lines limit net ss OutOfMemory = ⊤

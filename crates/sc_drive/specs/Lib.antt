@@ -1,5 +1,6 @@
 pub mod Numbers
 pub mod Companies
+pub mod Rows
 pub mod Acts
 pub mod Stepping
 pub mod Goings
@@ -7,3 +8,4 @@ pub mod Changing
 pub mod Lowest
 pub mod Storming
 pub mod Ends
+pub mod Working

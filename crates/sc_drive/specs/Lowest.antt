@@ -14,7 +14,7 @@ use Rattle.sc_exchange.specs.Ports.{seen}
 use Rattle.sc_shell.specs.declared.shells.Shell.{Shell}
 use Rattle.sc_workers.specs.Crews.{crew_numbers}
 use Rattle.sc_drive.specs.Numbers.{is_in}
-use Rattle.sc_drive.specs.Companies.{Company}
+use Rattle.sc_drive.specs.Companies.{IsCompany}
 use Rattle.sc_drive.specs.Stepping.{IsPlace}
 
 module _ {A M O : Type 0} {g : Ghosts A M O} {h : MailGhosts M} where
@@ -34,11 +34,11 @@ module _ {A M O : Type 0} {g : Ghosts A M O} {h : MailGhosts M} where
   -- what was found by all that gathered, whatever the actors' births are
   pub record FindsLowest (net : Port M O h) (ss : List (Shell A M O g h)) (found : Option ℕ) : Type 0 where
     pub inside : IfSome found (λ place. place < length ss)
-    pub lowest : (words : ℕ → ℕ → ℕ × ℕ) (births : List (Seat A)) → Company births net ss → Lowest (system g.table h.receiver words births) net ss found
+    pub lowest : (words : ℕ → ℕ → ℕ × ℕ) (births : List (Seat A)) → IsCompany births net ss → Lowest (system g.table h.receiver words births) net ss found
 
   -- all gathered once more, and nothing was made
   abbrev pub Rests : Port M O h → List (Shell A M O g h) → Port M O h → List (Shell A M O g h) → Type 0
-  Rests net ss next after = (births : List (Seat A)) → Company births net ss → Company births next after × (seen next ≡ seen net)
+  Rests net ss next after = (births : List (Seat A)) → IsCompany births net ss → IsCompany births next after × (seen next ≡ seen net)
 
   -- the place of the shell that gets what was fetched, if anything was
   abbrev pub IsReceiverAt : List (Shell A M O g h) → Fetched M → Option ℕ → Type 0

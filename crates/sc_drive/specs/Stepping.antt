@@ -1,5 +1,5 @@
 -- What a line of one row did to the journal.
-use Rattle.std.specs.Prelude.{◌≡◌, ℕ, ◌+◌, ◌<◌, ◌≤◌, List, [], ◌∷◌, ◌++◌, length, slice_index_or, false, if◌then◌else◌, Option, None, Some}
+use Rattle.std.specs.Prelude.{◌≡◌, ℕ, ◌+◌, ◌<◌, ◌≤◌, List, [], ◌∷◌, ◌++◌, length, slice_index_or, Bool, true, false, Result, Ok, Err, ⊤, if◌then◌else◌, Option, None, Some}
 use Rattle.sc_actor.specs.declared.actors.Actor.{Ghosts}
 use Rattle.sc_actor.specs.declared.actors.Parcel.{Ghosts as MailGhosts}
 use Rattle.sc_actor.specs.declared.rows.Row.{Row}
@@ -10,19 +10,20 @@ use Rattle.sc_actor.specs.System.{System, acts}
 use Rattle.sc_exchange.specs.declared.ports.Port.{Port}
 use Rattle.sc_exchange.specs.Ports.{seen}
 use Rattle.sc_shell.specs.declared.shells.Shell.{Shell}
-use Rattle.sc_drive.specs.declared.steps.LineResult.{LineResult}
-use Rattle.sc_drive.specs.declared.steps.LineResult.TheVariants.{Made, Skipped, Full}
+use Rattle.sc_drive.specs.declared.company.Stop.{Stop}
+use Rattle.sc_drive.specs.declared.company.Stop.TheVariants.{Full, OutOfMemory}
 use Rattle.sc_workers.specs.Crews.{crew_numbers}
 use Rattle.sc_drive.specs.Numbers.{is_in}
-use Rattle.sc_drive.specs.Companies.{Company}
+use Rattle.sc_drive.specs.Companies.{IsCompany}
 
 module _ {A M O : Type 0} {g : Ghosts A M O} {h : MailGhosts M} where
-  -- A row was made, and it is the one that may come; or none may come; or that row would pass the limit.
-  abbrev pub Stepped : System A M O → Option (Row M O) → Port M O h → Port M O h → List (Shell A M O g h) → LineResult → Type 0
-  Stepped s may net next after Made =
-      Company s.births next after × ((row : Row M O) × (may ≡ Some row) × (seen next ≡ seen net ++ row ∷ [])) × (journal_bytes h.weighs (seen next) ≤ net.limit)
-  Stepped s may net next after Skipped = Company s.births next after × (may ≡ None) × (seen next ≡ seen net)
-  Stepped s may net next after Full = ((row : Row M O) × (may ≡ Some row) × (net.limit < journal_bytes h.weighs (seen net) + row_bytes h.weighs row)) × (seen next ≡ seen net)
+  -- A row was made, and it is the one that may come; or none may come; or that row would pass the limit. Nothing is said after want of memory.
+  abbrev pub Stepped : System A M O → Option (Row M O) → Port M O h → Port M O h → List (Shell A M O g h) → Result Bool Stop → Type 0
+  Stepped s may net next after (Ok true) =
+      IsCompany s.births next after × ((row : Row M O) × (may ≡ Some row) × (seen next ≡ seen net ++ row ∷ [])) × (journal_bytes h.weighs (seen next) ≤ net.limit)
+  Stepped s may net next after (Ok false) = IsCompany s.births next after × (may ≡ None) × (seen next ≡ seen net)
+  Stepped s may net next after (Err Full) = ((row : Row M O) × (may ≡ Some row) × (net.limit < journal_bytes h.weighs (seen net) + row_bytes h.weighs row)) × (seen next ≡ seen net)
+  Stepped s may net next after (Err OutOfMemory) = ⊤
 
   -- the place of an actor's shell
   pub record IsPlace (ss : List (Shell A M O g h)) (who place : ℕ) : Type 0 where

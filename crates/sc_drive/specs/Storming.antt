@@ -9,11 +9,11 @@ use Rattle.sc_actor.specs.Walk.{line_row, storm_row}
 use Rattle.sc_exchange.specs.declared.ports.Port.{Port}
 use Rattle.sc_exchange.specs.Ports.{seen}
 use Rattle.sc_shell.specs.declared.shells.Shell.{Shell}
-use Rattle.sc_drive.specs.Companies.{Company}
+use Rattle.sc_drive.specs.Companies.{IsCompany}
 
 module _ {A M O : Type 0} {g : Ghosts A M O} {h : MailGhosts M} where
   -- a step with these words makes the row of this line, if there is a line, whatever the actors' births are
   abbrev pub IsStormLine : ℕ × ℕ → Port M O h → List (Shell A M O g h) → Option (Line O) → Type 0
   IsStormLine step net ss line =
-      (words : ℕ → ℕ → ℕ × ℕ) (births : List (Seat A)) → Company births net ss →
+      (words : ℕ → ℕ → ℕ × ℕ) (births : List (Seat A)) → IsCompany births net ss →
       storm_row (system g.table h.receiver words births) (seen net) (step.0 % 16) step.1 ≡ option_and_then (line_row (system g.table h.receiver words births) (seen net)) line

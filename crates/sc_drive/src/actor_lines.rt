@@ -1,15 +1,15 @@
 //! Lines of one row, of an actor.
-ghost use Rattle.std.specs.Prelude.{◌≡◌, IfOk, IfSome, None};
+ghost use Rattle.std.specs.Prelude.{◌≡◌, IfSome, None};
+ghost use Rattle.sc_actor.specs.System.{acts};
+ghost use Rattle.sc_actor.specs.Walk.{line_row};
 ghost use Rattle.sc_shell.specs.Answers.{MayHappen};
-ghost use Rattle.sc_drive.specs.Stepping.{IsPlace, IsNowhere};
-ghost use Rattle.sc_drive.specs.Goings.{EventMade, LineMade, IsTogether, StaysSo};
+ghost use Rattle.sc_drive.specs.Stepping.{IsPlace, IsNowhere, unless_crashed};
+ghost use Rattle.sc_drive.specs.Working.{AreTogether, MayBeTold, RowEnds};
 
 use crate::acts::{serve, tell};
-use crate::steps::LineResult;
+use crate::company::{Company, Stop, row_made};
 use sc_actor::{Actor, Event, Gate, Line};
-use sc_base::OutOfMemory;
-use sc_exchange::Port;
-use sc_shell::{Shell, Turn};
+use sc_shell::Shell;
 use std::alloc::Global;
 use std::sync::Wait;
 
@@ -26,62 +26,62 @@ pub(crate) fn place_of<A: Actor>(shells: &[Shell<A>], who: u32) -> Option<usize>
     None
 }
 
-/// An event of an actor, unless it has crashed.
+/// An event of an actor, unless it has crashed. Answers whether it made a row.
 pub(crate) fn happen<A: Actor, R: Wait>(
     rt: &R,
     alloc: Global,
-    net: &mut Port<A::Mail, A::Order>,
-    shells: &mut Vec<Shell<A>>,
+    company: &mut Company<A>,
     who: u32,
     event: Event<A::Order>,
-) -> Result<LineResult, OutOfMemory>
-    requires together { IsTogether net.old shells.old.items }
+) -> Result<bool, Stop>
+    requires together { AreTogether company.old }
     requires event { MayHappen event }
-    ensures on { IfOk result
-        (λ step. StaysSo step net.old shells.old.items net.new shells.new.items) }
-    ensures made { IfOk result
-        (EventMade who event net.old shells.old.items net.new shells.new.items) }
+    ensures { RowEnds (λ s rows. unless_crashed s rows who event) company.old company.new result }
 {
-    let Some(place) = place_of(shells.as_slice(), who) else {
-        return Ok(LineResult::Skipped);
+    let Some(place) = place_of(company.shells.as_slice(), who) else {
+        return Ok(false);
     };
-    match tell(rt, alloc, net, shells, place, event)? {
-        Turn::Did { .. } => Ok(LineResult::Made),
-        Turn::Full { .. } => Ok(LineResult::Full),
-        Turn::Spent => Ok(LineResult::Skipped),
-        Turn::Empty { .. } => unreachable!(),
-        Turn::OutOfMemory => Err(OutOfMemory),
-    }
+    let turn = tell(rt, alloc, company, place, event)?;
+    row_made(turn)
 }
 
-/// The delivery of the k-th pending mail of an actor.
+/// An actor that has not crashed is told to go. Answers whether it made a row.
+pub(crate) fn go<A: Actor, R: Wait>(
+    rt: &R,
+    alloc: Global,
+    company: &mut Company<A>,
+    who: u32,
+) -> Result<bool, Stop>
+    requires together { AreTogether company.old }
+    requires runs { MayBeTold who company.old }
+    ensures { RowEnds (λ s rows. acts s rows who Event.Go) company.old company.new result }
+{
+    let Some(place) = place_of(company.shells.as_slice(), who) else {
+        return Ok(false);
+    };
+    let turn = tell(rt, alloc, company, place, Event::Go)?;
+    row_made(turn)
+}
+
+/// The delivery of the k-th pending mail of an actor. Answers whether it made a row.
 pub(crate) fn deliver<A: Actor, G: Gate, R: Wait>(
     rt: &R,
     alloc: Global,
-    net: &mut Port<A::Mail, A::Order>,
-    shells: &mut Vec<Shell<A>>,
+    company: &mut Company<A>,
     who: u32,
     k: u32,
     gate: &G,
-) -> Result<LineResult, OutOfMemory>
-    requires together { IsTogether net.old shells.old.items }
-    ensures on { IfOk result
-        (λ step. StaysSo step net.old shells.old.items net.new shells.new.items) }
-    ensures made { IfOk result
-        (LineMade (Line.Deliver who k) net.old shells.old.items net.new shells.new.items) }
+) -> Result<bool, Stop>
+    requires together { AreTogether company.old }
+    ensures { RowEnds (λ s rows. line_row s rows (Line.Deliver who k))
+        company.old company.new result }
 {
     if k == 0 {
-        return Ok(LineResult::Skipped);
+        return Ok(false);
     }
-    let Some(place) = place_of(shells.as_slice(), who) else {
-        return Ok(LineResult::Skipped);
+    let Some(place) = place_of(company.shells.as_slice(), who) else {
+        return Ok(false);
     };
-    let (turn, _) = serve(rt, alloc, net, shells, place, k, gate)?;
-    match turn {
-        Turn::Did { .. } => Ok(LineResult::Made),
-        Turn::Full { .. } => Ok(LineResult::Full),
-        Turn::Empty { .. } => Ok(LineResult::Skipped),
-        Turn::Spent => Ok(LineResult::Skipped),
-        Turn::OutOfMemory => Err(OutOfMemory),
-    }
+    let (turn, _) = serve(rt, alloc, company, place, k, gate)?;
+    row_made(turn)
 }

@@ -1,13 +1,13 @@
 //! What one actor does, where all gather before and after it.
-ghost use Rattle.std.specs.Prelude.{◌<◌, List, length, IfOk, OnOk};
-ghost use Rattle.sc_actor.specs.declared.actors.Seat.{Seat};
+ghost use Rattle.std.specs.Prelude.{◌<◌, length, IfOk};
 ghost use Rattle.sc_exchange.specs.Ports.{SameExchange};
 ghost use Rattle.sc_shell.specs.Answers.{MayHappen};
 ghost use Rattle.sc_shell.specs.Shells.{port_of};
 ghost use Rattle.sc_workers.specs.Ends.{IsFirst};
-ghost use Rattle.sc_drive.specs.Acts.{MetAndTold, MetAndTook, Told, Served, SoundAfter, IsTold, ToldAll, ServedAll};
-ghost use Rattle.sc_drive.specs.Goings.{IsKept, IsTogether};
+ghost use Rattle.sc_drive.specs.Acts.{MetAndTold, MetAndTook};
+ghost use Rattle.sc_drive.specs.Working.{ActServed, ActTold, AreTogether};
 
+use crate::company::Company;
 use sc_actor::{Actor, Event, Gate};
 use sc_base::OutOfMemory;
 use sc_exchange::{Fetched, Port};
@@ -51,22 +51,23 @@ fn serve_one<A: Actor, G: Gate, R: Wait>(
 pub(crate) fn tell<A: Actor, R: Wait>(
     rt: &R,
     alloc: Global,
-    net: &mut Port<A::Mail, A::Order>,
-    shells: &mut Vec<Shell<A>>,
+    company: &mut Company<A>,
     place: usize,
     event: Event<A::Order>,
 ) -> Result<Turn, OutOfMemory>
-    requires together { IsTogether net.old shells.old.items }
-    requires inside { place < length shells.old.items }
+    requires together { AreTogether company.old }
+    requires inside { place < length company.old.shells.items }
     requires event { MayHappen event }
-    ensures kept { OnOk result (IsKept net.old shells.old.items net.new shells.new.items) }
-    ensures sound { IfOk result (λ turn. SoundAfter turn shells.new.items) }
-    ensures answer { IfOk result IsTold }
-    ensures told { IfOk result
-        (ToldAll place event net.old net.new shells.old.items shells.new.items) }
+    ensures { IfOk result (λ turn. ActTold place event turn company.old company.new) }
 {
-    let turn = tell_one(rt, alloc, net, &mut shells[place], event)?;
-    let _ = gather(rt, net, shells)?;
+    let turn = tell_one(
+        rt,
+        alloc,
+        &mut company.net,
+        &mut company.shells[place],
+        event,
+    )?;
+    let _ = gather(rt, &mut company.net, &mut company.shells)?;
     Ok(turn)
 }
 
@@ -74,22 +75,25 @@ pub(crate) fn tell<A: Actor, R: Wait>(
 pub(crate) fn serve<A: Actor, G: Gate, R: Wait>(
     rt: &R,
     alloc: Global,
-    net: &mut Port<A::Mail, A::Order>,
-    shells: &mut Vec<Shell<A>>,
+    company: &mut Company<A>,
     place: usize,
     k: u32,
     gate: &G,
 ) -> Result<(Turn, Fetched<A::Mail>), OutOfMemory>
-    requires together { IsTogether net.old shells.old.items }
-    requires inside { place < length shells.old.items }
+    requires together { AreTogether company.old }
+    requires inside { place < length company.old.shells.items }
     requires first { 0 < k }
-    ensures kept { OnOk result (IsKept net.old shells.old.items net.new shells.new.items) }
-    ensures sound { IfOk result (λ served. SoundAfter served.0 shells.new.items) }
-    ensures found { IfOk result (λ served. IsFirst net.new served.1) }
-    ensures served { IfOk result
-        (λ served. ServedAll place k net.old net.new shells.old.items shells.new.items served.0) }
+    ensures found { IfOk result (λ served. IsFirst company.new.net served.1) }
+    ensures served { IfOk result (λ served. ActServed place k served.0 company.old company.new) }
 {
-    let turn = serve_one(rt, alloc, net, &mut shells[place], k, gate)?;
-    let found = gather(rt, net, shells)?;
+    let turn = serve_one(
+        rt,
+        alloc,
+        &mut company.net,
+        &mut company.shells[place],
+        k,
+        gate,
+    )?;
+    let found = gather(rt, &mut company.net, &mut company.shells)?;
     Ok((turn, found))
 }

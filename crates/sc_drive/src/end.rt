@@ -4,6 +4,7 @@ ghost use Rattle.sc_exchange.specs.Ports.{seen, given, joined_ports, HasJoined, 
 ghost use Rattle.sc_workers.specs.Crews.{AllOf, AllOver, crew_numbers};
 ghost use Rattle.sc_shell.specs.Shells.{actor_of, port_of};
 
+use crate::company::Company;
 use sc_actor::{Actor, Journal};
 use sc_base::{OutOfMemory, Sequence};
 use sc_exchange::Port;
@@ -23,12 +24,8 @@ fn take_apart<A: Actor>(net: &mut Port<A::Mail, A::Order>, shell: Shell<A>) -> A
     actor
 }
 
-/// Takes the shells apart, joins their ports and closes the network's port: the journal, which is
-/// what that port has seen, and the actors in the order of their shells.
-///
-/// The shells are those of all ports that were split off, none was joined before, and all have
-/// gathered.
-pub fn close<A: Actor, R: Wait>(
+// The same of all, and the network's port is closed.
+fn close_ports<A: Actor, R: Wait>(
     rt: &R,
     alloc: Global,
     net: Port<A::Mail, A::Order>,
@@ -50,4 +47,26 @@ pub fn close<A: Actor, R: Wait>(
         actors.push(actor)?;
     }
     Ok((all.close(rt), actors))
+}
+
+/// Takes the shells apart, joins their ports and closes the network's port: the journal, which is
+/// what that port has seen, and the actors in the order of their shells.
+///
+/// The shells are those of all ports that were split off, none was joined before, and all have
+/// gathered.
+pub fn close<A: Actor, R: Wait>(
+    rt: &R,
+    alloc: Global,
+    company: Company<A>,
+) -> Result<(Journal<A::Mail, A::Order>, Sequence<A>), OutOfMemory>
+    requires net { company.net.who ≡ 0 }
+    requires exchange { AllOf company.net company.shells.items }
+    requires all { given company.net ≡ crew_numbers company.shells.items }
+    requires none { joined_ports company.net ≡ [] }
+    requires over { AllOver company.net company.shells.items }
+    requires rows { IsTrue company.net }
+    ensures journal { IfOk result (λ left. left.0 ≡ seen company.net) }
+    ensures actors { IfOk result (λ left. left.1 ≡ map actor_of company.shells.items) }
+{
+    close_ports(rt, alloc, company.net, company.shells)
 }

@@ -1,12 +1,10 @@
 //! A line of rounds.
 ghost use Rattle.std.specs.Prelude.{[], ◌∷◌, OnOk, IsErrOf};
 ghost use Rattle.sc_actor.specs.Walk.{Frees};
-ghost use Rattle.sc_drive.specs.Goings.{Goes, Fills, IsKept, IsOn, IsTogether};
+ghost use Rattle.sc_drive.specs.Working.{AreTogether, LineEnded, LineRefused};
 
-use crate::steps::{Score, Stop};
+use crate::company::{Company, Stop};
 use sc_actor::{Actor, Gate};
-use sc_exchange::Port;
-use sc_shell::Shell;
 use sc_workers::{Rounds, gather, rounds};
 use std::alloc::Global;
 use std::sync::Wait;
@@ -17,28 +15,20 @@ use std::thread::Threads;
 pub(crate) fn run_free<A: Actor, G: Gate, R: Threads + Wait + Sync>(
     rt: &R,
     alloc: Global,
-    net: &mut Port<A::Mail, A::Order>,
-    shells: &mut Vec<Shell<A>>,
-    score: &mut Score,
+    company: &mut Company<A>,
     most: u32,
     workers: u32,
     gate: &G,
 ) -> Result<(), Stop>
-    requires together { IsTogether net.old shells.old.items }
-    ensures on { OnOk result (IsOn net.old shells.old.items net.new shells.new.items) }
-    ensures kept { IsErrOf result Stop.Full →
-        IsKept net.old shells.old.items net.new shells.new.items }
-    ensures goes { OnOk result
-        (Goes net.old shells.old.items score.old (Frees most ∷ []) net.new shells.new.items
-        score.new []) }
+    requires together { AreTogether company.old }
+    ensures goes { OnOk result (LineEnded (Frees most ∷ []) [] company.old company.new) }
     ensures fills { IsErrOf result Stop.Full →
-        Fills net.old shells.old.items score.old (Frees most ∷ []) net.new }
+        LineRefused (Frees most ∷ []) company.old company.new }
 {
     let crew = workers.max(1).min(16);
+    let Company { net, shells, score } = company;
     let end = rounds(rt, alloc, net, shells, crew, most, gate);
-    let Ok(_) = gather(rt, net, shells) else {
-        return Err(Stop::OutOfMemory);
-    };
+    let _ = gather(rt, net, shells)?;
     match end {
         Rounds::Quiet { .. } => Ok(()),
         Rounds::Limit { .. } => {

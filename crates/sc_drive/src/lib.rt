@@ -1,8 +1,9 @@
-//! A schedule driven through the network's port and the shells of its actors.
+//! A schedule driven through a company: the network's port and the shells of its actors.
 #![tactic(auto)]
 
 mod actor_lines;
 mod acts;
+mod company;
 mod conditions;
 mod end;
 mod free_lines;
@@ -11,11 +12,10 @@ mod schedules;
 mod settle_lines;
 mod single_lines;
 mod start;
-mod steps;
 mod storm_lines;
 
+pub use company::{Company, Score};
 pub use conditions::goers_are_spared;
 pub use end::close;
 pub use schedules::drive;
 pub use start::open;
-pub use steps::Driven;

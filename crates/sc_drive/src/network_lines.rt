@@ -1,15 +1,14 @@
 //! Lines of one row, of the network.
-ghost use Rattle.std.specs.Prelude.{◌≡◌, IfOk};
+ghost use Rattle.std.specs.Prelude.{◌≡◌};
+ghost use Rattle.sc_actor.specs.Walk.{line_row};
 ghost use Rattle.sc_workers.specs.Crews.{IsCrew};
-ghost use Rattle.sc_drive.specs.Changing.{Changes, ChangesAll};
-ghost use Rattle.sc_drive.specs.Goings.{LineMade, IsTogether, StaysSo};
+ghost use Rattle.sc_drive.specs.Changing.{Changes};
+ghost use Rattle.sc_drive.specs.Working.{AreTogether, NetworkActs, RowEnds};
 
 use crate::actor_lines::place_of;
-use crate::steps::LineResult;
+use crate::company::{Company, Stop};
 use sc_actor::{Actor, Line, Parcel};
-use sc_base::OutOfMemory;
-use sc_exchange::{Fate, Port, PostFault};
-use sc_shell::Shell;
+use sc_exchange::{Fate, Port};
 use sc_workers::gather;
 use std::sync::Wait;
 
@@ -19,86 +18,72 @@ fn change_one<M: Parcel + Drop, O: Drop, R: Wait>(
     net: &mut Port<M, O>,
     number: u32,
     fate: Fate,
-) -> Result<LineResult, OutOfMemory>
+) -> Result<bool, Stop>
     requires { net.old.who ≡ 0 }
-    ensures { IfOk result (Changes fate number net.old net.new) }
+    ensures { Changes fate number net.old net.new result }
 {
     match net.change(rt, number, fate) {
-        Ok(true) => Ok(LineResult::Made),
-        Ok(false) => Ok(LineResult::Skipped),
-        Err(unposted) => match unposted.why {
-            PostFault::JournalFull { .. } => Ok(LineResult::Full),
-            PostFault::OutOfMemory => Err(OutOfMemory),
-        },
+        Ok(made) => Ok(made),
+        Err(unposted) => Err(Stop::from(unposted.why)),
     }
 }
 
 // The same, and then all gather.
 fn change<A: Actor, R: Wait>(
     rt: &R,
-    net: &mut Port<A::Mail, A::Order>,
-    shells: &mut Vec<Shell<A>>,
+    company: &mut Company<A>,
     number: u32,
     fate: Fate,
-) -> Result<LineResult, OutOfMemory>
-    requires crew { IsCrew net.old shells.old.items }
-    ensures on { IfOk result
-        (λ step. StaysSo step net.old shells.old.items net.new shells.new.items) }
-    ensures changed { IfOk result
-        (ChangesAll fate number net.old net.new shells.old.items shells.new.items) }
+) -> Result<bool, Stop>
+    requires crew { IsCrew company.old.net company.old.shells.items }
+    ensures { NetworkActs fate number company.old company.new result }
 {
-    let step = change_one(rt, net, number, fate)?;
-    let _ = gather(rt, net, shells)?;
-    Ok(step)
+    let made = change_one(rt, &mut company.net, number, fate);
+    let _ = gather(rt, &mut company.net, &mut company.shells)?;
+    made
 }
 
-/// The loss of the k-th pending mail of an actor.
+/// The loss of the k-th pending mail of an actor. Answers whether it made a row.
 pub(crate) fn lose<A: Actor, R: Wait>(
     rt: &R,
-    net: &mut Port<A::Mail, A::Order>,
-    shells: &mut Vec<Shell<A>>,
+    company: &mut Company<A>,
     who: u32,
     k: u32,
-) -> Result<LineResult, OutOfMemory>
-    requires together { IsTogether net.old shells.old.items }
-    ensures on { IfOk result
-        (λ step. StaysSo step net.old shells.old.items net.new shells.new.items) }
-    ensures made { IfOk result
-        (LineMade (Line.Drop who k) net.old shells.old.items net.new shells.new.items) }
+) -> Result<bool, Stop>
+    requires together { AreTogether company.old }
+    ensures { RowEnds (λ s rows. line_row s rows (Line.Drop who k))
+        company.old company.new result }
 {
     if k == 0 {
-        return Ok(LineResult::Skipped);
+        return Ok(false);
     }
-    let Some(_) = place_of(shells.as_slice(), who) else {
-        return Ok(LineResult::Skipped);
+    let Some(_) = place_of(company.shells.as_slice(), who) else {
+        return Ok(false);
     };
-    let Some(number) = net.pending(rt, who, k) else {
-        let _ = gather(rt, net, shells)?;
-        return Ok(LineResult::Skipped);
+    let Some(number) = company.net.pending(rt, who, k) else {
+        let _ = gather(rt, &mut company.net, &mut company.shells)?;
+        return Ok(false);
     };
-    change(rt, net, shells, number, Fate::Lost)
+    change(rt, company, number, Fate::Lost)
 }
 
-/// A mail is pending once more.
+/// A mail is pending once more. Answers whether that made a row.
 pub(crate) fn again<A: Actor, R: Wait>(
     rt: &R,
-    net: &mut Port<A::Mail, A::Order>,
-    shells: &mut Vec<Shell<A>>,
+    company: &mut Company<A>,
     number: u32,
-) -> Result<LineResult, OutOfMemory>
-    requires together { IsTogether net.old shells.old.items }
-    ensures on { IfOk result
-        (λ step. StaysSo step net.old shells.old.items net.new shells.new.items) }
-    ensures made { IfOk result
-        (LineMade (Line.Again number) net.old shells.old.items net.new shells.new.items) }
+) -> Result<bool, Stop>
+    requires together { AreTogether company.old }
+    ensures { RowEnds (λ s rows. line_row s rows (Line.Again number))
+        company.old company.new result }
 {
-    let Some(who) = net.receiver(rt, number) else {
-        let _ = gather(rt, net, shells)?;
-        return Ok(LineResult::Skipped);
+    let Some(who) = company.net.receiver(rt, number) else {
+        let _ = gather(rt, &mut company.net, &mut company.shells)?;
+        return Ok(false);
     };
-    let Some(_) = place_of(shells.as_slice(), who) else {
-        let _ = gather(rt, net, shells)?;
-        return Ok(LineResult::Skipped);
+    let Some(_) = place_of(company.shells.as_slice(), who) else {
+        let _ = gather(rt, &mut company.net, &mut company.shells)?;
+        return Ok(false);
     };
-    change(rt, net, shells, number, Fate::Repeated)
+    change(rt, company, number, Fate::Repeated)
 }

@@ -1,18 +1,16 @@
 //! A line of many deliveries, each of the lowest-numbered pending mail of all.
-ghost use Rattle.std.specs.Prelude.{◌<◌, ◌-◌, List, [], ◌∷◌, IfOk, OnOk, IsErrOf, Some};
+ghost use Rattle.std.specs.Prelude.{◌<◌, [], ◌∷◌, IfOk, OnOk, IsErrOf, Some};
 ghost use Rattle.sc_actor.specs.Walk.{Settles};
 ghost use Rattle.sc_workers.specs.Ends.{IsFirst};
-ghost use Rattle.sc_actor.specs.declared.actors.Seat.{Seat};
-ghost use Rattle.sc_drive.specs.Companies.{Company};
-ghost use Rattle.sc_drive.specs.Goings.{Goes, Fills, IsKept, IsOn, IsTogether};
-ghost use Rattle.sc_drive.specs.Lowest.{FindsLowest, IsFirstPlaced, Rests};
+ghost use Rattle.sc_drive.specs.Lowest.{FindsLowest, IsFirstPlaced};
+ghost use Rattle.sc_drive.specs.Working.{AreTogether, HasFound, HasSettledOne, IsStaffed, LineEnded, LineRefused};
 
 use crate::actor_lines::place_of;
 use crate::acts::serve;
-use crate::steps::{Score, Stop};
+use crate::company::{Company, Stop};
 use sc_actor::{Actor, Gate, Parcel};
 use sc_base::OutOfMemory;
-use sc_exchange::{Fetched, Port, Spot};
+use sc_exchange::{Fetched, Spot};
 use sc_shell::{Shell, Turn};
 use sc_workers::gather;
 use std::alloc::Global;
@@ -33,17 +31,14 @@ fn first_placed<A: Actor>(shells: &[Shell<A>], spots: &[Spot]) -> Option<usize>
 // The same of all that is pending. It takes memory for all of that.
 fn look_on<A: Actor, R: Wait>(
     rt: &R,
-    net: &mut Port<A::Mail, A::Order>,
-    shells: &mut Vec<Shell<A>>,
+    company: &mut Company<A>,
 ) -> Result<Option<usize>, OutOfMemory>
-    requires together { IsTogether net.old shells.old.items }
-    ensures on { OnOk result (IsOn net.old shells.old.items net.new shells.new.items) }
-    ensures rests { OnOk result (Rests net.old shells.old.items net.new shells.new.items) }
-    ensures finds { IfOk result (FindsLowest net.new shells.new.items) }
+    requires together { AreTogether company.old }
+    ensures { IfOk result (HasFound company.old company.new) }
 {
-    let look = net.look(rt)?;
-    let _ = gather(rt, net, shells)?;
-    Ok(first_placed(shells.as_slice(), look.pending.as_slice()))
+    let look = company.net.look(rt)?;
+    let _ = gather(rt, &mut company.net, &mut company.shells)?;
+    Ok(first_placed(company.shells.as_slice(), look.pending.as_slice()))
 }
 
 // The place of the shell that gets the lowest-numbered pending mail of all, where this is what was
@@ -52,22 +47,19 @@ fn look_on<A: Actor, R: Wait>(
 // Mail to an actor that has no shell is passed over.
 fn placed<A: Actor, R: Wait>(
     rt: &R,
-    net: &mut Port<A::Mail, A::Order>,
-    shells: &mut Vec<Shell<A>>,
+    company: &mut Company<A>,
     found: &Fetched<A::Mail>,
 ) -> Result<Option<usize>, OutOfMemory>
-    requires together { IsTogether net.old shells.old.items }
-    requires first { IsFirst net.old found.now }
-    ensures on { OnOk result (IsOn net.old shells.old.items net.new shells.new.items) }
-    ensures rests { OnOk result (Rests net.old shells.old.items net.new shells.new.items) }
-    ensures finds { IfOk result (FindsLowest net.new shells.new.items) }
+    requires together { AreTogether company.old }
+    requires first { IsFirst company.old.net found.now }
+    ensures { IfOk result (HasFound company.old company.new) }
 {
     let Fetched::Mail { number: _, mail } = found else {
         return Ok(None);
     };
-    match place_of(shells.as_slice(), mail.to()) {
+    match place_of(company.shells.as_slice(), mail.to()) {
         Some(place) => Ok(Some(place)),
-        None => look_on(rt, net, shells),
+        None => look_on(rt, company),
     }
 }
 
@@ -75,52 +67,36 @@ fn placed<A: Actor, R: Wait>(
 /// and none where no mail is pending.
 pub(crate) fn lowest<A: Actor, R: Wait>(
     rt: &R,
-    net: &mut Port<A::Mail, A::Order>,
-    shells: &mut Vec<Shell<A>>,
+    company: &mut Company<A>,
 ) -> Result<Option<usize>, OutOfMemory>
-    requires together { IsTogether net.old shells.old.items }
-    ensures on { OnOk result (IsOn net.old shells.old.items net.new shells.new.items) }
-    ensures rests { OnOk result (Rests net.old shells.old.items net.new shells.new.items) }
-    ensures finds { IfOk result (FindsLowest net.new shells.new.items) }
+    requires together { AreTogether company.old }
+    ensures { IfOk result (HasFound company.old company.new) }
 {
-    let found = gather(rt, net, shells)?;
-    placed(rt, net, shells, &found)
+    let found = gather(rt, &mut company.net, &mut company.shells)?;
+    placed(rt, company, &found)
 }
 
 // One delivery of such a line, at the place that was found. Answers where the next one is to come.
 fn settle_step<A: Actor, G: Gate, R: Wait>(
     rt: &R,
     alloc: Global,
-    net: &mut Port<A::Mail, A::Order>,
-    shells: &mut Vec<Shell<A>>,
-    score: &Score,
+    company: &mut Company<A>,
     left: u32,
     place: usize,
     gate: &G,
 ) -> Result<Option<usize>, Stop>
-    requires together { IsTogether net.old shells.old.items }
-    requires company { (births : List (Seat A)) × Company births net.old shells.old.items }
-    requires finds { FindsLowest net.old shells.old.items (Some place) }
+    requires together { AreTogether company.old }
+    requires staffed { IsStaffed company.old }
+    requires finds { FindsLowest company.old.net company.old.shells.items (Some place) }
     requires left { 0 < left }
-    ensures on { OnOk result (IsOn net.old shells.old.items net.new shells.new.items) }
-    ensures company { OnOk result ((births : List (Seat A)) →
-        Company births net.old shells.old.items → Company births net.new shells.new.items) }
-    ensures kept { IsErrOf result Stop.Full →
-        IsKept net.old shells.old.items net.new shells.new.items }
-    ensures finds { IfOk result (FindsLowest net.new shells.new.items) }
-    ensures goes { OnOk result (Goes net.old shells.old.items score.now (Settles left ∷ [])
-        net.new shells.new.items score.now (Settles (left - 1) ∷ [])) }
+    ensures goes { IfOk result (HasSettledOne left company.old company.new) }
     ensures fills { IsErrOf result Stop.Full →
-        Fills net.old shells.old.items score.now (Settles left ∷ []) net.new }
+        LineRefused (Settles left ∷ []) company.old company.new }
 {
-    let Ok((turn, found)) = serve(rt, alloc, net, shells, place, 1, gate) else {
-        return Err(Stop::OutOfMemory);
-    };
+    let (turn, found) = serve(rt, alloc, company, place, 1, gate)?;
     match turn {
         Turn::Did { .. } => {
-            let Ok(next) = placed(rt, net, shells, &found) else {
-                return Err(Stop::OutOfMemory);
-            };
+            let next = placed(rt, company, &found)?;
             Ok(next)
         }
         Turn::Full { .. } => Err(Stop::Full),
@@ -133,40 +109,27 @@ fn settle_step<A: Actor, G: Gate, R: Wait>(
 pub(crate) fn run_settle<A: Actor, G: Gate, R: Wait>(
     rt: &R,
     alloc: Global,
-    net: &mut Port<A::Mail, A::Order>,
-    shells: &mut Vec<Shell<A>>,
-    score: &mut Score,
+    company: &mut Company<A>,
     most: u32,
     gate: &G,
 ) -> Result<(), Stop>
-    requires together { IsTogether net.old shells.old.items }
-    requires company { (births : List (Seat A)) × Company births net.old shells.old.items }
-    ensures on { OnOk result (IsOn net.old shells.old.items net.new shells.new.items) }
-    ensures kept { IsErrOf result Stop.Full →
-        IsKept net.old shells.old.items net.new shells.new.items }
-    ensures goes { OnOk result
-        (Goes net.old shells.old.items score.old (Settles most ∷ []) net.new shells.new.items
-        score.new []) }
+    requires together { AreTogether company.old }
+    requires staffed { IsStaffed company.old }
+    ensures goes { OnOk result (LineEnded (Settles most ∷ []) [] company.old company.new) }
     ensures fills { IsErrOf result Stop.Full →
-        Fills net.old shells.old.items score.old (Settles most ∷ []) net.new }
+        LineRefused (Settles most ∷ []) company.old company.new }
 {
-    let Ok(first) = lowest(rt, net, shells) else {
-        return Err(Stop::OutOfMemory);
-    };
-    let mut found = first;
+    let mut found = lowest(rt, company)?;
     let mut left = most;
     loop {
         let Some(place) = found else {
             return Ok(());
         };
         if left == 0 {
-            score.unsettled = true;
+            company.score.unsettled = true;
             return Ok(());
         }
-        match settle_step(rt, alloc, net, shells, score, left, place, gate) {
-            Ok(next) => found = next,
-            Err(stop) => return Err(stop),
-        }
+        found = settle_step(rt, alloc, company, left, place, gate)?;
         left -= 1;
     }
 }

@@ -1,10 +1,11 @@
 //! The beginning of an exchange.
 ghost use Rattle.std.specs.Prelude.{◌≡◌, ◌<◌, ◌≤◌, ◌^◌, [], true, All, Contains, IfOk};
 ghost use Rattle.sc_exchange.specs.Ports.{given, joined_ports};
-ghost use Rattle.sc_drive.specs.Companies.{AtBirth};
+ghost use Rattle.sc_drive.specs.Working.{HasOpened};
 ghost use Rattle.sc_drive.specs.Ends.{Seated};
 ghost use Rattle.sc_actor.specs.System.{are_apart};
 
+use crate::company::{Company, Score};
 use sc_actor::{Actor, Seat};
 use sc_base::OutOfMemory;
 use sc_exchange::Port;
@@ -27,7 +28,7 @@ fn seat_one<A: Actor>(
 }
 
 /// Starts an exchange of so many actors within a limit of counted bytes of at most 2^30, and seats
-/// each actor at a port of its own: the network's port, and the shells in the order of the seats.
+/// each actor at a port of its own, in the order of the seats.
 ///
 /// The numbers of the seats are different, and each is from 1 to `actors`.
 pub fn open<A: Actor>(
@@ -35,13 +36,13 @@ pub fn open<A: Actor>(
     seats: Vec<Seat<A>>,
     actors: u32,
     limit: u64,
-) -> Result<(Port<A::Mail, A::Order>, Vec<Shell<A>>), OutOfMemory>
+) -> Result<Company<A>, OutOfMemory>
     requires limit { limit ≤ 2 ^ 30 }
     requires far { are_apart seats.items ≡ true }
     requires numbered { All (λ seat. (0 < seat.who) × (seat.who ≤ actors)) seats.items }
-    ensures births { IfOk result (λ begun. AtBirth seats.items begun.0 begun.1.items) }
-    ensures unjoined { IfOk result (λ begun. joined_ports begun.0 ≡ []) }
-    ensures limit { IfOk result (λ begun. begun.0.limit ≡ limit) }
+    ensures opened { IfOk result (HasOpened seats.items) }
+    ensures unjoined { IfOk result (λ company. joined_ports company.net ≡ []) }
+    ensures limit { IfOk result (λ company. company.net.limit ≡ limit) }
 {
     let mut net = Port::start(alloc, actors, limit)?;
     let mut shells = Vec::new(alloc);
@@ -49,5 +50,10 @@ pub fn open<A: Actor>(
         let shell = seat_one(&mut net, seat)?;
         shells.push(shell)?;
     }
-    Ok((net, shells))
+    let score = Score {
+        skipped: 0,
+        unsettled: false,
+        gone: Vec::new(alloc),
+    };
+    Ok(Company { net, shells, score })
 }

@@ -1,17 +1,16 @@
 //! A storm: steps of one row each, which words draw.
-ghost use Rattle.std.specs.Prelude.{◌≡◌, [], ◌∷◌, IfOk, IfSome, OnOk, IsErrOf};
-ghost use Rattle.sc_actor.specs.Walk.{Storms, storm_steps};
+ghost use Rattle.std.specs.Prelude.{◌≡◌, [], ◌∷◌, option_and_then, IfOk, IfSome, OnOk, IsErrOf};
+ghost use Rattle.sc_actor.specs.Walk.{Storms, line_row, storm_steps};
 ghost use Rattle.sc_chance.specs.Words.{two_words, after_step};
 ghost use Rattle.sc_workers.specs.Crews.{crew_numbers};
-ghost use Rattle.sc_drive.specs.Goings.{Goes, Fills, DeedMade, IsCalm, IsKept, IsOn, IsTogether, StaysSo};
-ghost use Rattle.sc_drive.specs.Lowest.{Rests};
+ghost use Rattle.sc_drive.specs.Goings.{IsCalm};
 ghost use Rattle.sc_drive.specs.Storming.{IsStormLine};
+ghost use Rattle.sc_drive.specs.Working.{AreTogether, HasRested, LineEnded, LineRefused, RowEnds};
 
+use crate::company::{Company, Stop};
 use crate::single_lines::step_line;
-use crate::steps::{LineResult, Score, Stop};
 use sc_actor::{Actor, Gate, Line};
 use sc_base::OutOfMemory;
-use sc_exchange::Port;
 use sc_sched::{Storm, deeds_are_rows_of_the_walk};
 use sc_shell::Shell;
 use sc_workers::gather;
@@ -32,45 +31,41 @@ fn numbers_of<A: Actor>(alloc: Global, shells: &[Shell<A>]) -> Result<Vec<u32>, 
 // The line of a storm's next step, by what is pending when all gather, if it is one.
 fn storm_line<A: Actor, R: Wait>(
     rt: &R,
-    net: &mut Port<A::Mail, A::Order>,
-    shells: &mut Vec<Shell<A>>,
+    company: &mut Company<A>,
     storm: &mut Storm,
     actors: &[u32],
 ) -> Result<Option<Line<A::Order>>, OutOfMemory>
-    requires together { IsTogether net.old shells.old.items }
-    requires actors { actors.now ≡ crew_numbers shells.old.items }
-    ensures on { OnOk result (IsOn net.old shells.old.items net.new shells.new.items) }
-    ensures rests { OnOk result (Rests net.old shells.old.items net.new shells.new.items) }
+    requires together { AreTogether company.old }
+    requires actors { actors.now ≡ crew_numbers company.old.shells.items }
+    ensures rested { OnOk result (HasRested company.old company.new) }
     ensures drawn { OnOk result (storm.new ≡ after_step storm.old) }
     ensures calm { IfOk result (λ line. IfSome line IsCalm) }
-    ensures line { IfOk result
-        (IsStormLine (two_words storm.old.number storm.old.step) net.new shells.new.items) }
+    ensures line { IfOk result (IsStormLine (two_words storm.old.number storm.old.step)
+        company.new.net company.new.shells.items) }
 {
     deeds_are_rows_of_the_walk::<A>();
-    let look = net.look(rt)?;
-    let _ = gather(rt, net, shells)?;
+    let look = company.net.look(rt)?;
+    let _ = gather(rt, &mut company.net, &mut company.shells)?;
     let step = storm.deed(&look, actors);
     Ok(step.line())
 }
 
-// What such a line came to, or that there is none.
+// Whether such a line made a row, if there is one.
 fn run_deed<A: Actor, G: Gate, R: Wait>(
     rt: &R,
     alloc: Global,
-    net: &mut Port<A::Mail, A::Order>,
-    shells: &mut Vec<Shell<A>>,
+    company: &mut Company<A>,
     line: Option<Line<A::Order>>,
     gate: &G,
-) -> Result<LineResult, OutOfMemory>
-    requires together { IsTogether net.old shells.old.items }
+) -> Result<bool, Stop>
+    requires together { AreTogether company.old }
     requires calm { IfSome line IsCalm }
-    ensures on { IfOk result
-        (λ step. StaysSo step net.old shells.old.items net.new shells.new.items) }
-    ensures made { IfOk result (DeedMade line net.old shells.old.items net.new shells.new.items) }
+    ensures { RowEnds (λ s rows. option_and_then (line_row s rows) line)
+        company.old company.new result }
 {
     match line {
-        Some(line) => step_line(rt, alloc, net, shells, &line, gate),
-        None => Ok(LineResult::Skipped),
+        Some(line) => step_line(rt, alloc, company, &line, gate),
+        None => Ok(false),
     }
 }
 
@@ -78,72 +73,47 @@ fn run_deed<A: Actor, G: Gate, R: Wait>(
 fn storm_step<A: Actor, G: Gate, R: Wait>(
     rt: &R,
     alloc: Global,
-    net: &mut Port<A::Mail, A::Order>,
-    shells: &mut Vec<Shell<A>>,
-    score: &Score,
+    company: &mut Company<A>,
     storm: &mut Storm,
     actors: &[u32],
     gate: &G,
 ) -> Result<(), Stop>
-    requires together { IsTogether net.old shells.old.items }
-    requires actors { actors.now ≡ crew_numbers shells.old.items }
-    ensures on { OnOk result (IsOn net.old shells.old.items net.new shells.new.items) }
+    requires together { AreTogether company.old }
+    requires actors { actors.now ≡ crew_numbers company.old.shells.items }
     ensures drawn { OnOk result (storm.new ≡ after_step storm.old) }
-    ensures kept { IsErrOf result Stop.Full →
-        IsKept net.old shells.old.items net.new shells.new.items }
     ensures goes { OnOk result
-        (Goes net.old shells.old.items score.now
-        (Storms (two_words storm.old.number storm.old.step) ∷ []) net.new shells.new.items
-        score.now []) }
+        (LineEnded (Storms (two_words storm.old.number storm.old.step) ∷ []) []
+        company.old company.new) }
     ensures fills { IsErrOf result Stop.Full →
-        Fills net.old shells.old.items score.now
-        (Storms (two_words storm.old.number storm.old.step) ∷ []) net.new }
+        LineRefused (Storms (two_words storm.old.number storm.old.step) ∷ [])
+        company.old company.new }
 {
-    let Ok(line) = storm_line(rt, net, shells, storm, actors) else {
-        return Err(Stop::OutOfMemory);
-    };
-    let Ok(step) = run_deed(rt, alloc, net, shells, line, gate) else {
-        return Err(Stop::OutOfMemory);
-    };
-    match step {
-        LineResult::Made => Ok(()),
-        LineResult::Skipped => Ok(()),
-        LineResult::Full => Err(Stop::Full),
-    }
+    let line = storm_line(rt, company, storm, actors)?;
+    let _ = run_deed(rt, alloc, company, line, gate)?;
+    Ok(())
 }
 
 /// The storm of that number, of so many steps.
 pub(crate) fn run_storm<A: Actor, G: Gate, R: Wait>(
     rt: &R,
     alloc: Global,
-    net: &mut Port<A::Mail, A::Order>,
-    shells: &mut Vec<Shell<A>>,
-    score: &Score,
+    company: &mut Company<A>,
     number: u64,
     most: u32,
     gate: &G,
 ) -> Result<(), Stop>
-    requires together { IsTogether net.old shells.old.items }
-    ensures on { OnOk result (IsOn net.old shells.old.items net.new shells.new.items) }
-    ensures kept { IsErrOf result Stop.Full →
-        IsKept net.old shells.old.items net.new shells.new.items }
+    requires together { AreTogether company.old }
     ensures goes { OnOk result
-        (Goes net.old shells.old.items score.now (storm_steps (two_words number) 0 most) net.new
-        shells.new.items score.now []) }
+        (LineEnded (storm_steps (two_words number) 0 most) [] company.old company.new) }
     ensures fills { IsErrOf result Stop.Full →
-        Fills net.old shells.old.items score.now (storm_steps (two_words number) 0 most) net.new }
+        LineRefused (storm_steps (two_words number) 0 most) company.old company.new }
 {
-    let Ok(actors) = numbers_of(alloc, shells.as_slice()) else {
-        return Err(Stop::OutOfMemory);
-    };
+    let actors = numbers_of(alloc, company.shells.as_slice())?;
     let numbers = actors.as_slice();
     let mut storm = Storm::start(number);
     for done in 0..most {
         let _ = done;
-        match storm_step(rt, alloc, net, shells, score, &mut storm, numbers, gate) {
-            Ok(()) => {}
-            Err(stop) => return Err(stop),
-        }
+        storm_step(rt, alloc, company, &mut storm, numbers, gate)?;
     }
     Ok(())
 }

@@ -1,5 +1,5 @@
 -- What a driver's answer says of a scenario.
-use Rattle.std.proofs.Common.{◌≡◌, ◌≢◌, ◌≤◌, ℕ, List, [], ◌∷◌, map, Bool, true, false, Some, refl, sym, ◌∙◌, ap, subst}
+use Rattle.std.proofs.Common.{◌≡◌, ◌≢◌, ◌≤◌, ℕ, List, [], ◌∷◌, map, Bool, Some, inl, inr, refl, ◌∙◌, ap, subst}
 use Rattle.std.specs.Prelude.{⊤}
 use Rattle.sc_cmd.specs.declared.orders.OrderLine.{OrderLine}
 use Rattle.sc_mail.specs.declared.bodies.Mail.{Mail}
@@ -13,8 +13,8 @@ use Rattle.sc_actor.specs.Walk.{IsLawful, IsWhole, skipped, unsettled, is_quiet}
 use Rattle.sc_actor.specs.Counted.{IsFull}
 use Rattle.sc_shell.specs.declared.shells.Shell.{Shell}
 use Rattle.sc_drive.specs.Companies.{seats}
-use Rattle.sc_drive.specs.declared.steps.Driven.{Driven}
-use Rattle.sc_drive.specs.declared.steps.Driven.TheVariants as driven
+use Rattle.sc_actor.specs.declared.schedules.Played.{Played}
+use Rattle.sc_actor.specs.declared.schedules.Played.TheVariants.{Ended, Full, OutOfMemory}
 use Rattle.sc_scenario.specs.Valid.{IsValid}
 use Rattle.sc_scenario.specs.declared.scenarios.Scenario.{Scenario}
 use Rattle.sc_report.specs.Report.{report_lines}
@@ -22,19 +22,20 @@ use Rattle.sc_sound.specs.Players.{schedule, system_of, Lawful, parties, Player,
 use Rattle.sc_world.specs.Summary.{summary_of}
 use Rattle.sc_whole_law.specs.Valid.{ValidJournalsAreSound}
 use Rattle.sc_statuses.specs.Causes.{said_of}
+use Rattle.sc_statuses.specs.declared.said.Said.TheVariants.{Filled}
 use Rattle.sc_run.specs.declared.done.Text.{Text}
 use Rattle.sc_run.specs.Played.{mail_weight, HasPlayedToEnd, HasFilled}
-use Rattle.sc_run.specs.Run.{journal_limit, Plays, ReportsAs}
+use Rattle.sc_run.specs.Run.{journal_limit, Comes, TellsFull}
 
 -- an answer other than a want of memory
-abbrev Drove : Driven → Type 0
-Drove (driven.Ended cut quiet skips) = ⊤
-Drove driven.Full = ⊤
-Drove driven.OutOfMemory = ⊥
+abbrev GoesOn : Played → Type 0
+GoesOn (Ended cut quiet skips) = ⊤
+GoesOn Full = ⊤
+GoesOn OutOfMemory = ⊥
 
 -- a run that ended is no want of memory
-pub drove_on : (cut quiet : Bool) (skips : ℕ) → driven.Ended cut quiet skips ≢ driven.OutOfMemory
-drove_on cut quiet skips e = subst Drove e tt
+pub no_want : (cut quiet : Bool) (skips : ℕ) → Ended cut quiet skips ≢ OutOfMemory
+no_want cut quiet skips e = subst GoesOn e tt
 
 -- the actors of shells are those of their seats
 pub actors_of : {A M O : Type 0} {g : Ghosts A M O} {h : MailGhosts M} (ss : List (Shell A M O g h)) → map (λ s. s.actor) ss ≡ map (λ seat. seat.actor) (seats ss)
@@ -66,17 +67,15 @@ module _ (law : ValidJournalsAreSound) (scenario : Scenario) (valid : IsValid sc
       let full : IsFull (system_of as_nodes two_words scenario) mail_weight (schedule scenario) limit journal = subst (λ l. IsFull (system_of as_nodes two_words scenario) mail_weight l limit journal) lines_are h in
       record { full = full; sound = law as_nodes refl two_words scenario valid journal full.lawful }
 
-module _ (Shows : List (Row Mail OrderLine) → List (List ℕ) → Type 0) where
-  plays : (scenario : Scenario) (cut quiet : Bool) (skips : ℕ) (journal : List (Row Mail OrderLine)) (parties : List Player) (text : Text) →
-      HasPlayedToEnd scenario journal_limit cut quiet skips journal parties → Shows journal text.lines → text.journal ≡ Some journal → text.parties ≡ parties → Plays Shows scenario cut text
-  plays scenario cut quiet skips journal parties text e lines journal_is parties_is = record {
-    journal = journal;
-    reports = record { lawful = e.lawful; whole = e.whole; within = e.within; sound = e.sound; lines = lines; journal_is = journal_is; parties_are = parties_is ∙ e.parties_are };
-    cut_is = sym e.cut_is;
-  }
+-- the text of a run that ended
+pub comes_ended : (Shows : List (Row Mail OrderLine) → List (List ℕ) → Type 0) (scenario : Scenario) (cut quiet : Bool) (skips : ℕ) (journal : List (Row Mail OrderLine)) (parties : List Player) (text : Text) →
+    HasPlayedToEnd scenario journal_limit cut quiet skips journal parties → Shows journal text.lines → text.journal ≡ Some journal → text.parties ≡ parties → Comes Shows scenario (said_of cut) text
+comes_ended Shows scenario cut quiet skips journal parties text e lines journal_is parties_is = inl (record {
+  journal = journal;
+  reports = record { lawful = e.lawful; whole = e.whole; within = e.within; sound = e.sound; lines = lines; journal_is = journal_is; parties_are = parties_is ∙ e.parties_are };
+  said_is = ap said_of e.cut_is;
+})
 
-  -- the text of a run that ended, by whether a line was cut off
-  pub reports_as : (scenario : Scenario) (cut quiet : Bool) (skips : ℕ) (journal : List (Row Mail OrderLine)) (parties : List Player) (text : Text) →
-      HasPlayedToEnd scenario journal_limit cut quiet skips journal parties → Shows journal text.lines → text.journal ≡ Some journal → text.parties ≡ parties → ReportsAs Shows (said_of cut) scenario text
-  reports_as scenario true quiet skips journal parties text e lines journal_is parties_is = plays scenario true quiet skips journal parties text e lines journal_is parties_is
-  reports_as scenario false quiet skips journal parties text e lines journal_is parties_is = plays scenario false quiet skips journal parties text e lines journal_is parties_is
+-- the text about a journal that is full
+pub comes_full : (Shows : List (Row Mail OrderLine) → List (List ℕ) → Type 0) (scenario : Scenario) (journal : List (Row Mail OrderLine)) (text : Text) → HasFilled scenario journal_limit journal → TellsFull journal text → Comes Shows scenario Filled text
+comes_full Shows scenario journal text filled tells = inr (record { journal = journal; filled = filled; tells = tells; said_is = refl })

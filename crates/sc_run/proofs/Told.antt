@@ -1,5 +1,6 @@
 -- An audit of a lawful journal's file says yes.
-use Rattle.std.proofs.Common.{◌≡◌, ◌≤◌, ℕ, List, length, take, drop, Some, Ok, inl, inr, refl, sym, ap, subst, take-append-drop}
+use Rattle.std.proofs.Common.{◌≡◌, ◌≤◌, ◌∙◌, ℕ, List, length, take, drop, Some, inl, inr, sym, ap, subst, take-append-drop}
+use Rattle.std.specs.Prelude.{IfSome}
 use Rattle.std.specs.List.{concat}
 use Rattle.sc_actor.specs.Walk.{IsLawful}
 use Rattle.sc_actor.specs.declared.rows.Row.{Row}
@@ -9,33 +10,41 @@ use Rattle.sc_cmd.specs.declared.orders.OrderLine.{OrderLine}
 use Rattle.sc_mail.specs.declared.bodies.Mail.{Mail}
 use Rattle.sc_scenario.specs.declared.scenarios.Scenario.{Scenario}
 use Rattle.sc_journal_file.specs.Laws.{FilesHaveOneVerdict, PrintedFilesAreFiles}
-use Rattle.sc_journal_file.specs.Stored.{most_file_bytes, file_text, IsFile}
+use Rattle.sc_edges.specs.Uses.{SourceUse}
+use Rattle.sc_journal_file.specs.Stored.{most_file_bytes, file_text, IsFile, IsBadFile}
 use Rattle.sc_sound.specs.Players.{system_of, schedule, Lawful, as_nodes}
 use Rattle.sc_statuses.specs.declared.said.Said.{Said}
-use Rattle.sc_statuses.specs.declared.said.Said.TheVariants as said
 use Rattle.sc_run.specs.declared.done.Text.{Text}
 use Rattle.sc_run.specs.Audited.{SaysYes, LawfulFilesAreTold, PrintedJournalsAreTold}
-use Rattle.sc_run.specs.Run.{Audits}
+use Rattle.sc_wants.specs.Inputs.{ReadsFile}
+use Rattle.sc_run.specs.Run.{HoldsUnlawful, NamesBadLine}
 
 -- a first part of a lawful journal is lawful
 front_lawful : (scenario : Scenario) (rows : List (Row Mail OrderLine)) (at : ℕ) → Lawful as_nodes two_words scenario rows → Lawful as_nodes two_words scenario (take at rows)
 front_lawful scenario rows at lawful =
     lawful-prefix (system_of as_nodes two_words scenario) (schedule scenario) (take at rows) (drop at rows) (subst (IsLawful (system_of as_nodes two_words scenario) (schedule scenario)) (sym (take-append-drop at rows)) lawful)
 
+-- an audit of a file whose rows are lawful does not name a bad line
+not_bad : FilesHaveOneVerdict → (file : List ℕ) (scenario : Scenario) (rows : List (Row Mail OrderLine)) → IsFile file scenario rows → (source : SourceUse) → source.left ≡ Some file → (what : Said) (text : Text) → NamesBadLine IsBadFile source what text → ⊥
+not_bad one file scenario rows is source left what text names =
+    one.not_both file scenario rows names.line names.why is (subst (λ o. IfSome o (λ input. IsBadFile input names.line names.why)) left names.bad)
+
+-- .. nor a bad row
+not_unlawful : (file : List ℕ) (scenario : Scenario) (rows : List (Row Mail OrderLine)) → IsFile file scenario rows → Lawful as_nodes two_words scenario rows → (source : SourceUse) → source.left ≡ Some file
+    → (what : Said) (text : Text) (read : Scenario) (those : List (Row Mail OrderLine)) → ReadsFile source.left read those → HoldsUnlawful read those what text → ⊥
+not_unlawful file scenario rows is lawful source left what text read those reads holds =
+    let all : reads.file ≡ file = subst (λ o. IfSome o (λ input. reads.file ≡ input)) left reads.all in
+    let same = reads.stores.one scenario rows (subst (λ f. IsFile f scenario rows) (sym all) is) in
+    let also : Lawful as_nodes two_words read those = subst (λ s. Lawful as_nodes two_words s those) same.0 (subst (Lawful as_nodes two_words scenario) same.1 lawful) in
+    holds.unlawful.not_with (front_lawful read those holds.at also)
+
 pub told : FilesHaveOneVerdict → LawfulFilesAreTold
-told one file scenario rows is lawful before now said.Ended text says = absurd says
-told one file scenario rows is lawful before now said.Unsettled text says = absurd says
-told one file scenario rows is lawful before now said.Filled text says = absurd says
-told one file scenario rows is lawful before now said.Usage text says = absurd says
-told one file scenario rows is lawful before now said.BadScenario text says = absurd (one.not_both file scenario rows says.line says.why is says.bad)
-told one file scenario rows is lawful before now said.ReadFault text says = inr refl
-told one file scenario rows is lawful before now said.Lawful text says = inl refl
-told one file scenario rows is lawful before now said.Unlawful text says =
-    let same = says.read.stores.one scenario rows (subst (λ f. IsFile f scenario rows) (sym says.read.all) is) in
-    let also : Lawful as_nodes two_words says.scenario says.rows = subst (λ s. Lawful as_nodes two_words s says.rows) same.0 (subst (Lawful as_nodes two_words scenario) same.1 lawful) in
-    absurd (says.audits.unlawful.not_with (front_lawful says.scenario says.rows says.audits.at also))
+told one file scenario rows is lawful source left what text (inl (inl fails)) = inr fails.said_is
+told one file scenario rows is lawful source left what text (inl (inr names)) = absurd (not_bad one file scenario rows is source left what text names)
+told one file scenario rows is lawful source left what text (inr reads) =
+    elim reads.audits as (λ _. SaysYes what) [ inl yes ↦ inl yes.said_is | inr no ↦ absurd (not_unlawful file scenario rows is lawful source left what text reads.scenario reads.rows reads.read no) ]
 
 pub printed_told : FilesHaveOneVerdict → PrintedFilesAreFiles → PrintedJournalsAreTold
-printed_told one files bytes scenario rows printed read reports few before now what text says =
+printed_told one files bytes scenario rows printed read reports few source left what text says =
     let lines = ap concat reports.lines.0 in
-    told one (file_text bytes rows) scenario rows (files bytes scenario rows read reports.lines.1 (subst (λ file. length file ≤ most_file_bytes) lines few)) reports.lawful before now what text (subst (λ file. Audits (Some file) before now what text) lines says)
+    told one (file_text bytes rows) scenario rows (files bytes scenario rows read reports.lines.1 (subst (λ file. length file ≤ most_file_bytes) lines few)) reports.lawful source (left ∙ ap Some lines) what text says

@@ -5,6 +5,7 @@ use Rattle.sc_cmd.specs.declared.orders.OrderLine.{OrderLine}
 use Rattle.sc_mail.specs.declared.bodies.Mail.{Mail}
 use Rattle.sc_actor.specs.declared.rows.Row.{Row}
 use Rattle.sc_chance.specs.Words.{two_words}
+use Rattle.sc_edges.specs.Uses.{SourceUse}
 use Rattle.sc_scenario.specs.Grammar.{verdict_of}
 use Rattle.sc_scenario.specs.declared.scenarios.Scenario.{Scenario}
 use Rattle.sc_journal_file.specs.Stored.{most_file_bytes, IsFile}
@@ -21,9 +22,9 @@ SaysYes what = (what ≡ said.Lawful) ⊎ (what ≡ said.ReadFault)
 -- an audit of a file whose rows are a lawful journal of its scenario says yes
 abbrev pub LawfulFilesAreTold : Type 0
 LawfulFilesAreTold = (file : List ℕ) (scenario : Scenario) (rows : List (Row Mail OrderLine)) → IsFile file scenario rows → Lawful as_nodes two_words scenario rows
-    → (before now : ℕ) (what : Said) (text : Text) → Audits (Some file) before now what text → SaysYes what
+    → (source : SourceUse) → source.left ≡ Some file → (what : Said) (text : Text) → Audits source what text → SaysYes what
 
 -- an audit of what was printed behind a scenario's text, if it is no longer than a file may be, says yes
 abbrev pub PrintedJournalsAreTold : Type 0
 PrintedJournalsAreTold = (bytes : List ℕ) (scenario : Scenario) (rows : List (Row Mail OrderLine)) (printed : Text) → verdict_of bytes ≡ Ok scenario → ReportsJournal (ShowsFile bytes) scenario rows printed → length (concat printed.lines) ≤ most_file_bytes
-    → (before now : ℕ) (what : Said) (text : Text) → Audits (Some (concat printed.lines)) before now what text → SaysYes what
+    → (source : SourceUse) → source.left ≡ Some (concat printed.lines) → (what : Said) (text : Text) → Audits source what text → SaysYes what

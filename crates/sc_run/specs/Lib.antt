@@ -1,3 +1,4 @@
 pub mod Audited
 pub mod Played
+pub mod Refusals
 pub mod Run

@@ -10,8 +10,8 @@ use Rattle.sc_actor.specs.Counted.{IsFull}
 use Rattle.sc_scenario.specs.declared.scenarios.Scenario.{Scenario}
 use Rattle.sc_sound.specs.Soundness.{IsSoundThroughout}
 use Rattle.sc_sound.specs.Players.{system_of, schedule, Lawful, Whole, parties, Player, as_nodes}
-use Rattle.sc_statuses.specs.declared.said.Played.{Played}
-use Rattle.sc_statuses.specs.declared.said.Played.TheVariants.{Ended, Full, OutOfMemory}
+use Rattle.sc_actor.specs.declared.schedules.Played.{Played}
+use Rattle.sc_actor.specs.declared.schedules.Played.TheVariants.{Ended, Full, OutOfMemory}
 use Rattle.sc_chance.specs.Words.{two_words}
 
 -- what a mail weighs

@@ -52,7 +52,7 @@ pub fn audit(
     requires valid { IsValid scenario.now }
     requires few_rows { length rows < 2 ^ 31 }
     requires few_mails { length (mails rows) < 2 ^ 31 }
-    ensures { IfOk result (λ begun. AuditsAs begun.0 scenario.now rows begun.1) }
+    ensures { IfOk result (λ begun. AuditsAs scenario.now rows begun.0 begun.1) }
 {
     match bad_row(alloc, scenario, &rows)? {
         None => {

@@ -8,6 +8,7 @@ mod done;
 mod played;
 mod reporting;
 mod running;
+mod saying;
 mod telling;
 
 pub use auditing::{audit, lawful_journals_are_told};

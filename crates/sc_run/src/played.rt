@@ -1,62 +1,43 @@
 //! A scenario played to its end, through the shells of its actors.
 ghost use Rattle.std.specs.Prelude.{◌≢◌, map};
+ghost use Rattle.sc_actor.specs.declared.schedules.Played.TheVariants.{OutOfMemory};
 ghost use Rattle.sc_exchange.specs.Ports.{seen};
-ghost use Rattle.sc_drive.specs.Companies.{AtBirth};
-ghost use Rattle.sc_drive.specs.Goings.{IsKept};
+ghost use Rattle.sc_drive.specs.Working.{HasOpened, StaysWhole};
 ghost use Rattle.sc_scenario.specs.Valid.{IsValid};
 ghost use Rattle.sc_sound.specs.Players.{births, as_nodes};
 ghost use Rattle.sc_run.specs.Played.{IsPlayed};
 
-use sc_actor::Gate;
-use sc_cmd::OrderLine;
-use sc_drive::{Driven, drive};
-use sc_exchange::Port;
-use sc_mail::Mail;
+use sc_actor::{Gate, Played};
+use sc_drive::{Company, drive};
 use sc_scenario::Scenario;
-use sc_shell::Shell;
-use sc_statuses::Played;
 use sc_whole_law::valid_journals_are_sound;
 use sc_world::{Party, schedule, valid_scenarios_can_play};
 use std::alloc::Global;
 use std::sync::Wait;
 use std::thread::Threads;
 
-/// Plays a scenario through the network's port and the shells of its actors, which are as they
-/// begin: actors step in their shells alone, and mail is lost and repeated by that port alone.
+/// Plays a scenario through its company, which has just opened: actors step in their shells alone,
+/// and mail is lost and repeated by the network's port alone.
 ///
-/// The scenario is one that some text is. The journal is what the network's port has seen at the
-/// end, and its limit is that of the exchange.
+/// The scenario is one that some text is, or that was made. The journal is what the network's port
+/// has seen at the end, and its limit is that of the exchange.
 pub fn play<G: Gate, R: Threads + Wait + Sync>(
     rt: &R,
     alloc: Global,
     scenario: &Scenario,
-    net: &mut Port<Mail, OrderLine>,
-    shells: &mut Vec<Shell<Party>>,
+    company: &mut Company<Party>,
     gate: &G,
 ) -> Played
     requires valid { IsValid scenario.now }
-    requires begins { AtBirth (births as_nodes scenario.now) net.old shells.old.items }
-    ensures kept { result ≢ Played.OutOfMemory →
-        IsKept net.old shells.old.items net.new shells.new.items }
-    ensures played { IsPlayed scenario.now net.old.limit (seen net.new)
-        (map (λ s. s.actor) shells.new.items) result }
+    requires opened { HasOpened (births as_nodes scenario.now) company.old }
+    ensures kept { result ≢ OutOfMemory → StaysWhole company.old company.new }
+    ensures played { IsPlayed scenario.now company.old.net.limit (seen company.new.net)
+        (map (λ s. s.actor) company.new.shells.items) result }
 {
     valid_scenarios_can_play();
     valid_journals_are_sound();
     let Ok(lines) = schedule(alloc, scenario) else {
         return Played::OutOfMemory;
     };
-    match drive(rt, alloc, net, shells, lines.as_slice(), gate) {
-        Driven::Ended {
-            unsettled,
-            quiet,
-            skipped,
-        } => Played::Ended {
-            unsettled,
-            quiet,
-            skipped,
-        },
-        Driven::Full => Played::Full,
-        Driven::OutOfMemory => Played::OutOfMemory,
-    }
+    drive(rt, alloc, company, lines.as_slice(), gate)
 }

@@ -2,13 +2,13 @@
 ghost use Rattle.std.specs.Prelude.{◌≡◌, ◌≤◌, ◌^◌, IfOk};
 ghost use Rattle.sc_scenario.specs.Valid.{IsValid};
 ghost use Rattle.sc_run.specs.Played.{IsPlayed};
-ghost use Rattle.sc_run.specs.Run.{ReportsAs, ShowsFile, ShowsReport};
+ghost use Rattle.sc_run.specs.Run.{Comes, ShowsFile, ShowsReport};
 
 use crate::begun::begin;
 use crate::done::Text;
 use crate::played::play;
 use crate::telling::tells_full;
-use sc_actor::{Gate, Journal};
+use sc_actor::{Gate, Journal, Played};
 use sc_base::{OutOfMemory, Sequence};
 use sc_cmd::OrderLine;
 use sc_drive::close;
@@ -16,7 +16,7 @@ use sc_journal_file::file_lines;
 use sc_mail::Mail;
 use sc_report::lines;
 use sc_scenario::Scenario;
-use sc_statuses::{Played, Said, said_by};
+use sc_statuses::{Said, said_by};
 use sc_world::{Party, sum_up};
 use std::alloc::Global;
 use std::sync::Wait;
@@ -45,12 +45,12 @@ pub fn play_whole<G: Gate, R: Threads + Wait + Sync>(
     ensures { IfOk result
         (λ left. IsPlayed scenario.now limit left.journal left.parties left.played) }
 {
-    let (mut net, mut shells) = begin(alloc, scenario, limit)?;
-    let played = play(rt, alloc, scenario, &mut net, &mut shells, gate);
+    let mut company = begin(alloc, scenario, limit)?;
+    let played = play(rt, alloc, scenario, &mut company, gate);
     if played == Played::OutOfMemory {
         return Err(OutOfMemory);
     }
-    let (journal, parties) = close(rt, alloc, net, shells)?;
+    let (journal, parties) = close(rt, alloc, company)?;
     Ok(Left {
         played,
         journal,
@@ -69,7 +69,7 @@ pub fn report<G: Gate, R: Threads + Wait + Sync>(
 ) -> Result<(Said, Text), OutOfMemory>
     requires { IsValid scenario.now }
     ensures { IfOk result (λ begun.
-        ReportsAs (ShowsReport scenario.now) begun.0 scenario.now begun.1) }
+        Comes (ShowsReport scenario.now) scenario.now begun.0 begun.1) }
 {
     let left = play_whole(rt, alloc, scenario, 1 << 30, gate)?;
     let Some(said) = said_by(left.played) else {
@@ -107,7 +107,7 @@ pub fn store<G: Gate, R: Threads + Wait + Sync>(
 ) -> Result<(Said, Text), OutOfMemory>
     requires { IsValid scenario.now }
     ensures { IfOk result (λ begun.
-        ReportsAs (ShowsFile bytes.now) begun.0 scenario.now begun.1) }
+        Comes (ShowsFile bytes.now) scenario.now begun.0 begun.1) }
 {
     let left = play_whole(rt, alloc, scenario, 1 << 30, gate)?;
     let Some(said) = said_by(left.played) else {

@@ -4,8 +4,9 @@ use Rattle.std.specs.List.{concat}
 use Rattle.std.specs.Io.KnownBytes.{Appends}
 use Rattle.sc_edges.specs.Bytes.{AppendsPart}
 use Rattle.sc_edges.specs.Causes.{Rose}
-use Rattle.sc_statuses.specs.declared.said.Played.{Played}
-use Rattle.sc_statuses.specs.declared.said.Played.TheVariants as Was
+use Rattle.sc_edges.specs.Uses.{SinkUse}
+use Rattle.sc_actor.specs.declared.schedules.Played.{Played}
+use Rattle.sc_actor.specs.declared.schedules.Played.TheVariants as Was
 use Rattle.sc_statuses.specs.declared.said.Said.{Said}
 use Rattle.sc_statuses.specs.declared.said.Said.TheVariants.{Ended, Unsettled, Filled, Usage, BadScenario, ReadFault, Lawful, Unlawful}
 
@@ -40,7 +41,7 @@ abbrev pub BringsFirst : Option (List (List ℕ)) → Option (List (List ℕ)) �
 BringsFirst told told' lines = (n : ℕ) × BringsLines told told' (take n lines)
 
 -- The lines of a text were printed whole, each by one call of the sink, or up to a fault of the sink, which wins over the status that the text belongs to.
-abbrev pub Prints : Option (List ℕ) → Option (List ℕ) → Option (List (List ℕ)) → Option (List (List ℕ)) → ℕ → ℕ → Said → List (List ℕ) → ℕ → Type 0
-Prints held gained told told' before now said lines status =
-    ((status ≡ status_of said) × Appends held gained (concat lines) × BringsLines told told' lines)
-    ⊎ ((status ≡ 5) × AppendsPart held gained (concat lines) × BringsFirst told told' lines × Rose before now)
+abbrev pub Prints : SinkUse → Said → List (List ℕ) → ℕ → Type 0
+Prints sink said lines status =
+    ((status ≡ status_of said) × Appends sink.held_before sink.held_after (concat lines) × BringsLines sink.pieces_before sink.pieces_after lines)
+    ⊎ ((status ≡ 5) × AppendsPart sink.held_before sink.held_after (concat lines) × BringsFirst sink.pieces_before sink.pieces_after lines × Rose sink.faults_before sink.faults_after)

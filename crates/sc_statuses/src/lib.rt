@@ -6,4 +6,4 @@ mod printing;
 mod said;
 
 pub use printing::print;
-pub use said::{Played, Said, said_by};
+pub use said::{Said, said_by};

@@ -31,8 +31,16 @@ fn put_all<K: Sink>(sink: &mut K, lines: &[ReportLine]) -> Result<(), Failed>
 /// Puts each line of a text by one call of the sink, and answers the status that the text belongs
 /// to, or 5 after a fault of the sink.
 pub fn print<K: Sink>(sink: &mut K, said: Said, lines: &[ReportLine]) -> u8
-    ensures prints { Prints (K.held sink.old) (K.held sink.new) (K.pieces sink.old)
-        (K.pieces sink.new) (K.faults sink.old) (K.faults sink.new) said lines.now result }
+    ensures prints { Prints (record {
+        held_before = K.held sink.old;
+        held_after = K.held sink.new;
+        pieces_before = K.pieces sink.old;
+        pieces_after = K.pieces sink.new;
+        faults_before = K.faults sink.old;
+        faults_after = K.faults sink.new;
+        calls_before = K.calls sink.old;
+        calls_after = K.calls sink.new })
+        said lines.now result }
     ensures calls { K.calls sink.new ≤ K.calls sink.old + length lines.now }
 {
     match put_all(sink, lines) {

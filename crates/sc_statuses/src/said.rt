@@ -2,20 +2,7 @@
 ghost use Rattle.std.specs.Prelude.{◌≡◌};
 ghost use Rattle.sc_statuses.specs.Causes.{said_by, status_of};
 
-/// How a scenario was played.
-#[derive(Clone, Copy, Debug, PartialEq, Eq)]
-pub enum Played {
-    /// To its end: whether a line ended with mail pending, whether none is pending now, and how
-    /// many lines were skipped.
-    Ended {
-        unsettled: bool,
-        quiet: bool,
-        skipped: u64,
-    },
-    /// To a row that would pass the limit of the exchange.
-    Full,
-    OutOfMemory,
-}
+use sc_actor::Played;
 
 /// Which text was begun.
 #[derive(Clone, Copy)]

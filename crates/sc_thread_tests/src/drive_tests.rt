@@ -2,8 +2,8 @@
 ghost use Rattle.std.specs.Prelude.{◌≤◌};
 
 use crate::players::{Open, Pair, seats};
-use sc_actor::{Gate, Line};
-use sc_drive::{Driven, drive, goers_are_spared, open};
+use sc_actor::{Gate, Line, Played};
+use sc_drive::{drive, goers_are_spared, open};
 use std::alloc::Global;
 use std::mem::forget;
 use std::process::Abort;
@@ -20,15 +20,14 @@ fn driven_to<G: Gate, R: Threads + Wait + Abort + Sync>(
     starves: u32,
     lines: &[Line<u32>],
     gate: &G,
-) -> Driven
+) -> Played
     requires { bytes ≤ 1000000 }
 {
     assert!(rt; goers_are_spared(lines));
     let seats = seats(rt, alloc, other, 4, starves);
-    let (mut net, mut shells) = open(alloc, seats, 3, bytes).expect(rt, "memory");
-    let end = drive(rt, alloc, &mut net, &mut shells, lines, gate);
-    forget(net);
-    forget(shells);
+    let mut company = open(alloc, seats, 3, bytes).expect(rt, "memory");
+    let end = drive(rt, alloc, &mut company, lines, gate);
+    forget(company);
     end
 }
 
@@ -39,7 +38,7 @@ fn delivered<R: Threads + Wait + Abort + Sync>(
     bytes: u64,
     starves: u32,
     workers: u32,
-) -> Driven
+) -> Played
     requires { bytes ≤ 1000000 }
 {
     let lines: [Line<u32>; 4] = [
@@ -52,7 +51,7 @@ fn delivered<R: Threads + Wait + Abort + Sync>(
 }
 
 // The line of deliveries is cut off, and the last line delivers the rest.
-fn cut_off<R: Threads + Wait + Abort + Sync>(rt: &R, alloc: Global, workers: u32) -> Driven {
+fn cut_off<R: Threads + Wait + Abort + Sync>(rt: &R, alloc: Global, workers: u32) -> Played {
     let lines: [Line<u32>; 4] = [
         Line::Go { who: 1 },
         Line::Go { who: 2 },
@@ -62,13 +61,13 @@ fn cut_off<R: Threads + Wait + Abort + Sync>(rt: &R, alloc: Global, workers: u32
     driven_to(rt, alloc, 1 << 19, 2, 0, &lines, &Open)
 }
 
-const QUIET: Driven = Driven::Ended {
+const QUIET: Played = Played::Ended {
     unsettled: false,
     quiet: true,
     skipped: 1,
 };
 
-const CUT_OFF: Driven = Driven::Ended {
+const CUT_OFF: Played = Played::Ended {
     unsettled: true,
     quiet: true,
     skipped: 0,
@@ -83,7 +82,7 @@ fn free_lines_end_by_their_causes(rt: HostRuntime) {
             delivered(&rt, rt.alloc(), 1 << 19, 2, workers),
             cut_off(&rt, rt.alloc(), workers),
         ];
-        assert!(rt; ends == [QUIET, Driven::Full, Driven::OutOfMemory, CUT_OFF]);
+        assert!(rt; ends == [QUIET, Played::Full, Played::OutOfMemory, CUT_OFF]);
     }
 }
 
@@ -118,7 +117,7 @@ const LINES_WITH_A_STORM: &[Line<u32>] = &[
 #[test]
 fn storms_are_driven(rt: HostRuntime) {
     let end = driven_to(&rt, rt.alloc(), 1 << 19, 2, 0, LINES_WITH_A_STORM, &Open);
-    let wanted = Driven::Ended {
+    let wanted = Played::Ended {
         unsettled: false,
         quiet: true,
         skipped: 0,
@@ -131,7 +130,7 @@ fn storms_are_driven(rt: HostRuntime) {
 #[test]
 fn lines_of_one_row_are_made_or_skipped(rt: HostRuntime) {
     let some = driven_to(&rt, rt.alloc(), 1 << 19, 2, 0, LINES_OF_ONE_ROW, &Open);
-    let wanted = Driven::Ended {
+    let wanted = Played::Ended {
         unsettled: true,
         quiet: false,
         skipped: 5,
@@ -147,7 +146,7 @@ fn mail_to_nobody_is_passed_over(rt: HostRuntime) {
         Line::Settle { most: 100 },
     ];
     let passed = driven_to(&rt, rt.alloc(), 1 << 19, 3, 0, &lines, &Open);
-    let wanted = Driven::Ended {
+    let wanted = Played::Ended {
         unsettled: false,
         quiet: true,
         skipped: 0,
@@ -161,7 +160,7 @@ fn met<R: Threads + Wait + Abort + Sync>(
     alloc: Global,
     workers: u32,
     turns: u32,
-) -> (Driven, u64) {
+) -> (Played, u64) {
     let gate = Pair {
         turns,
         come: AtomicU64::new(0),
@@ -178,7 +177,7 @@ fn met<R: Threads + Wait + Abort + Sync>(
 
 #[test]
 fn threads_work_at_the_same_time(rt: HostRuntime) {
-    let end = Driven::Ended {
+    let end = Played::Ended {
         unsettled: true,
         quiet: false,
         skipped: 0,

@@ -3,16 +3,13 @@ ghost use Rattle.std.specs.Prelude.{◌≡◌, [], List};
 ghost use Rattle.sc_exchange.specs.Ports.{given, joined_ports};
 ghost use Rattle.sc_workers.specs.Crews.{AllOf, crew_numbers};
 ghost use Rattle.sc_actor.specs.declared.actors.Seat.{Seat};
-ghost use Rattle.sc_drive.specs.Companies.{AtBirth};
-ghost use Rattle.sc_drive.specs.Goings.{IsKept};
+ghost use Rattle.sc_drive.specs.Working.{HasOpened, StaysWhole};
 
 use crate::notes::Note;
 use crate::players::{Open, Player, go, seats};
-use sc_actor::{Line, Row, Seat, are_few};
+use sc_actor::{Line, Played, Row, Seat, are_few};
 use sc_checker::replay;
-use sc_drive::{Driven, close, drive, goers_are_spared, open};
-use sc_exchange::Port;
-use sc_shell::Shell;
+use sc_drive::{Company, close, drive, goers_are_spared, open};
 use sc_workers::gather;
 use std::alloc::Global;
 use std::mem::forget;
@@ -52,21 +49,15 @@ fn seated(seats: &[Seat<Player>]) -> u32 {
 }
 
 // What is left at the end, where all gather before.
-fn ended<R: Wait + Abort>(
-    rt: &R,
-    alloc: Global,
-    net: Port<Note, u32>,
-    shells: Vec<Shell<Player>>,
-) -> (u32, u32)
-    requires net { net.who ≡ 0 }
-    requires exchange { AllOf net shells.items }
-    requires all { given net ≡ crew_numbers shells.items }
-    requires none { joined_ports net ≡ [] }
+fn ended<R: Wait + Abort>(rt: &R, alloc: Global, company: Company<Player>) -> (u32, u32)
+    requires net { company.net.who ≡ 0 }
+    requires exchange { AllOf company.net company.shells.items }
+    requires all { given company.net ≡ crew_numbers company.shells.items }
+    requires none { joined_ports company.net ≡ [] }
 {
-    let mut all = net;
-    let mut shells = shells;
-    let _ = gather(rt, &mut all, &mut shells).expect(rt, "memory");
-    let (journal, actors) = close(rt, alloc, all, shells).expect(rt, "memory");
+    let mut company = company;
+    let _ = gather(rt, &mut company.net, &mut company.shells).expect(rt, "memory");
+    let (journal, actors) = close(rt, alloc, company).expect(rt, "memory");
     let left = (makers(journal.as_slice()), players(actors.as_slice()));
     forget(journal);
     forget(actors);
@@ -75,27 +66,27 @@ fn ended<R: Wait + Abort>(
 
 // What is left where the actors at these places went.
 fn left_after<R: Wait + Abort>(rt: &R, alloc: Global, places: &[usize]) -> (u32, u32) {
-    let (net, mut shells) = open(alloc, seats(rt, alloc, 2, 7, 0), 2, 1 << 19).expect(rt, "memory");
+    let seats = seats(rt, alloc, 2, 7, 0);
+    let mut company = open(alloc, seats, 2, 1 << 19).expect(rt, "memory");
     for place in places {
-        go(rt, alloc, &net, &mut shells, *place);
+        go(rt, alloc, &company.net, &mut company.shells, *place);
     }
-    ended(rt, alloc, net, shells)
+    ended(rt, alloc, company)
 }
 
 fn drive_all<R: Threads + Wait + Abort + Sync>(
     rt: &R,
     alloc: Global,
-    net: &mut Port<Note, u32>,
-    shells: &mut Vec<Shell<Player>>,
+    company: &mut Company<Player>,
     lines: &[Line<u32>],
 )
-    requires begins { (births : List (Seat Player)) × AtBirth births net.old shells.old.items }
-    ensures kept { IsKept net.old shells.old.items net.new shells.new.items }
+    requires begins { (births : List (Seat Player)) × HasOpened births company.old }
+    ensures kept { StaysWhole company.old company.new }
 {
     assert!(rt; goers_are_spared(lines));
-    match drive(rt, alloc, net, shells, lines, &Open) {
-        Driven::OutOfMemory => panic!(rt; "memory"),
-        Driven::Full | Driven::Ended { .. } => {}
+    match drive(rt, alloc, company, lines, &Open) {
+        Played::OutOfMemory => panic!(rt; "memory"),
+        Played::Full | Played::Ended { .. } => {}
     }
 }
 
@@ -124,11 +115,10 @@ fn left_by<R: Threads + Wait + Abort + Sync>(
     alloc: Global,
     lines: &[Line<u32>],
 ) -> (u32, u32, bool) {
-    let (mut net, mut shells) = open(alloc, seats(rt, alloc, 2, 7, 0), 2, 1 << 19).expect(
-        rt, "memory",
-    );
-    drive_all(rt, alloc, &mut net, &mut shells, lines);
-    let (journal, actors) = close(rt, alloc, net, shells).expect(rt, "memory");
+    let seats = seats(rt, alloc, 2, 7, 0);
+    let mut company = open(alloc, seats, 2, 1 << 19).expect(rt, "memory");
+    drive_all(rt, alloc, &mut company, lines);
+    let (journal, actors) = close(rt, alloc, company).expect(rt, "memory");
     let left = players(actors.as_slice());
     let again = replayed(rt, alloc, lines, journal.as_slice());
     let made = makers(journal.as_slice());

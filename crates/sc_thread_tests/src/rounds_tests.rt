@@ -3,7 +3,7 @@ ghost use Rattle.std.specs.Prelude.{◌≤◌};
 
 use crate::players::{Counter, Open, Pair, go, seats};
 use sc_actor::Gate;
-use sc_drive::open;
+use sc_drive::{Company, open};
 use sc_workers::{Rounds, rounds};
 use std::alloc::Global;
 use std::mem::forget;
@@ -25,12 +25,12 @@ fn played<G: Gate, R: Threads + Wait + Abort + Sync>(
     requires { (bytes ≤ 1000000) × (1 ≤ workers) × (workers ≤ 16) }
 {
     let seats = seats(rt, alloc, 2, 4, starves);
-    let (mut net, mut shells) = open(alloc, seats, 2, bytes).expect(rt, "memory");
-    go(rt, alloc, &net, &mut shells, 0);
-    go(rt, alloc, &net, &mut shells, 1);
-    let end = rounds(rt, alloc, &mut net, &mut shells, workers, limit, gate);
-    forget(net);
-    forget(shells);
+    let mut company = open(alloc, seats, 2, bytes).expect(rt, "memory");
+    go(rt, alloc, &company.net, &mut company.shells, 0);
+    go(rt, alloc, &company.net, &mut company.shells, 1);
+    let Company { net, shells, .. } = &mut company;
+    let end = rounds(rt, alloc, net, shells, workers, limit, gate);
+    forget(company);
     end
 }
 

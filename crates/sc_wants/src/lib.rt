@@ -1,7 +1,9 @@
-//! What the words and the input of a run ask for: a run, the journal of one, an audit, or why none
-//! of these.
+//! What the input of a run is: a scenario, a scenario's text, or the file of a stored journal; and
+//! what is told of an input that is not.
 #![tactic(auto)]
 
-mod wants;
+mod faults;
+mod inputs;
 
-pub use wants::{Wanted, fault_text, wanted_of};
+pub use faults::{InputFault, fault_text};
+pub use inputs::{file_in, scenario_in, text_in};

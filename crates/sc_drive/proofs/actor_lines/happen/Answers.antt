@@ -1,46 +1,16 @@
-use Rattle.std.proofs.Common.{rules, ◌≡◌, subst, None}
-use Rattle.sc_shell.specs.declared.turns.Turn.{Turn}
-use Rattle.sc_drive.specs.Acts.{IsTold, SoundAfter, Told}
-use Rattle.sc_drive.specs.Stepping.{IsPlace, IsNowhere}
-use Rattle.sc_drive.proofs.Kept.{on_same}
-use Rattle.sc_drive.proofs.ActorRows.{happens_nowhere, happens_did, happens_full, happens_spent}
+use Rattle.std.proofs.Common.{rules, ◌≡◌, sym, subst, None}
+use Rattle.sc_drive.specs.Stepping.{IsPlace, IsNowhere, unless_crashed}
+use Rattle.sc_drive.specs.Working.{RowEnds}
+use Rattle.sc_drive.proofs.Working.{happens_out, happens_so}
 use Rattle.sc_drive.proofs.actor_lines.happen.Goals as goal
 
-pub returns-in_default-clause-made : goal.returns-in_default-clause-made
-returns-in_default-clause-made g c = λ words births company.
-    let net = c.args.net.now in let ss = c.args.shells.now.items in
+pub returns-in_default : goal.returns-in_default
+returns-in_default g c =
     let none : c.place_of.result ≡ None = search rules in
-    happens_nowhere words births net net ss ss company c.args.who c.args.event (subst (λ l. IsNowhere l c.args.who) c.as_slice.ensures.value (c.place_of.ensures.none none))
+    happens_out c.args.company.now c.args.who c.args.event c.requires.together (subst (λ l. IsNowhere l c.args.who) c.as_slice.ensures.value (c.place_of.ensures.none none))
 
-pub returns-in_default-clause-on : goal.returns-in_default-clause-on
-returns-in_default-clause-on g c = on_same c.args.net.now c.args.shells.now.items c.requires.together
-
-pub returns-in-Did-clause-made : goal.returns-in-Did-clause-made
-returns-in-Did-clause-made g c = λ words births company.
-    let net = c.args.net.now in let ss = c.args.shells.now.items in
-    let at : IsPlace ss c.args.who c.in-Some.place = subst (λ l. IsPlace l c.args.who c.in-Some.place) c.as_slice.ensures.value c.in-Some.ensures.some in
-    happens_did words births net c.tell.new.net ss c.tell.new.shells.items company c.args.who c.in-Some.place at c.args.event c.in-Did.at (subst (Told births c.in-Some.place c.args.event net c.tell.new.net ss c.tell.new.shells.items) c.in-Did.is (c.in_ok-tell.ensures.told births company))
-
-pub returns-in-Full-clause-made : goal.returns-in-Full-clause-made
-returns-in-Full-clause-made g c = λ words births company.
-    let net = c.args.net.now in let ss = c.args.shells.now.items in
-    let at : IsPlace ss c.args.who c.in-Some.place = subst (λ l. IsPlace l c.args.who c.in-Some.place) c.as_slice.ensures.value c.in-Some.ensures.some in
-    happens_full words births net c.tell.new.net ss c.tell.new.shells.items company c.args.who c.in-Some.place at c.args.event c.in-Full.bytes (subst (Told births c.in-Some.place c.args.event net c.tell.new.net ss c.tell.new.shells.items) c.in-Full.is (c.in_ok-tell.ensures.told births company))
-
-pub returns-in-Spent-clause-made : goal.returns-in-Spent-clause-made
-returns-in-Spent-clause-made g c = λ words births company.
-    let net = c.args.net.now in let ss = c.args.shells.now.items in
-    let at : IsPlace ss c.args.who c.in-Some.place = subst (λ l. IsPlace l c.args.who c.in-Some.place) c.as_slice.ensures.value c.in-Some.ensures.some in
-    happens_spent words births net c.tell.new.net ss c.tell.new.shells.items company c.args.who c.in-Some.place at c.args.event (subst (Told births c.in-Some.place c.args.event net c.tell.new.net ss c.tell.new.shells.items) c.in-Spent.is (c.in_ok-tell.ensures.told births company))
-
-pub returns-in-Did-clause-on : goal.returns-in-Did-clause-on
-returns-in-Did-clause-on g c = record { kept = c.in_ok-tell.ensures.kept; sound = subst (λ (turn : Turn). SoundAfter turn c.tell.new.shells.items) c.in-Did.is c.in_ok-tell.ensures.sound }
-
-pub returns-in-Spent-clause-on : goal.returns-in-Spent-clause-on
-returns-in-Spent-clause-on g c = record { kept = c.in_ok-tell.ensures.kept; sound = subst (λ (turn : Turn). SoundAfter turn c.tell.new.shells.items) c.in-Spent.is c.in_ok-tell.ensures.sound }
-
-pub returns-in-Full-clause-on : goal.returns-in-Full-clause-on
-returns-in-Full-clause-on g c = c.in_ok-tell.ensures.kept
-
-pub unreachable-requires : goal.unreachable-requires
-unreachable-requires g c = subst IsTold c.in-Empty.is c.in_ok-tell.ensures.answer
+pub returns : goal.returns
+returns g c =
+    let at : IsPlace c.args.company.now.shells.items c.args.who c.in-Some.place = subst (λ l. IsPlace l c.args.who c.in-Some.place) c.as_slice.ensures.value c.in-Some.ensures.some in
+    subst (RowEnds (λ s rows. unless_crashed s rows c.args.who c.args.event) c.args.company.now c.tell.new.company) (sym c.row_made.ensures)
+    (happens_so c.args.company.now c.tell.new.company c.args.who c.in-Some.place c.args.event c.in_ok-turn.turn at c.in_ok-turn.ensures)

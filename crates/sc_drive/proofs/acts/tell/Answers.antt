@@ -1,4 +1,4 @@
-use Rattle.std.proofs.Common.{rules, ◌≡◌, set, get_or, ◌∙◌, subst}
+use Rattle.std.proofs.Common.{rules, ◌≡◌, set, get_or, refl, ◌∙◌, subst}
 use Rattle.sc_shell.specs.Shells.{state}
 use Rattle.sc_workers.specs.Crews.{AreStill}
 use Rattle.sc_workers.proofs.Lists.{get_any}
@@ -9,42 +9,26 @@ use Rattle.sc_drive.proofs.Kept.{all_of_acted, kept_acted, sound_told, told_is}
 use Rattle.sc_drive.proofs.acts.tell.Goals as goal
 use Rattle.sc_exchange.proofs.Knowing.{looked_trans, stays_trans}
 
-pub returns-clause-told : goal.returns-clause-told
-returns-clause-told g c = λ births company.
-    let ss = c.args.shells.now.items in let k = c.args.place in let t = c.tell_one.new.shell in let mid = c.tell_one.new.net in let next = c.gather.new.net in let after = c.gather.new.shells.items in
+pub returns : goal.returns
+returns g c =
+    let ss = c.args.company.now.shells.items in let k = c.args.place in let t = c.tell_one.new.shell in let mid = c.tell_one.new.net in let next = c.gather.new.net in let after = c.gather.new.shells.items in
     let is : c.index_mut.result.now ≡ get_or ss k t = c.index_mut.ensures.value ∙ get_any ss k c.index_mut.result.now t c.requires.inside in
-    let m : MetAndTold c.args.event c.in_ok-turn.turn (get_or ss k t) t c.args.net.now mid = subst (λ s. MetAndTold c.args.event c.in_ok-turn.turn s t c.args.net.now mid) is c.in_ok-turn.ensures in
+    let m : MetAndTold c.args.event c.in_ok-turn.turn (get_or ss k t) t c.args.company.now.net mid = subst (λ s. MetAndTold c.args.event c.in_ok-turn.turn s t c.args.company.now.net mid) is c.in_ok-turn.ensures in
     let still : AreStill mid next (set ss k t) after = search rules in
-    told_so births c.args.net.now mid next ss after k t company c.requires.inside c.requires.together.crew.exchange m.met m.still m.ahead m.stays m.keeps
-    (looked_trans c.args.net.now mid next m.looked still.looked) (still.len ∙ length_set ss k t) still.still c.in_ok-gather.ensures.gathered c.in_ok-gather.ensures.gathered.rows c.args.event c.in_ok-turn.turn c.requires.event m.does_
-
-pub returns-clause-kept : goal.returns-clause-kept
-returns-clause-kept g c =
-    let ss = c.args.shells.now.items in let k = c.args.place in let t = c.tell_one.new.shell in let mid = c.tell_one.new.net in let next = c.gather.new.net in let after = c.gather.new.shells.items in
-    let is : c.index_mut.result.now ≡ get_or ss k t = c.index_mut.ensures.value ∙ get_any ss k c.index_mut.result.now t c.requires.inside in
-    let m : MetAndTold c.args.event c.in_ok-turn.turn (get_or ss k t) t c.args.net.now mid = subst (λ s. MetAndTold c.args.event c.in_ok-turn.turn s t c.args.net.now mid) is c.in_ok-turn.ensures in
-    let still : AreStill mid next (set ss k t) after = search rules in
-    kept_acted c.args.net.now mid next ss after k t c.requires.inside c.requires.together.crew.exchange (stays_trans (get_or ss k t).port m.met.port t.port m.still.goes.stays m.stays) m.looked still c.in_ok-gather.ensures.gathered
-
-pub returns-clause-sound : goal.returns-clause-sound
-returns-clause-sound g c =
-    let ss = c.args.shells.now.items in let k = c.args.place in let t = c.tell_one.new.shell in let mid = c.tell_one.new.net in let next = c.gather.new.net in let after = c.gather.new.shells.items in
-    let is : c.index_mut.result.now ≡ get_or ss k t = c.index_mut.ensures.value ∙ get_any ss k c.index_mut.result.now t c.requires.inside in
-    let m : MetAndTold c.args.event c.in_ok-turn.turn (get_or ss k t) t c.args.net.now mid = subst (λ s. MetAndTold c.args.event c.in_ok-turn.turn s t c.args.net.now mid) is c.in_ok-turn.ensures in
-    let still : AreStill mid next (set ss k t) after = search rules in
-    sound_told ss after k m.met t c.requires.inside m.still c.requires.together.crew.sound still.len still.still c.args.event c.in_ok-turn.turn m.does_
-
-pub returns-clause-answer : goal.returns-clause-answer
-returns-clause-answer g c =
-    let ss = c.args.shells.now.items in let k = c.args.place in let t = c.tell_one.new.shell in let mid = c.tell_one.new.net in let next = c.gather.new.net in let after = c.gather.new.shells.items in
-    let is : c.index_mut.result.now ≡ get_or ss k t = c.index_mut.ensures.value ∙ get_any ss k c.index_mut.result.now t c.requires.inside in
-    let m : MetAndTold c.args.event c.in_ok-turn.turn (get_or ss k t) t c.args.net.now mid = subst (λ s. MetAndTold c.args.event c.in_ok-turn.turn s t c.args.net.now mid) is c.in_ok-turn.ensures in
-    let still : AreStill mid next (set ss k t) after = search rules in
-    told_is (state m.met) (state t) c.args.event c.in_ok-turn.turn m.does_
+    let gathered = c.in_ok-gather.ensures.gathered in
+    record {
+      kept = kept_acted c.args.company.now.net mid next ss after k t c.requires.inside c.requires.together.crew.exchange (stays_trans (get_or ss k t).port m.met.port t.port m.still.goes.stays m.stays) m.looked still gathered;
+      sound = sound_told ss after k m.met t c.requires.inside m.still c.requires.together.crew.sound still.len still.still c.args.event c.in_ok-turn.turn m.does_;
+      answer = told_is (state m.met) (state t) c.args.event c.in_ok-turn.turn m.does_;
+      told = λ births company.
+          told_so births c.args.company.now.net mid next ss after k t company c.requires.inside c.requires.together.crew.exchange m.met m.still m.ahead m.stays m.keeps
+          (looked_trans c.args.company.now.net mid next m.looked still.looked) (still.len ∙ length_set ss k t) still.still gathered gathered.rows c.args.event c.in_ok-turn.turn c.requires.event m.does_;
+      score = refl;
+    }
 
 pub gather-requires-clause-exchange : goal.gather-requires-clause-exchange
 gather-requires-clause-exchange g c κs within =
-    let ss = c.args.shells.now.items in let k = c.args.place in let t = c.tell_one.new.shell in let mid = c.tell_one.new.net in
+    let ss = c.args.company.now.shells.items in let k = c.args.place in let t = c.tell_one.new.shell in let mid = c.tell_one.new.net in
     let is : c.index_mut.result.now ≡ get_or ss k t = c.index_mut.ensures.value ∙ get_any ss k c.index_mut.result.now t c.requires.inside in
-    let m : MetAndTold c.args.event c.in_ok-turn.turn (get_or ss k t) t c.args.net.now mid = subst (λ s. MetAndTold c.args.event c.in_ok-turn.turn s t c.args.net.now mid) is c.in_ok-turn.ensures in
-    all_of_acted c.args.net.now mid ss k t c.requires.inside c.requires.together.crew.exchange (stays_trans (get_or ss k t).port m.met.port t.port m.still.goes.stays m.stays) m.looked
+    let m : MetAndTold c.args.event c.in_ok-turn.turn (get_or ss k t) t c.args.company.now.net mid = subst (λ s. MetAndTold c.args.event c.in_ok-turn.turn s t c.args.company.now.net mid) is c.in_ok-turn.ensures in
+    all_of_acted c.args.company.now.net mid ss k t c.requires.inside c.requires.together.crew.exchange (stays_trans (get_or ss k t).port m.met.port t.port m.still.goes.stays m.stays) m.looked

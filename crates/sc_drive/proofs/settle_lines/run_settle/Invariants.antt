@@ -1,17 +1,14 @@
-use Rattle.std.proofs.Common.{List, [], ◌∷◌}
-use Rattle.sc_actor.specs.declared.actors.Seat.{Seat}
+use Rattle.std.proofs.Common.{[], ◌∷◌}
 use Rattle.sc_actor.specs.Walk.{Settles}
-use Rattle.sc_drive.specs.Companies.{Company}
-use Rattle.sc_drive.specs.Goings.{Goes, IsOn}
 use Rattle.sc_drive.specs.Lowest.{FindsLowest}
+use Rattle.sc_drive.specs.Working.{IsStaffed, LineEnded}
 use Rattle.sc_drive.proofs.settle_lines.run_settle.Given as goal
 
 abbrev pub invariant-loop-found : goal.invariant-loop-found
 invariant-loop-found g l = record {
-  on : IsOn l.fn.net l.fn.shells.items l.net l.shells.items;
-  company : (births : List (Seat g.row.A.Denot)) × Company births l.net l.shells.items;
-  finds : FindsLowest l.net l.shells.items l.found;
-  goes : Goes l.fn.net l.fn.shells.items l.fn.score (Settles l.most ∷ []) l.net l.shells.items l.score (Settles l.left ∷ []);
+  line : LineEnded (Settles l.most ∷ []) (Settles l.left ∷ []) l.fn.company l.company;
+  staffed : IsStaffed l.company;
+  finds : FindsLowest l.company.net l.company.shells.items l.found;
 }
 
 -- each delivery leaves one fewer

@@ -1,46 +1,22 @@
-use Rattle.std.proofs.Common.{refl, subst}
+use Rattle.std.proofs.Common.{◌≡◌, true, false, subst}
 use Rattle.std.proofs.lemmas.Result.{on_ok_weaker}
-use Rattle.sc_drive.specs.declared.steps.LineResult.{LineResult}
-use Rattle.sc_drive.specs.declared.steps.LineResult.TheVariants.{Made, Skipped, Full}
-use Rattle.sc_drive.specs.Goings.{LineMade, StaysSo}
-use Rattle.sc_drive.proofs.SingleSteps.{goes_made, goes_skipped, fills_full}
+use Rattle.sc_actor.specs.Walk.{line_row}
+use Rattle.sc_drive.specs.Working.{RowEnded}
+use Rattle.sc_drive.proofs.Singles.{once_made, once_refused, once_skipped}
+use Rattle.sc_drive.proofs.Working.{same_stop}
 use Rattle.sc_drive.proofs.single_lines.run_once.Goals as goal
 
-pub returns-in-Made-clause-on : goal.returns-in-Made-clause-on
-returns-in-Made-clause-on g c =
-    let net = c.args.net.now in let next = c.step_line.new.net in let ss = c.args.shells.now.items in let after = c.step_line.new.shells.items in let line = c.args.line.now in let score = c.args.score.now in
-    let on : StaysSo Made net ss next after = subst (λ (step : LineResult). StaysSo step net ss next after) c.in-Made.is c.in-Ok.ensures.on in
-    on
+pub returns-then-branch-clause-goes : goal.returns-then-branch-clause-goes
+returns-then-branch-clause-goes g c =
+    let old = c.args.company.now in let new = c.step_line.new.company in let line = c.args.line.now in
+    once_made line old new c.requires.calm (subst (RowEnded (λ s rows. line_row s rows line) old new) c.if-branch.true c.in_ok-step_line.ensures)
 
-pub returns-in-Skipped-clause-on : goal.returns-in-Skipped-clause-on
-returns-in-Skipped-clause-on g c =
-    let net = c.args.net.now in let next = c.step_line.new.net in let ss = c.args.shells.now.items in let after = c.step_line.new.shells.items in let line = c.args.line.now in let score = c.args.score.now in
-    let on : StaysSo Skipped net ss next after = subst (λ (step : LineResult). StaysSo step net ss next after) c.in-Skipped.is c.in-Ok.ensures.on in
-    on_ok_weaker c.skip.result (λ _. on) c.skip.ensures.skipped
+pub returns-in_err-step_line-clause-fills : goal.returns-in_err-step_line-clause-fills
+returns-in_err-step_line-clause-fills g c = λ e.
+    once_refused c.args.line.now c.args.company.now c.step_line.new.company c.in_err-step_line.field-0.0 (same_stop c.from_residual.result c.in_err-step_line.field-0.0 c.from_residual.ensures.1 e) c.in_err-step_line.ensures
 
-pub returns-in-Full-clause-kept : goal.returns-in-Full-clause-kept
-returns-in-Full-clause-kept g c = λ _.
-    let net = c.args.net.now in let next = c.step_line.new.net in let ss = c.args.shells.now.items in let after = c.step_line.new.shells.items in let line = c.args.line.now in let score = c.args.score.now in
-    let on : StaysSo Full net ss next after = subst (λ (step : LineResult). StaysSo step net ss next after) c.in-Full.is c.in-Ok.ensures.on in
-    on
-
-pub returns-in-Made-clause-goes : goal.returns-in-Made-clause-goes
-returns-in-Made-clause-goes g c =
-    let net = c.args.net.now in let next = c.step_line.new.net in let ss = c.args.shells.now.items in let after = c.step_line.new.shells.items in let line = c.args.line.now in let score = c.args.score.now in
-    let on : StaysSo Made net ss next after = subst (λ (step : LineResult). StaysSo step net ss next after) c.in-Made.is c.in-Ok.ensures.on in
-    let made : LineMade line net ss next after Made = subst (LineMade line net ss next after) c.in-Made.is c.in-Ok.ensures.made in
-    goes_made line net next ss after score score on.kept.stays.exchange.2 (λ words births company _. made words births company) c.requires.calm refl refl refl
-
-pub returns-in-Skipped-clause-goes : goal.returns-in-Skipped-clause-goes
-returns-in-Skipped-clause-goes g c =
-    let net = c.args.net.now in let next = c.step_line.new.net in let ss = c.args.shells.now.items in let after = c.step_line.new.shells.items in let line = c.args.line.now in let score = c.args.score.now in
-    let on : StaysSo Skipped net ss next after = subst (λ (step : LineResult). StaysSo step net ss next after) c.in-Skipped.is c.in-Ok.ensures.on in
-    let made : LineMade line net ss next after Skipped = subst (LineMade line net ss next after) c.in-Skipped.is c.in-Ok.ensures.made in
-    on_ok_weaker c.skip.result (λ count. goes_skipped line net next ss after score c.skip.new.score on.kept.stays.exchange.2 (λ words births company _. made words births company) count c.skip.ensures.kept.0 c.skip.ensures.kept.1) c.skip.ensures.skipped
-
-pub returns-in-Full-clause-fills : goal.returns-in-Full-clause-fills
-returns-in-Full-clause-fills g c = λ _.
-    let net = c.args.net.now in let next = c.step_line.new.net in let ss = c.args.shells.now.items in let after = c.step_line.new.shells.items in let line = c.args.line.now in let score = c.args.score.now in
-    let on : StaysSo Full net ss next after = subst (λ (step : LineResult). StaysSo step net ss next after) c.in-Full.is c.in-Ok.ensures.on in
-    let made : LineMade line net ss next after Full = subst (LineMade line net ss next after) c.in-Full.is c.in-Ok.ensures.made in
-    fills_full line net next ss after score score on.stays.exchange.2 (λ words births company _. made words births company)
+pub returns-clause-goes : goal.returns-clause-goes
+returns-clause-goes g c =
+    let old = c.args.company.now in let new = c.step_line.new.company in let line = c.args.line.now in
+    on_ok_weaker c.skip.result (λ count. once_skipped line old new c.skip.new.score (subst (RowEnded (λ s rows. line_row s rows line) old new) c.if-branch.false c.in_ok-step_line.ensures)
+    (record { count = count; cut = c.skip.ensures.kept.0; gone = c.skip.ensures.kept.1 })) c.skip.ensures.skipped

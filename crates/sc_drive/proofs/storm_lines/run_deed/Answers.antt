@@ -8,11 +8,12 @@ use Rattle.sc_drive.proofs.storm_lines.run_deed.Goals as goal
 pub step_line-requires-clause-calm : goal.step_line-requires-clause-calm
 step_line-requires-clause-calm g c κs within = subst (λ (line : Option (Line _)). IfSome line IsCalm) c.in-Some.is c.requires.calm
 
-pub returns-in-Some-clause-made : goal.returns-in-Some-clause-made
-returns-in-Some-clause-made g c = rw c.in-Some.is c.step_line.ensures.made
+pub returns-in-Some : goal.returns-in-Some
+returns-in-Some g c = rw c.in-Some.is c.step_line.ensures
 
-pub returns-in-None-clause-on : goal.returns-in-None-clause-on
-returns-in-None-clause-on g c = on_same c.args.net.now c.args.shells.now.items c.requires.together
-
-pub returns-in-None-clause-made : goal.returns-in-None-clause-made
-returns-in-None-clause-made g c = rw c.in-None.is (λ words births company. (company, refl, refl))
+pub returns-in-None : goal.returns-in-None
+returns-in-None g c = rw c.in-None.is (record {
+  on = on_same c.args.company.now.net c.args.company.now.shells.items c.requires.together;
+  row = λ words births company. (company, refl, refl);
+  score = refl;
+})

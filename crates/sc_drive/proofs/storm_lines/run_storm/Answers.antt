@@ -1,54 +1,57 @@
-use Rattle.std.proofs.Common.{◌≡◌, ◌+◌, ◌<◌, ◌^◌, Err, [], ◌∷◌, sym, ◌∙◌, ap, subst, arith, mod-eq_of_lt}
-use Rattle.sc_actor.specs.Walk.{Storms}
+use Rattle.std.proofs.Common.{◌≡◌, ◌+◌, ◌<◌, ◌-◌, ◌^◌, Err, [], ◌∷◌, sym, ◌∙◌, ap, subst, arith, mod-eq_of_lt}
+use Rattle.sc_actor.specs.Walk.{Storms, storm_steps}
 use Rattle.sc_chance.specs.Words.{ChanceStep, two_words, after_step}
 use Rattle.sc_workers.specs.Crews.{crew_numbers}
-use Rattle.sc_drive.specs.declared.steps.Stop.TheVariants.{Full}
-use Rattle.sc_drive.specs.Goings.{Goes, Fills}
-use Rattle.sc_drive.proofs.Kept.{kept_then, on_same, on_then, together_on}
+use Rattle.sc_drive.specs.declared.company.Stop.TheVariants.{Full}
+use Rattle.sc_drive.specs.Working.{LineEnded, LineRefused}
+use Rattle.sc_drive.proofs.Kept.{kept_then, on_same, on_then}
+use Rattle.sc_drive.proofs.Settled.{together_after}
 use Rattle.sc_drive.proofs.StormSteps.{storm_begins, storm_goes, storm_fills, storm_ends}
+use Rattle.sc_drive.proofs.Working.{same_stop}
 use Rattle.sc_drive.proofs.storm_lines.run_storm.Goals as goal
 
 pub loop-done-init : goal.loop-done-init
 loop-done-init g c = record {
-  on = on_same c.args.net.now c.args.shells.now.items c.requires.together;
   storm = c.start-storm.ensures;
-  goes = storm_begins c.args.net.now c.args.shells.now.items c.args.score.now (two_words c.args.number) c.args.most;
+  line = record {
+    on = on_same c.args.company.now.net c.args.company.now.shells.items c.requires.together;
+    goes = storm_begins c.args.company.now.net c.args.company.now.shells.items c.args.company.now.score (two_words c.args.number) c.args.most;
+  };
 }
 
 pub storm_step-requires-clause-together : goal.storm_step-requires-clause-together
-storm_step-requires-clause-together g c κs within = together_on c.args.net.now c.loop-done.net c.args.shells.now.items c.loop-done.shells.items c.requires.together.crew.first c.loop-done.invariant.on
+storm_step-requires-clause-together g c κs within =
+    together_after c.args.company.now c.loop-done.company (storm_steps (two_words c.args.number) 0 c.args.most) (storm_steps (two_words c.args.number) c.loop-done.done (c.args.most - c.loop-done.done)) c.requires.together c.loop-done.invariant.line
 
 pub storm_step-requires-clause-actors : goal.storm_step-requires-clause-actors
-storm_step-requires-clause-actors g c κs within = c.as_slice-numbers.ensures.value ∙ (c.in-Ok.ensures ∙ (ap crew_numbers c.as_slice.ensures.value ∙ sym c.loop-done.invariant.on.kept.same))
+storm_step-requires-clause-actors g c κs within = c.as_slice-numbers.ensures.value ∙ (c.in_ok-actors.ensures ∙ (ap crew_numbers c.as_slice.ensures.value ∙ sym c.loop-done.invariant.line.on.kept.same))
 
 pub loop-done-preserved : goal.loop-done-preserved
 loop-done-preserved g c =
-    let inv = c.loop-done.invariant in let net = c.args.net.now in let ss = c.args.shells.now.items in let mid = c.loop-done.net in let mids = c.loop-done.shells.items in let score = c.args.score.now in let done = c.loop-done.done in
-    let next = c.storm_step.new.net in let after = c.storm_step.new.shells.items in
+    let inv = c.loop-done.invariant in let old = c.args.company.now in let mid = c.loop-done.company in let new = c.storm_step.new.company in let done = c.loop-done.done in
     let few : done + 1 < 2 ^ 67 = omega arith in
+    let step : LineEnded (Storms (two_words c.args.number done) ∷ []) [] mid new = subst (λ (k : ChanceStep). LineEnded (Storms (two_words k.number k.step) ∷ []) [] mid new) inv.storm c.in_ok-storm_step.ensures.goes in
     record {
-      on = on_then net mid next ss mids after inv.on c.in-Ok-storm_step.ensures.on;
-      storm = c.in-Ok-storm_step.ensures.drawn ∙ (ap after_step inv.storm ∙ ap (λ k. record { number = c.args.number; step = k }) (mod-eq_of_lt few));
-      goes = storm_goes net mid next ss mids after score (two_words c.args.number) c.args.most done (omega arith) inv.goes
-          (subst (λ (k : ChanceStep). Goes mid mids score (Storms (two_words k.number k.step) ∷ []) next after score []) inv.storm c.in-Ok-storm_step.ensures.goes);
+      storm = c.in_ok-storm_step.ensures.drawn ∙ (ap after_step inv.storm ∙ ap (λ k. record { number = c.args.number; step = k }) (mod-eq_of_lt few));
+      line = record {
+        on = on_then old.net mid.net new.net old.shells.items mid.shells.items new.shells.items inv.line.on step.on;
+        goes = storm_goes old.net mid.net new.net old.shells.items mid.shells.items new.shells.items old.score mid.score new.score (two_words c.args.number) c.args.most done (omega arith) inv.line.goes step.goes;
+      };
     }
 
-pub returns-in-Err-clause-kept : goal.returns-in-Err-clause-kept
-returns-in-Err-clause-kept g c = λ e.
-    let inv = c.loop-done.invariant in
-    let is : c.in-Err.stop ≡ Full = cc in
-    kept_then c.args.net.now c.loop-done.net c.storm_step.new.net c.args.shells.now.items c.loop-done.shells.items c.storm_step.new.shells.items inv.on.kept.stays inv.on.kept.same (c.in-Err.ensures.kept (ap Err is))
-
-pub returns-in-Err-clause-fills : goal.returns-in-Err-clause-fills
-returns-in-Err-clause-fills g c = λ e.
-    let inv = c.loop-done.invariant in let mid = c.loop-done.net in let mids = c.loop-done.shells.items in let score = c.args.score.now in
-    let is : c.in-Err.stop ≡ Full = cc in
-    storm_fills c.args.net.now mid c.storm_step.new.net c.args.shells.now.items mids mids score (two_words c.args.number) c.args.most c.loop-done.done (omega arith) inv.goes inv.on.kept.stays.exchange.2
-    (subst (λ (k : ChanceStep). Fills mid mids score (Storms (two_words k.number k.step) ∷ []) c.storm_step.new.net) inv.storm (c.in-Err.ensures.fills (ap Err is)))
-
-pub returns-clause-on : goal.returns-clause-on
-returns-clause-on g c = c.loop-done.invariant.on
+pub returns-in_err-storm_step-clause-fills : goal.returns-in_err-storm_step-clause-fills
+returns-in_err-storm_step-clause-fills g c = λ e.
+    let inv = c.loop-done.invariant in let old = c.args.company.now in let mid = c.loop-done.company in let new = c.storm_step.new.company in let done = c.loop-done.done in
+    let is : c.in_err-storm_step.field-0.0 ≡ Full = same_stop c.from_residual-in_err-storm_step.result c.in_err-storm_step.field-0.0 c.from_residual-in_err-storm_step.ensures.1 e in
+    let step : LineRefused (Storms (two_words c.args.number done) ∷ []) mid new = subst (λ (k : ChanceStep). LineRefused (Storms (two_words k.number k.step) ∷ []) mid new) inv.storm (c.in_err-storm_step.ensures.fills (ap Err is)) in
+    record {
+      kept = kept_then old.net mid.net new.net old.shells.items mid.shells.items new.shells.items inv.line.on.kept.stays inv.line.on.kept.same step.kept;
+      fills = storm_fills old.net mid.net new.net old.shells.items mid.shells.items mid.shells.items old.score mid.score mid.score (two_words c.args.number) c.args.most done (omega arith) inv.line.goes inv.line.on.kept.stays.exchange.2 step.fills;
+    }
 
 pub returns-clause-goes : goal.returns-clause-goes
 returns-clause-goes g c =
-    storm_ends c.args.net.now c.loop-done.net c.args.shells.now.items c.loop-done.shells.items c.args.score.now (two_words c.args.number) c.args.most c.loop-done.done (omega arith) c.loop-done.invariant.goes
+    let inv = c.loop-done.invariant in let old = c.args.company.now in let now = c.loop-done.company in record {
+      on = inv.line.on;
+      goes = storm_ends old.net now.net old.shells.items now.shells.items old.score now.score (two_words c.args.number) c.args.most c.loop-done.done (omega arith) inv.line.goes;
+    }

@@ -1,4 +1,4 @@
-use Rattle.std.proofs.Common.{◌≡◌, sym, ◌∙◌, ap, subst}
+use Rattle.std.proofs.Common.{◌≡◌, refl, sym, ◌∙◌, ap, subst}
 use Rattle.std.specs.Prelude.{IfSome}
 use Rattle.sc_exchange.specs.Ports.{seen}
 use Rattle.sc_exchange.specs.Answers.{IsLook}
@@ -15,23 +15,24 @@ use Rattle.sc_drive.proofs.StormSteps.{calm_deed, storm_line_is}
 use Rattle.sc_drive.proofs.storm_lines.storm_line.Goals as goal
 
 pub gather-requires-clause-exchange : goal.gather-requires-clause-exchange
-gather-requires-clause-exchange g c κs within = all_of_later c.args.net.now c.look.new.self c.args.shells.now.items c.look.ensures.looked.looked c.requires.together.crew.exchange
+gather-requires-clause-exchange g c κs within = all_of_later c.args.company.now.net c.look.new.self c.args.company.now.shells.items c.look.ensures.looked.looked c.requires.together.crew.exchange
 
-pub returns-clause-on : goal.returns-clause-on
-returns-clause-on g c =
-    on_gathered c.args.net.now c.look.new.self c.gather.new.net c.args.shells.now.items c.gather.new.shells.items c.requires.together.crew.exchange c.requires.together.crew.sound c.look.ensures.looked.looked.stays c.gather.ensures.still c.in_ok-gather.ensures.gathered
-
-pub returns-clause-rests : goal.returns-clause-rests
-returns-clause-rests g c = λ births company.
-    let net = c.args.net.now in let mid = c.look.new.self in let next = c.gather.new.net in let still = c.gather.ensures.still in
-    company_still births net next c.args.shells.now.items c.gather.new.shells.items company (looked_trans net mid next c.look.ensures.looked.looked still.looked) still.len still.still c.in_ok-gather.ensures.gathered c.in_ok-gather.ensures.gathered.rows
+pub returns-clause-rested : goal.returns-clause-rested
+returns-clause-rested g c =
+    let net = c.args.company.now.net in let mid = c.look.new.self in let next = c.gather.new.net in let ss = c.args.company.now.shells.items in let after = c.gather.new.shells.items in let still = c.gather.ensures.still in
+    let looked = c.look.ensures.looked.looked in let gathered = c.in_ok-gather.ensures.gathered in
+    record {
+      on = on_gathered net mid next ss after c.requires.together.crew.exchange c.requires.together.crew.sound looked.stays still gathered;
+      rests = λ births company. company_still births net next ss after company (looked_trans net mid next looked still.looked) still.len still.still gathered gathered.rows;
+      score = refl;
+    }
 
 pub returns-clause-calm : goal.returns-clause-calm
 returns-clause-calm g c = subst (λ line. IfSome line IsCalm) (sym c.line.ensures) (calm_deed _ c.deed-step.result)
 
 pub returns-clause-line : goal.returns-clause-line
 returns-clause-line g c =
-    let net = c.args.net.now in let mid = c.look.new.self in let next = c.gather.new.net in let ss = c.args.shells.now.items in let after = c.gather.new.shells.items in let still = c.gather.ensures.still in
+    let net = c.args.company.now.net in let mid = c.look.new.self in let next = c.gather.new.net in let ss = c.args.company.now.shells.items in let after = c.gather.new.shells.items in let still = c.gather.ensures.still in
     let same = numbers_go ss after still.len (still_all_go ss after still.still) in
     let looked = c.look.ensures.looked.looked in
     let actors_same : net.actors ≡ next.actors = sym (still.looked.stays.exchange.1 ∙ looked.stays.exchange.1) in

@@ -1,6 +1,6 @@
 use Rattle.std.proofs.Common.{◌≡◌, ◌≤◌, ◌<◌, true, List, IfOk, sym, subst, All}
 use Rattle.sc_actor.specs.System.{are_apart}
-use Rattle.sc_drive.specs.Companies.{AtBirth}
+use Rattle.sc_drive.specs.Working.{HasOpened}
 use Rattle.sc_sound.specs.Players.{most_actor}
 use Rattle.sc_run.proofs.begun.begin.Goals as goal
 
@@ -19,6 +19,6 @@ open-requires-clause-numbered c κs =
     subst (λ seats. All (λ seat. (0 < seat.who) × (seat.who ≤ most_actor)) seats) (sym c.in_ok-seats.ensures)
     (c.valid_scenarios_can_play.ensures c.args.scenario.now c.requires.valid).numbered
 
-pub returns-clause-births : goal.returns-clause-births
-returns-clause-births c =
-    subst (λ seats. IfOk c.open.result (λ begun. AtBirth seats begun.0 begun.1.items)) c.in_ok-seats.ensures c.open.ensures.births
+pub returns-clause-opened : goal.returns-clause-opened
+returns-clause-opened g c =
+    subst (λ seats. IfOk c.open.result (HasOpened seats)) c.in_ok-seats.ensures c.open.ensures.opened

@@ -1,5 +1,5 @@
 use Rattle.std.proofs.Common.{rules, ◌≢◌, ◌∙◌, sym}
-use Rattle.sc_statuses.specs.declared.said.Played.TheVariants.{OutOfMemory}
+use Rattle.sc_actor.specs.declared.schedules.Played.TheVariants.{OutOfMemory}
 use Rattle.sc_run.proofs.reporting.play_whole.Goals as goal
 
 pub close-requires-clause-exchange : goal.close-requires-clause-exchange
@@ -11,12 +11,12 @@ pub close-requires-clause-all : goal.close-requires-clause-all
 close-requires-clause-all g c κs within =
     let went_on : c.play-played.result ≢ OutOfMemory = search rules in
     let kept = c.play-played.ensures.kept went_on in
-    kept.stays.given ∙ c.in_ok-net.ensures.births.all ∙ sym kept.same
+    kept.stays.given ∙ c.in_ok-company.ensures.opened.birth.all ∙ sym kept.same
 
 pub close-requires-clause-none : goal.close-requires-clause-none
 close-requires-clause-none g c κs within =
     let went_on : c.play-played.result ≢ OutOfMemory = search rules in
-    (c.play-played.ensures.kept went_on).stays.joined ∙ c.in_ok-net.ensures.unjoined
+    (c.play-played.ensures.kept went_on).stays.joined ∙ c.in_ok-company.ensures.unjoined
 
 pub close-requires-clause-over : goal.close-requires-clause-over
 close-requires-clause-over g c κs within =

@@ -5,5 +5,5 @@ use Rattle.sc_thread_tests.proofs.ends_tests.ended.Goals as goal
 
 pub close-requires-clause-all : goal.close-requires-clause-all
 close-requires-clause-all g c κs within =
-    let ss = c.args.shells.items in let after = c.gather.new.shells.items in
+    let ss = c.args.company.shells.items in let after = c.gather.new.shells.items in
     c.gather.ensures.still.looked.stays.given ∙ (c.requires.all ∙ sym (numbers_go ss after c.gather.ensures.still.len (still_all_go ss after c.gather.ensures.still.still)))

@@ -1,6 +1,6 @@
 use Rattle.std.proofs.Common.{◌≡◌, map}
 use Rattle.sc_drive.proofs.Closed.{Ending}
-use Rattle.sc_drive.proofs.end.close.Given as goal
+use Rattle.sc_drive.proofs.end.close_ports.Given as goal
 
 -- the ports so far were joined, and their actors are in order
 abbrev pub invariant-loop-shell : goal.invariant-loop-shell

@@ -3,7 +3,7 @@ use Rattle.std.proofs.lemmas.List.{map-id}
 use Rattle.std.proofs.lemmas.Iterator.Adapters.{YieldsList-from_vec}
 use Rattle.std.proofs.lemmas.Iterator.Consumers.{YieldsList-end}
 use Rattle.sc_drive.proofs.Closed.{Ending, all_joined, journal_is}
-use Rattle.sc_drive.proofs.end.close.Goals as goal
+use Rattle.sc_drive.proofs.end.close_ports.Goals as goal
 
 pub close-requires-clause-all : goal.close-requires-clause-all
 close-requires-clause-all g c =

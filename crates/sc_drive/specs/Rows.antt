@@ -1,0 +1,21 @@
+-- Whether a row was made, or why none could be.
+use Rattle.std.specs.Prelude.{Bool, true, false, Result, Ok, Err}
+use Rattle.sc_ledger.specs.declared.faults.PostFault.{PostFault}
+use Rattle.sc_ledger.specs.declared.faults.PostFault.TheVariants as post
+use Rattle.sc_shell.specs.declared.turns.Turn.{Turn}
+use Rattle.sc_shell.specs.declared.turns.Turn.TheVariants as turn
+use Rattle.sc_drive.specs.declared.company.Stop.{Stop}
+use Rattle.sc_drive.specs.declared.company.Stop.TheVariants.{Full, OutOfMemory}
+
+-- why a schedule stops where a row could not be posted
+abbrev pub stop_by : PostFault → Stop
+stop_by (post.JournalFull bytes) = Full
+stop_by post.OutOfMemory = OutOfMemory
+
+-- whether a turn made a row
+abbrev pub row_made : Turn → Result Bool Stop
+row_made (turn.Did at) = Ok true
+row_made (turn.Empty seen) = Ok false
+row_made turn.Spent = Ok false
+row_made (turn.Full bytes) = Err Full
+row_made turn.OutOfMemory = Err OutOfMemory

@@ -1,0 +1,7 @@
+pub mod Counting
+pub mod Ordering
+pub mod Paying
+pub mod Resting
+pub mod Rests
+pub mod Seats
+pub mod Settling

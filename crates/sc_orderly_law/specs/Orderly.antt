@@ -1,0 +1,78 @@
+-- Rows that come in order: each actor takes its mail in ascending order of number.
+use Rattle.std.specs.Prelude.{◌≡◌, ℕ, ◌==◌, ◌≤◌, ◌&&◌, ◌++◌, List, [], ◌∷◌, Bool, false, if◌then◌else◌, find, filter, replicate, count_by, Some}
+use Rattle.std.specs.List.{list_any}
+use Rattle.sc_base.specs.Among.{Each}
+use Rattle.sc_actor.specs.declared.actors.Seat.{Seat}
+use Rattle.sc_actor.specs.declared.rows.Event.{Event}
+use Rattle.sc_actor.specs.declared.rows.Event.TheVariants.{Deliver, Tick, Go, Told, Crash, Drop, Again}
+use Rattle.sc_actor.specs.declared.rows.Row.{Row}
+use Rattle.sc_actor.specs.declared.schedules.Line.{Line}
+use Rattle.sc_actor.specs.declared.schedules.Line.TheVariants.{Go as GoLine, Deliver as DeliverLine, Drop as DropLine, Again as AgainLine, Tick as TickLine, Crash as CrashLine, Told as ToldLine, Settle, Free, Storm}
+use Rattle.sc_actor.specs.Mail.{mails, copies, has_crashed, is_delivery}
+use Rattle.sc_actor.specs.System.{System, numbers_of, row_of, waiting, kth, has_gone, is_go}
+
+-- a line that tells a client to go, or only delivers
+abbrev pub IsPlainLine : {O : Type 0} → Line O → Type 0
+IsPlainLine (GoLine who) = Unit {0}
+IsPlainLine (Settle most) = Unit {0}
+IsPlainLine (Free most workers) = Unit {0}
+IsPlainLine (DeliverLine who k) = ⊥
+IsPlainLine (DropLine who k) = ⊥
+IsPlainLine (AgainLine mail) = ⊥
+IsPlainLine (TickLine who) = ⊥
+IsPlainLine (CrashLine who) = ⊥
+IsPlainLine (ToldLine who order) = ⊥
+IsPlainLine (Storm number most) = ⊥
+
+-- The actor goes, which it did not before, or takes the first mail that is pending for it.
+abbrev pub IsInOrder : {A M O : Type 0} → System A M O → List (Row M O) → ℕ → Event O → Type 0
+IsInOrder s rows who Go = has_gone rows who ≡ false
+IsInOrder s rows who (Deliver number) = kth (waiting s rows (Some who)) 1 ≡ Some number
+IsInOrder s rows who Tick = ⊥
+IsInOrder s rows who (Told order) = ⊥
+IsInOrder s rows who Crash = ⊥
+IsInOrder s rows who (Drop mail) = ⊥
+IsInOrder s rows who (Again mail) = ⊥
+
+-- A row that comes in order after others: it sends what the table gives.
+pub record IsOrderly {A M O : Type 0} (s : System A M O) (rows : List (Row M O)) (row : Row M O) : Type 0 where
+  pub seat : Seat A
+  pub born : find (λ other. other.who == seat.who) s.births ≡ Some seat
+  pub event : Event O
+  pub row_is : row ≡ row_of s.table seat rows event
+  pub in_order : IsInOrder s rows seat.who event
+
+-- no mail has more than one copy, and no actor has crashed
+pub record IsTidy {M O : Type 0} (rows : List (Row M O)) : Type 0 where
+  pub copies : Each (λ count. count ≤ 1) (copies rows)
+  pub alive : (who : ℕ) → has_crashed rows who ≡ false
+
+-- the mail that passes the test, each as often as it has copies
+abbrev pub mail_with : {M : Type 0} → (M → Bool) → List M → List ℕ → List M
+mail_with test [] counts = []
+mail_with test (mail ∷ sent) [] = []
+mail_with test (mail ∷ sent) (count ∷ counts) = (if test mail then replicate count mail else []) ++ mail_with test sent counts
+
+-- the mail that an actor has not taken yet, in the order of its numbers
+abbrev pub rest : {A M O : Type 0} → System A M O → List (Row M O) → ℕ → List M
+rest s rows who = mail_with (λ mail. s.receiver mail == who) (mails rows) (copies rows)
+
+-- the mail that a row sends to an actor
+abbrev pub mail_for : {A M O : Type 0} → System A M O → ℕ → List M → List M
+mail_for s who sent = filter (λ mail. s.receiver mail == who) sent
+
+-- whether an actor has this number
+abbrev pub is_born : {A M O : Type 0} → System A M O → ℕ → Bool
+is_born s who = list_any (λ actor. actor == who) (numbers_of s.births)
+
+-- how many of its mail an actor takes by a row: one, where the row delivers to it
+abbrev pub taken : {M O : Type 0} → ℕ → Row M O → ℕ
+taken who row = if row.who == who && is_delivery row.event then 1 else 0
+
+-- how many rows deliver
+abbrev pub deliveries : {M O : Type 0} → List (Row M O) → ℕ
+deliveries rows = count_by (λ row. is_delivery row.event) rows
+
+-- how many rows tell an actor to go
+abbrev pub goes : {M O : Type 0} → List (Row M O) → ℕ
+goes rows = count_by (λ row. is_go row.event) rows

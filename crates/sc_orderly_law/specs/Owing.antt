@@ -1,0 +1,66 @@
+-- What actors and pending mail owe: an upper bound of the deliveries that are still to come.
+use Rattle.std.specs.Prelude.{◌≡◌, ℕ, ◌+◌, ◌==◌, ◌≤◌, List, [], ◌∷◌, ◌++◌, sum_by, find, true, Some}
+use Rattle.sc_base.specs.Among.{Each}
+use Rattle.sc_actor.specs.declared.actors.Seat.{Seat}
+use Rattle.sc_actor.specs.declared.rows.Event.TheVariants.{Deliver, Go}
+use Rattle.sc_actor.specs.declared.rows.Input.TheVariants.{Got, Go as GoInput}
+use Rattle.sc_actor.specs.declared.rows.Row.{Row}
+use Rattle.sc_actor.specs.declared.schedules.Line.{Line}
+use Rattle.sc_actor.specs.declared.schedules.Line.TheVariants.{Go as GoLine, Deliver as DeliverLine, Drop as DropLine, Again as AgainLine, Tick as TickLine, Crash as CrashLine, Told as ToldLine, Settle, Free, Storm}
+use Rattle.sc_actor.specs.Mail.{mails, copies, numbered}
+use Rattle.sc_actor.specs.Replay.{value}
+use Rattle.sc_actor.specs.System.{System, row_of}
+use Rattle.sc_actor.specs.Walk.{IsLawful}
+use Rattle.sc_orderly_law.specs.Orderly.{mail_with, is_born}
+
+-- How much an actor, and how much a mail, owes.
+pub record Owing (A M : Type 0) : Type 0 where
+  pub actor : A → ℕ
+  pub mail : M → ℕ
+
+-- the mail to actors of which copies are under way
+abbrev pub under_way : {A M O : Type 0} → System A M O → List (Row M O) → List M
+under_way s rows = mail_with (λ mail. is_born s (s.receiver mail)) (mails rows) (copies rows)
+
+-- what all actors owe at their births
+abbrev pub owed_at_birth : {A M O : Type 0} → System A M O → Owing A M → ℕ
+owed_at_birth s owing = sum_by (λ seat. owing.actor seat.actor) s.births
+
+-- what is owed after these rows: by the actors, and by the mail that is under way
+abbrev pub owed : {A M O : Type 0} → System A M O → Owing A M → List (Row M O) → ℕ
+owed s owing rows =
+    sum_by (λ seat. owing.actor (value s.table seat rows)) s.births + sum_by owing.mail (under_way s rows)
+
+-- what an actor and the mail that it sends owe together
+abbrev pub owed_by : {A M : Type 0} → Owing A M → A × List M → ℕ
+owed_by owing acted = owing.actor acted.0 + sum_by owing.mail acted.1
+
+-- In each lawful journal of these lines each delivery lowers what is owed by at least one, no actor that goes raises it, and each mail owes something.
+pub record Lowers {A M O : Type 0} (s : System A M O) (owing : Owing A M) (lines : List (Line O)) : Type 0 where
+  pub delivery : (rows : List (Row M O)) (seat : Seat A) (number : ℕ) (mail : M) →
+      find (λ other. other.who == seat.who) s.births ≡ Some seat →
+      numbered (mails rows) number ≡ Some mail →
+      IsLawful s lines (rows ++ row_of s.table seat rows (Deliver number) ∷ []) →
+      1 + owed_by owing (s.table (value s.table seat rows) (Got mail)) ≤ owing.actor (value s.table seat rows) + owing.mail mail
+  pub go : (rows : List (Row M O)) (seat : Seat A) →
+      find (λ other. other.who == seat.who) s.births ≡ Some seat →
+      IsLawful s lines (rows ++ row_of s.table seat rows Go ∷ []) →
+      owed_by owing (s.table (value s.table seat rows) GoInput) ≤ owing.actor (value s.table seat rows)
+  pub mail : (rows : List (Row M O)) → IsLawful s lines rows → Each (λ mail. 1 ≤ owing.mail mail) (mails rows)
+
+-- each mail of each lawful journal of these lines goes to an actor
+abbrev pub SendsToActors : {A M O : Type 0} → System A M O → List (Line O) → Type 0
+SendsToActors {A} {M} {O} s lines = (rows : List (Row M O)) → IsLawful s lines rows → Each (λ mail. is_born s (s.receiver mail) ≡ true) (mails rows)
+
+-- a line of many deliveries may make so many
+abbrev pub HasRoom : {O : Type 0} → ℕ → Line O → Type 0
+HasRoom deliveries (Settle most) = deliveries ≤ most
+HasRoom deliveries (Free most workers) = deliveries ≤ most
+HasRoom deliveries (GoLine who) = Unit {0}
+HasRoom deliveries (DeliverLine who k) = Unit {0}
+HasRoom deliveries (DropLine who k) = Unit {0}
+HasRoom deliveries (AgainLine mail) = Unit {0}
+HasRoom deliveries (TickLine who) = Unit {0}
+HasRoom deliveries (CrashLine who) = Unit {0}
+HasRoom deliveries (ToldLine who order) = Unit {0}
+HasRoom deliveries (Storm number most) = Unit {0}

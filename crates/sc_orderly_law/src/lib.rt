@@ -1,0 +1,98 @@
+//! Journals whose deliveries come in order, and how many deliveries there can be. Laws for any
+//! actors. Definitions and laws, no logic.
+//!
+//! A schedule is plain where each line tells an actor to go, or only delivers. In such a journal
+//! each actor takes its mail in ascending order of number, whatever the line and the number of
+//! workers. And where each delivery lowers what actors and mail owe by at least one, what they owe
+//! at birth bounds all deliveries, so a line with room for so many ends with nothing pending.
+#![tactic(auto)]
+
+ghost use Rattle.std.specs.Prelude.{◌≡◌, ℕ, ◌+◌, ◌≤◌, List, [], ◌∷◌, ◌++◌, length, drop, true, false, Some, slice_get};
+ghost use Rattle.sc_base.specs.Among.{Each};
+ghost use Rattle.sc_actor.specs.declared.actors.Seat.{Seat};
+ghost use Rattle.sc_actor.specs.declared.rows.Row.{Row};
+ghost use Rattle.sc_actor.specs.declared.rows.Event.TheVariants.{Deliver};
+ghost use Rattle.sc_actor.specs.declared.schedules.Line.{Line};
+ghost use Rattle.sc_actor.specs.Mail.{mails, numbered};
+ghost use Rattle.sc_actor.specs.System.{system, are_apart};
+ghost use Rattle.sc_actor.specs.Walk.{IsLawful, is_quiet, unsettled};
+ghost use Rattle.sc_orderly_law.specs.Orderly.{IsPlainLine, IsOrderly, IsTidy, rest, mail_for, is_born, taken, deliveries, goes};
+ghost use Rattle.sc_orderly_law.specs.Owing.{Owing, Lowers, SendsToActors, HasRoom, owed, owed_at_birth};
+
+use sc_actor::Actor;
+
+/// In a lawful journal of a plain schedule each row comes in order: an actor goes that did not, or
+/// takes the first mail that is pending for it. No mail ever has two copies, and nobody crashes.
+pub fn plain_journals_are_orderly<A: Actor>()
+    ensures row { (words : ℕ → ℕ → ℕ × ℕ) (births : List (Seat A)) (lines : List (Line A.Order))
+        (rows : List (Row A.Mail A.Order)) (row : Row A.Mail A.Order) →
+        Each IsPlainLine lines →
+        IsLawful (system A.table A.Mail.receiver words births) lines (rows ++ row ∷ []) →
+        IsOrderly (system A.table A.Mail.receiver words births) rows row }
+    ensures tidy { (words : ℕ → ℕ → ℕ × ℕ) (births : List (Seat A)) (lines : List (Line A.Order))
+        (rows : List (Row A.Mail A.Order)) →
+        Each IsPlainLine lines →
+        IsLawful (system A.table A.Mail.receiver words births) lines rows → IsTidy rows }
+{}
+
+/// What is left of an actor's mail after a row of such a journal: without its first, where the row
+/// delivers to the actor, and with what the row sends to it behind. A journal is quiet exactly
+/// where nothing is left of the mail of any actor.
+pub fn mail_is_taken_in_order<A: Actor>()
+    ensures rest { (words : ℕ → ℕ → ℕ × ℕ) (births : List (Seat A)) (lines : List (Line A.Order))
+        (rows : List (Row A.Mail A.Order)) (row : Row A.Mail A.Order) (who : ℕ) →
+        let s = system A.table A.Mail.receiver words births in
+        Each IsPlainLine lines → IsLawful s lines (rows ++ row ∷ []) →
+        rest s (rows ++ row ∷ []) who
+        ≡ drop (taken who row) (rest s rows who) ++ mail_for s who row.sent }
+    ensures first { (words : ℕ → ℕ → ℕ × ℕ) (births : List (Seat A)) (lines : List (Line A.Order))
+        (rows : List (Row A.Mail A.Order)) (row : Row A.Mail A.Order) (number : ℕ) →
+        let s = system A.table A.Mail.receiver words births in
+        Each IsPlainLine lines → IsLawful s lines (rows ++ row ∷ []) →
+        row.event ≡ Deliver number →
+        (mail : A.Mail) × (numbered (mails rows) number ≡ Some mail)
+        × (A.Mail.receiver mail ≡ row.who) × (slice_get (rest s rows row.who) 0 ≡ Some mail) }
+    ensures quiet { (words : ℕ → ℕ → ℕ × ℕ) (births : List (Seat A)) (lines : List (Line A.Order))
+        (rows : List (Row A.Mail A.Order)) (who : ℕ) →
+        let s = system A.table A.Mail.receiver words births in
+        Each IsPlainLine lines → IsLawful s lines rows → is_quiet s rows ≡ true →
+        is_born s who ≡ true → rest s rows who ≡ [] }
+    ensures empty { (words : ℕ → ℕ → ℕ × ℕ) (births : List (Seat A)) (lines : List (Line A.Order))
+        (rows : List (Row A.Mail A.Order)) →
+        let s = system A.table A.Mail.receiver words births in
+        Each IsPlainLine lines → IsLawful s lines rows →
+        ((who : ℕ) → is_born s who ≡ true → rest s rows who ≡ []) → is_quiet s rows ≡ true }
+{}
+
+/// Where each delivery of a plain schedule's journals lowers what is owed by at least one, and no
+/// actor that goes raises it, the deliveries made and what is owed still are no more than what was
+/// owed at birth. So no line with room for so many is cut off, there is no more mail than so many,
+/// and no more rows than so many and one for each actor.
+pub fn deliveries_are_owed<A: Actor>()
+    ensures deliveries { (words : ℕ → ℕ → ℕ × ℕ) (births : List (Seat A))
+        (lines : List (Line A.Order)) (owing : Owing A A.Mail)
+        (journal : List (Row A.Mail A.Order)) →
+        let s = system A.table A.Mail.receiver words births in
+        are_apart births ≡ true → Each IsPlainLine lines → Lowers s owing lines →
+        IsLawful s lines journal →
+        deliveries journal + owed s owing journal ≤ owed_at_birth s owing }
+    ensures settled { (words : ℕ → ℕ → ℕ × ℕ) (births : List (Seat A))
+        (lines : List (Line A.Order)) (owing : Owing A A.Mail)
+        (journal : List (Row A.Mail A.Order)) →
+        let s = system A.table A.Mail.receiver words births in
+        are_apart births ≡ true → Each IsPlainLine lines → Lowers s owing lines →
+        Each (HasRoom (owed_at_birth s owing)) lines → IsLawful s lines journal →
+        unsettled s lines journal ≡ false }
+    ensures mails { (words : ℕ → ℕ → ℕ × ℕ) (births : List (Seat A))
+        (lines : List (Line A.Order)) (owing : Owing A A.Mail)
+        (journal : List (Row A.Mail A.Order)) →
+        let s = system A.table A.Mail.receiver words births in
+        are_apart births ≡ true → Each IsPlainLine lines → Lowers s owing lines →
+        SendsToActors s lines → IsLawful s lines journal →
+        length (mails journal) ≤ deliveries journal + owed s owing journal }
+    ensures rows { (words : ℕ → ℕ → ℕ × ℕ) (births : List (Seat A))
+        (lines : List (Line A.Order)) (journal : List (Row A.Mail A.Order)) →
+        let s = system A.table A.Mail.receiver words births in
+        are_apart births ≡ true → Each IsPlainLine lines → IsLawful s lines journal →
+        (length journal ≡ deliveries journal + goes journal) × (goes journal ≤ length births) }
+{}

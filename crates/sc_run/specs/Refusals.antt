@@ -1,0 +1,15 @@
+-- What is told of an input that is not what was asked for.
+use Rattle.std.specs.Prelude.{◌≡◌, codes}
+use Rattle.sc_statuses.specs.declared.said.Said.{Said}
+use Rattle.sc_statuses.specs.declared.said.Said.TheVariants.{BadScenario, ReadFault}
+use Rattle.sc_wants.specs.Faults.{fault_text}
+use Rattle.sc_wants.specs.declared.faults.InputFault.{InputFault}
+use Rattle.sc_wants.specs.declared.faults.InputFault.TheVariants.{Failed, Bad, OutOfMemory}
+use Rattle.sc_run.specs.declared.done.Text.{Text}
+use Rattle.sc_run.specs.Run.{TellsLine}
+
+-- which text is begun about a fault, and what it says; none after want of memory
+abbrev pub TellsFault : InputFault → Said → Text → Type 0
+TellsFault Failed said text = (said ≡ ReadFault) × TellsLine (codes "read fault") text
+TellsFault (Bad line why) said text = (said ≡ BadScenario) × TellsLine (fault_text line why) text
+TellsFault OutOfMemory said text = ⊥

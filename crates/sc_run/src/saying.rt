@@ -1,0 +1,148 @@
+//! Which text is begun, by what the words ask for and what the input is.
+ghost use Rattle.std.specs.Prelude.{◌≡◌, ◌≤◌, ◌+◌, false, map, string_bytes, IfOk};
+ghost use Rattle.sc_journal_file.specs.Stored.{most_file_bytes};
+ghost use Rattle.sc_lines.specs.Lines.{most_bytes};
+ghost use Rattle.sc_scenario.specs.Made.{made_scenario};
+ghost use Rattle.sc_wants.specs.Inputs.{most_takes};
+ghost use Rattle.sc_words.specs.Subcommands.{reads_input};
+ghost use Rattle.sc_statuses.specs.declared.said.Said.TheVariants.{Usage};
+ghost use Rattle.sc_run.specs.Run.{usage, Audits, Keeps, PlaysMade, Reads, Says, TellsLine};
+ghost use Rattle.sc_run.specs.Refusals.{TellsFault};
+
+use crate::auditing::audit;
+use crate::done::Text;
+use crate::reporting::{report, store};
+use crate::telling::tells;
+use sc_actor::Gate;
+use sc_base::OutOfMemory;
+use sc_edges::Source;
+use sc_make::made_scenario;
+use sc_statuses::Said;
+use sc_wants::{InputFault, fault_text, file_in, scenario_in, text_in};
+use sc_words::{Subcommand, subcommand_by};
+use std::alloc::Global;
+use std::sync::Wait;
+use std::thread::Threads;
+
+// The text about an input that is not what was asked for.
+fn refuse(alloc: Global, fault: InputFault) -> Result<(Said, Text), OutOfMemory>
+    ensures { IfOk result (λ begun. TellsFault fault begun.0 begun.1) }
+{
+    match fault {
+        InputFault::Failed => {
+            let text = tells(alloc, b"read fault")?;
+            Ok((Said::ReadFault, text))
+        }
+        InputFault::Bad { line, why } => {
+            let message = fault_text(alloc, line, why)?;
+            let text = tells(alloc, message.as_slice())?;
+            Ok((Said::BadScenario, text))
+        }
+        InputFault::OutOfMemory => Err(OutOfMemory),
+    }
+}
+
+// The usage line.
+fn tell_usage(alloc: Global) -> Result<(Said, Text), OutOfMemory>
+    ensures { IfOk result (λ begun. (begun.0 ≡ Usage) × TellsLine usage begun.1) }
+{
+    let text = tells(
+        alloc,
+        b"usage: scatter run | scatter make N S | scatter journal | scatter audit",
+    )?;
+    Ok((Said::Usage, text))
+}
+
+// What comes of the scenario that the input is.
+fn report_input<S: Source, G: Gate, R: Threads + Wait + Sync>(
+    rt: &R,
+    alloc: Global,
+    input: &mut S,
+    gate: &G,
+) -> Result<(Said, Text), OutOfMemory>
+    ensures says { IfOk result (λ begun. Reads (record {
+        left = S.left input.old;
+        faults_before = S.faults input.old;
+        faults_after = S.faults input.new }) begun.0 begun.1) }
+    ensures takes { S.calls input.new ≤ S.calls input.old + (most_bytes + 2) }
+{
+    match scenario_in(alloc, input) {
+        Ok(scenario) => report(rt, alloc, &scenario, gate),
+        Err(fault) => refuse(alloc, fault),
+    }
+}
+
+// What is stored of the scenario that the input is.
+fn store_input<S: Source, G: Gate, R: Threads + Wait + Sync>(
+    rt: &R,
+    alloc: Global,
+    input: &mut S,
+    gate: &G,
+) -> Result<(Said, Text), OutOfMemory>
+    ensures says { IfOk result (λ begun. Keeps (record {
+        left = S.left input.old;
+        faults_before = S.faults input.old;
+        faults_after = S.faults input.new }) begun.0 begun.1) }
+    ensures takes { S.calls input.new ≤ S.calls input.old + (most_bytes + 2) }
+{
+    match text_in(alloc, input) {
+        Ok((scenario, bytes)) => store(rt, alloc, &scenario, &bytes, gate),
+        Err(fault) => refuse(alloc, fault),
+    }
+}
+
+// Whether the journal is lawful that the input stores.
+fn audit_input<S: Source>(alloc: Global, input: &mut S) -> Result<(Said, Text), OutOfMemory>
+    ensures says { IfOk result (λ begun. Audits (record {
+        left = S.left input.old;
+        faults_before = S.faults input.old;
+        faults_after = S.faults input.new }) begun.0 begun.1) }
+    ensures takes { S.calls input.new ≤ S.calls input.old + (most_file_bytes + 2) }
+{
+    match file_in(alloc, input) {
+        Ok((scenario, rows)) => audit(alloc, &scenario, rows),
+        Err(fault) => refuse(alloc, fault),
+    }
+}
+
+// What comes of a made scenario, of 1 to 1,000 requests a client.
+fn report_made<G: Gate, R: Threads + Wait + Sync>(
+    rt: &R,
+    alloc: Global,
+    n: u32,
+    seed: u64,
+    gate: &G,
+) -> Result<(Said, Text), OutOfMemory>
+    requires { (1 ≤ n) × (n ≤ 1000) }
+    ensures { IfOk result (λ begun. PlaysMade (made_scenario n seed) begun.0 begun.1) }
+{
+    let scenario = made_scenario(alloc, n, seed)?;
+    report(rt, alloc, &scenario, gate)
+}
+
+/// The text for what the words ask for. The input is read only after one of the words `run`,
+/// `journal` and `audit` alone.
+pub(crate) fn say<S: Source, G: Gate, R: Threads + Wait + Sync>(
+    rt: &R,
+    alloc: Global,
+    words: &[String],
+    input: &mut S,
+    gate: &G,
+) -> Result<(Said, Text), OutOfMemory>
+    ensures says { IfOk result (λ begun. Says (map string_bytes words.now) (record {
+        left = S.left input.old;
+        faults_before = S.faults input.old;
+        faults_after = S.faults input.new })
+        begun.0 begun.1) }
+    ensures unread { reads_input (map string_bytes words.now) ≡ false → input.new ≡ input.old }
+    ensures takes { S.calls input.new ≤ S.calls input.old
+        + most_takes (map string_bytes words.now) }
+{
+    match subcommand_by(alloc, words)? {
+        None => tell_usage(alloc),
+        Some(Subcommand::Run) => report_input(rt, alloc, input, gate),
+        Some(Subcommand::Journal) => store_input(rt, alloc, input, gate),
+        Some(Subcommand::Audit) => audit_input(alloc, input),
+        Some(Subcommand::Make { n, seed }) => report_made(rt, alloc, n, seed, gate),
+    }
+}
