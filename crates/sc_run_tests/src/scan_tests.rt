@@ -1,9 +1,10 @@
-//! Scans of worked scenarios, after a third, two thirds and all of their rows, beside a plain list
+//! Scans: worked rows, and scans of worked scenarios, after a third, two thirds and all of their rows, beside a plain list
 //! into which their histories are put from the beginning; and the same after each row of a merge, of
 //! a boundary that moves and of a member that is handed over.
 ghost use Rattle.sc_scenario.specs.Valid.{IsValid};
 
 use crate::replay_tests::{played, scenario_of};
+use crate::run_tests::{CUT_SHORT, Case, FIRST, check_all};
 use sc_actor::Row;
 use sc_base::{Dup, Key, Op, RingArc, Value};
 use sc_cmd::{Base, OrderLine};
@@ -17,6 +18,91 @@ use std::mem::forget;
 use std::process::Abort;
 use std::sync::Wait;
 use std::thread::Threads;
+
+const USAGE: &[u8] = b"usage: scatter run | scatter make N S | scatter journal | scatter audit \
+        | scatter scan LO LEN R MOST\n";
+
+// Three pairs of one group.
+const THREE: &[u8] = b"scatter 1\nnodes 1\ngroup 0 1\nclient 1\nput a x\nput m y\nput z w\nend\n\
+        go 1\nsettle 100\n";
+
+// What must come of words and an input: the text of a scan, or why there is none.
+const WORKED: &[Case] = &[
+    (
+        ("scan 0 4294967296 100 10", FIRST, 0, 0),
+        (
+            0,
+            true,
+            b"scatter scan 1\nrows 9\npart 0 4294967296 group 0.1 slot 2\npair a x\npairs 1\n",
+        ),
+    ),
+    (
+        ("scan 1627389953 4294967296 4 10", FIRST, 0, 0),
+        (
+            0,
+            true,
+            b"scatter scan 1\nrows 4\npart 1627389953 2667577343 group 0.1 slot 1\n\
+                part 0 1627389953 group 0.1 slot 1\npair a x\npairs 1\n",
+        ),
+    ),
+    (
+        ("scan 1627389953 4294967296 2 10", FIRST, 0, 0),
+        (
+            0,
+            true,
+            b"scatter scan 1\nrows 2\npart 1627389953 2667577343 group 0.1 slot 0\n\
+                part 0 1627389953 group 0.1 slot 0\npairs 0\n",
+        ),
+    ),
+    (
+        ("scan 1828716544 4294967296 4294967295 2", THREE, 0, 0),
+        (
+            0,
+            true,
+            b"scatter scan 1\nrows 13\npart 1828716544 2466250752 group 0.1 slot 3\npair m y\n\
+                pair z w\npage\npart 0 1828716544 group 0.1 slot 3\npair a x\npairs 3\n",
+        ),
+    ),
+    (
+        ("scan 0 4294967296 4294967295 3", THREE, 0, 0),
+        (
+            0,
+            true,
+            b"scatter scan 1\nrows 13\npart 0 4294967296 group 0.1 slot 3\npair a x\n\
+                pair m y\npair z w\npairs 3\n",
+        ),
+    ),
+    (
+        ("scan 0 4294967296 100 10", CUT_SHORT, 0, 0),
+        (
+            6,
+            true,
+            b"scatter scan 1\nrows 2\npart 0 4294967296 group 0.1 slot 0\npairs 0\n",
+        ),
+    ),
+];
+
+// Words that spell no scan, and faults of input, source and sink.
+const REFUSED: &[Case] = &[
+    (("scan 0 0 1 1", FIRST, 0, 0), (2, false, USAGE)),
+    (("scan 4294967296 1 1 1", FIRST, 0, 0), (2, false, USAGE)),
+    (("scan 0 4294967297 1 1", FIRST, 0, 0), (2, false, USAGE)),
+    (("scan 0 1 4294967296 1", FIRST, 0, 0), (2, false, USAGE)),
+    (("scan 0 1 1 0", FIRST, 0, 0), (2, false, USAGE)),
+    (("scan 0 1 1 1000001", FIRST, 0, 0), (2, false, USAGE)),
+    (("scan 0 1 1", FIRST, 0, 0), (2, false, USAGE)),
+    (("scan 0 1 1 -1", FIRST, 0, 0), (2, false, USAGE)),
+    (("run 0 1 1 1", FIRST, 0, 0), (2, false, USAGE)),
+    (
+        ("scan 0 1 1 1", b"", 0, 0),
+        (3, false, b"line 1: missing header\n"),
+    ),
+    (("scan 0 1 1 1", FIRST, 1, 0), (4, false, b"read fault\n")),
+    (
+        ("scan 0 1 1 1", FIRST, 0, 2),
+        (5, true, b"scatter scan 1\n"),
+    ),
+];
 
 // Scenarios in which groups merge, split, move boundaries and members, fail and recover.
 const CASES: &[&[u8]] = &[
@@ -241,6 +327,16 @@ fn are_maps<R: Abort + Threads + Wait + Sync>(
     forget(journal);
     forget(scenario);
     are
+}
+
+#[test]
+fn scans_are_printed_as_worked(rt: HostRuntime) {
+    check_all(&rt, rt.alloc(), WORKED);
+}
+
+#[test]
+fn words_that_spell_no_scan_and_faults_are_told(rt: HostRuntime) {
+    check_all(&rt, rt.alloc(), REFUSED);
 }
 
 #[test]
