@@ -1,3 +1,4 @@
 mod Plays
 mod Readings
+mod Shown
 pub mod Told

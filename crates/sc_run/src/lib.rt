@@ -9,6 +9,7 @@ mod played;
 mod reporting;
 mod running;
 mod saying;
+mod showing;
 mod telling;
 
 pub use auditing::{audit, lawful_journals_are_told};
@@ -17,4 +18,5 @@ pub use done::{Done, Text};
 pub use played::{play, play_pool};
 pub use reporting::{Left, play_whole, report, store};
 pub use running::run;
+pub use showing::show;
 pub use telling::tells_full;
