@@ -1,20 +1,22 @@
-//! A line of rounds.
+//! A line of many deliveries by many workers.
 ghost use Rattle.std.specs.Prelude.{[], ◌∷◌, OnOk, IsErrOf};
 ghost use Rattle.sc_actor.specs.Walk.{Frees};
 ghost use Rattle.sc_drive.specs.Working.{AreTogether, LineEnded, LineRefused};
 
 use crate::company::{Company, Stop};
+use crate::ways::freed;
 use sc_actor::{Actor, Gate};
-use sc_workers::{Rounds, gather, rounds};
+use sc_workers::{Rounds, Way, gather};
 use std::alloc::Global;
 use std::sync::Wait;
 use std::thread::Threads;
 
 /// A line of many deliveries, each of the first pending mail of any actor, by so many workers, of
-/// which there are 1 to 16.
+/// which there are 1 to 16: in rounds, or by a pool.
 pub(crate) fn run_free<A: Actor, G: Gate, R: Threads + Wait + Sync>(
     rt: &R,
     alloc: Global,
+    way: Way,
     company: &mut Company<A>,
     most: u32,
     workers: u32,
@@ -27,7 +29,7 @@ pub(crate) fn run_free<A: Actor, G: Gate, R: Threads + Wait + Sync>(
 {
     let crew = workers.max(1).min(16);
     let Company { net, shells, score } = company;
-    let end = rounds(rt, alloc, net, shells, crew, most, gate);
+    let end = freed(rt, alloc, way, net, shells, crew, most, gate)?;
     let _ = gather(rt, net, shells)?;
     match end {
         Rounds::Quiet { .. } => Ok(()),

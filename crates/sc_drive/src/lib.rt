@@ -13,6 +13,7 @@ mod settle_lines;
 mod single_lines;
 mod start;
 mod storm_lines;
+mod ways;
 
 pub use company::{Company, Score};
 pub use conditions::goers_are_spared;

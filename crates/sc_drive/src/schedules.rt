@@ -13,7 +13,7 @@ use crate::settle_lines::{lowest, run_settle};
 use crate::single_lines::{run_go, run_once};
 use crate::storm_lines::run_storm;
 use sc_actor::{Actor, Gate, Line, Played};
-use sc_workers::gather;
+use sc_workers::{Way, gather};
 use std::alloc::Global;
 use std::sync::Wait;
 use std::thread::Threads;
@@ -22,6 +22,7 @@ use std::thread::Threads;
 fn run_line<A: Actor, G: Gate, R: Threads + Wait + Sync>(
     rt: &R,
     alloc: Global,
+    way: Way,
     company: &mut Company<A>,
     line: &Line<A::Order>,
     gate: &G,
@@ -37,19 +38,21 @@ fn run_line<A: Actor, G: Gate, R: Threads + Wait + Sync>(
     match line {
         Line::Go { who } => run_go(rt, alloc, company, *who),
         Line::Settle { most } => run_settle(rt, alloc, company, *most, gate),
-        Line::Free { most, workers } => run_free(rt, alloc, company, *most, *workers, gate),
+        Line::Free { most, workers } => run_free(rt, alloc, way, company, *most, *workers, gate),
         Line::Storm { number, most } => run_storm(rt, alloc, company, *number, *most, gate),
         _ => run_once(rt, alloc, company, line, gate),
     }
 }
 
-/// Drives a schedule through a company that has just opened.
+/// Drives a schedule through a company that has just opened. `way` tells how a line of many workers
+/// is worked.
 ///
 /// No line tells an actor to go that another lets crash (`goers_are_spared`). The journal is
 /// afterwards what the contract of a played schedule says.
 pub fn drive<A: Actor, G: Gate, R: Threads + Wait + Sync>(
     rt: &R,
     alloc: Global,
+    way: Way,
     company: &mut Company<A>,
     lines: &[Line<A::Order>],
     gate: &G,
@@ -65,7 +68,7 @@ pub fn drive<A: Actor, G: Gate, R: Threads + Wait + Sync>(
         return Played::OutOfMemory;
     };
     for line in lines {
-        match run_line(rt, alloc, company, line, gate) {
+        match run_line(rt, alloc, way, company, line, gate) {
             Ok(()) => {}
             Err(Stop::Full) => return Played::Full,
             Err(Stop::OutOfMemory) => return Played::OutOfMemory,

@@ -36,7 +36,7 @@ use Rattle.sc_chance.specs.Words.{two_words}
 
 -- the text for other words
 abbrev pub usage : List ℕ
-usage = codes "usage: scatter run | scatter make N S | scatter journal | scatter audit | scatter scan LO LEN R MOST"
+usage = codes "usage: scatter run | scatter make N S | scatter journal | scatter audit | scatter scan LO LEN R MOST | scatter pool"
 
 -- the one line of a text that is about no journal
 pub record TellsLine (message : List ℕ) (text : Text) : Type 0 where
@@ -169,7 +169,7 @@ pub record ReadsAndAudits (source : SourceUse) (said : Said) (text : Text) : Typ
   pub read : ReadsFile source.left scenario rows
   pub audits : AuditsAs scenario rows said text
 
--- What a text says that was begun after the word `run`, and its cause.
+-- What a text says that was begun after the word `run`, or after `pool`, and its cause.
 abbrev pub Reads : SourceUse → Said → Text → Type 0
 Reads source said text = Refuses IsBadText source said text ⊎ ReadsAndPlays source said text
 
@@ -195,6 +195,7 @@ SaysFor None source said text = (said ≡ Usage) × TellsLine usage text
 SaysFor (Some ask.Run) source said text = Reads source said text
 SaysFor (Some ask.Journal) source said text = Keeps source said text
 SaysFor (Some ask.Audit) source said text = Audits source said text
+SaysFor (Some ask.Pool) source said text = Reads source said text
 SaysFor (Some (ask.Scan sight)) source said text = Scans sight source said text
 SaysFor (Some (ask.Make n seed)) source said text = PlaysMade (made_scenario n seed) said text
 

@@ -15,11 +15,7 @@ use std::alloc::Global;
 /// the clients, each as it is born.
 ///
 /// The actors' numbers are 1 to 96: nodes have 1 to 32, and clients come from 33 on.
-pub fn begin(
-    alloc: Global,
-    scenario: &Scenario,
-    limit: u64,
-) -> Result<Company<Party>, OutOfMemory>
+pub fn begin(alloc: Global, scenario: &Scenario, limit: u64) -> Result<Company<Party>, OutOfMemory>
     requires valid { IsValid scenario.now }
     requires limit { limit ≤ 2 ^ 30 }
     ensures opened { IfOk result (HasOpened (births as_nodes scenario.now)) }

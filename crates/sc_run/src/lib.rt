@@ -15,7 +15,7 @@ mod telling;
 pub use auditing::{audit, lawful_journals_are_told};
 pub use begun::begin;
 pub use done::{Done, Text};
-pub use played::play;
+pub use played::{play, play_pool};
 pub use reporting::{Left, play_whole, report, store};
 pub use running::run;
 pub use showing::show;

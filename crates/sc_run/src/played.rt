@@ -11,13 +11,38 @@ use sc_actor::{Gate, Played};
 use sc_drive::{Company, drive};
 use sc_scenario::Scenario;
 use sc_whole_law::valid_journals_are_sound;
+use sc_workers::Way;
 use sc_world::{Party, schedule, valid_scenarios_can_play};
 use std::alloc::Global;
 use std::sync::Wait;
 use std::thread::Threads;
 
+// Plays a scenario by a way of working lines of many workers.
+fn play_by<G: Gate, R: Threads + Wait + Sync>(
+    rt: &R,
+    alloc: Global,
+    way: Way,
+    scenario: &Scenario,
+    company: &mut Company<Party>,
+    gate: &G,
+) -> Played
+    requires valid { IsValid scenario.now }
+    requires opened { HasOpened (births as_nodes scenario.now) company.old }
+    ensures kept { result ≢ OutOfMemory → StaysWhole company.old company.new }
+    ensures played { IsPlayed scenario.now company.old.net.limit (seen company.new.net)
+        (map (λ s. s.actor) company.new.shells.items) result }
+{
+    valid_scenarios_can_play();
+    valid_journals_are_sound();
+    let Ok(lines) = schedule(alloc, scenario) else {
+        return Played::OutOfMemory;
+    };
+    drive(rt, alloc, way, company, lines.as_slice(), gate)
+}
+
 /// Plays a scenario through its company, which has just opened: actors step in their shells alone,
-/// and mail is lost and repeated by the network's port alone.
+/// and mail is lost and repeated by the network's port alone. Its lines of many workers are worked
+/// in rounds.
 ///
 /// The scenario is one that some text is, or that was made. The journal is what the network's port
 /// has seen at the end, and its limit is that of the exchange.
@@ -34,10 +59,22 @@ pub fn play<G: Gate, R: Threads + Wait + Sync>(
     ensures played { IsPlayed scenario.now company.old.net.limit (seen company.new.net)
         (map (λ s. s.actor) company.new.shells.items) result }
 {
-    valid_scenarios_can_play();
-    valid_journals_are_sound();
-    let Ok(lines) = schedule(alloc, scenario) else {
-        return Played::OutOfMemory;
-    };
-    drive(rt, alloc, company, lines.as_slice(), gate)
+    play_by(rt, alloc, Way::Runs, scenario, company, gate)
+}
+
+/// The same, where its lines of many workers are worked by a pool.
+pub fn play_pool<G: Gate, R: Threads + Wait + Sync>(
+    rt: &R,
+    alloc: Global,
+    scenario: &Scenario,
+    company: &mut Company<Party>,
+    gate: &G,
+) -> Played
+    requires valid { IsValid scenario.now }
+    requires opened { HasOpened (births as_nodes scenario.now) company.old }
+    ensures kept { result ≢ OutOfMemory → StaysWhole company.old company.new }
+    ensures played { IsPlayed scenario.now company.old.net.limit (seen company.new.net)
+        (map (λ s. s.actor) company.new.shells.items) result }
+{
+    play_by(rt, alloc, Way::Queue, scenario, company, gate)
 }

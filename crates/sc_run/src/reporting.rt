@@ -1,22 +1,27 @@
 //! A scenario played whole, and its report.
-ghost use Rattle.std.specs.Prelude.{◌≡◌, ◌≤◌, ◌^◌, IfOk};
+ghost use Rattle.std.specs.Prelude.{◌≡◌, ◌≢◌, ◌≤◌, ◌^◌, map, IfOk};
+ghost use Rattle.sc_actor.specs.declared.schedules.Played.TheVariants.{OutOfMemory};
+ghost use Rattle.sc_exchange.specs.Ports.{seen};
+ghost use Rattle.sc_drive.specs.Working.{HasOpened, StaysWhole};
+ghost use Rattle.sc_sound.specs.Players.{births, as_nodes};
 ghost use Rattle.sc_scenario.specs.Valid.{IsValid};
 ghost use Rattle.sc_run.specs.Played.{IsPlayed};
 ghost use Rattle.sc_run.specs.Run.{Comes, ShowsFile, ShowsReport};
 
 use crate::begun::begin;
 use crate::done::Text;
-use crate::played::play;
+use crate::played::{play, play_pool};
 use crate::telling::tells_full;
 use sc_actor::{Gate, Journal, Played};
 use sc_base::{OutOfMemory, Sequence};
 use sc_cmd::OrderLine;
-use sc_drive::close;
+use sc_drive::{Company, close};
 use sc_journal_file::file_lines;
 use sc_mail::Mail;
 use sc_report::lines;
 use sc_scenario::Scenario;
 use sc_statuses::{Said, said_by};
+use sc_workers::Way;
 use sc_world::{Party, sum_up};
 use std::alloc::Global;
 use std::sync::Wait;
@@ -31,11 +36,34 @@ pub struct Left {
     pub parties: Sequence<Party>,
 }
 
+// Plays a scenario, its lines of many workers in rounds or by a pool.
+fn play_in<G: Gate, R: Threads + Wait + Sync>(
+    rt: &R,
+    alloc: Global,
+    way: Way,
+    scenario: &Scenario,
+    company: &mut Company<Party>,
+    gate: &G,
+) -> Played
+    requires valid { IsValid scenario.now }
+    requires opened { HasOpened (births as_nodes scenario.now) company.old }
+    ensures kept { result ≢ OutOfMemory → StaysWhole company.old company.new }
+    ensures played { IsPlayed scenario.now company.old.net.limit (seen company.new.net)
+        (map (λ s. s.actor) company.new.shells.items) result }
+{
+    match way {
+        Way::Runs => play(rt, alloc, scenario, company, gate),
+        Way::Queue => play_pool(rt, alloc, scenario, company, gate),
+    }
+}
+
 /// Begins a scenario within a limit of counted bytes of at most 2^30, plays it, takes the shells
-/// apart, joins their ports and closes the network's port.
+/// apart, joins their ports and closes the network's port. `way` tells how its lines of many workers
+/// are worked.
 pub fn play_whole<G: Gate, R: Threads + Wait + Sync>(
     rt: &R,
     alloc: Global,
+    way: Way,
     scenario: &Scenario,
     limit: u64,
     gate: &G,
@@ -46,7 +74,7 @@ pub fn play_whole<G: Gate, R: Threads + Wait + Sync>(
         (λ left. IsPlayed scenario.now limit left.journal left.parties left.played) }
 {
     let mut company = begin(alloc, scenario, limit)?;
-    let played = play(rt, alloc, scenario, &mut company, gate);
+    let played = play_in(rt, alloc, way, scenario, &mut company, gate);
     if played == Played::OutOfMemory {
         return Err(OutOfMemory);
     }
@@ -60,10 +88,12 @@ pub fn play_whole<G: Gate, R: Threads + Wait + Sync>(
 
 /// The report of a scenario that was played to its end, or what is told of one that was not.
 ///
-/// Where a row would pass the limit of 2^30 counted bytes, the text tells after how many rows.
+/// Where a row would pass the limit of 2^30 counted bytes, the text tells after how many rows. `way`
+/// is that of `play_whole`.
 pub fn report<G: Gate, R: Threads + Wait + Sync>(
     rt: &R,
     alloc: Global,
+    way: Way,
     scenario: &Scenario,
     gate: &G,
 ) -> Result<(Said, Text), OutOfMemory>
@@ -71,7 +101,7 @@ pub fn report<G: Gate, R: Threads + Wait + Sync>(
     ensures { IfOk result (λ begun.
         Comes (ShowsReport scenario.now) scenario.now begun.0 begun.1) }
 {
-    let left = play_whole(rt, alloc, scenario, 1 << 30, gate)?;
+    let left = play_whole(rt, alloc, way, scenario, 1 << 30, gate)?;
     let Some(said) = said_by(left.played) else {
         return Err(OutOfMemory);
     };
@@ -109,7 +139,7 @@ pub fn store<G: Gate, R: Threads + Wait + Sync>(
     ensures { IfOk result (λ begun.
         Comes (ShowsFile bytes.now) scenario.now begun.0 begun.1) }
 {
-    let left = play_whole(rt, alloc, scenario, 1 << 30, gate)?;
+    let left = play_whole(rt, alloc, Way::Runs, scenario, 1 << 30, gate)?;
     let Some(said) = said_by(left.played) else {
         return Err(OutOfMemory);
     };

@@ -31,18 +31,20 @@ pub fn run<S: Source, K: Sink, G: Gate, R: Threads + Wait + Sync>(
 ) -> Done
     ensures runs { Runs (map string_bytes words.now.items)
         (record {
-        left = S.left input.old;
-        faults_before = S.faults input.old;
-        faults_after = S.faults input.new })
+          left = S.left input.old;
+          faults_before = S.faults input.old;
+          faults_after = S.faults input.new;
+        })
         (record {
-        held_before = K.held output.old;
-        held_after = K.held output.new;
-        pieces_before = K.pieces output.old;
-        pieces_after = K.pieces output.new;
-        faults_before = K.faults output.old;
-        faults_after = K.faults output.new;
-        calls_before = K.calls output.old;
-        calls_after = K.calls output.new })
+          held_before = K.held output.old;
+          held_after = K.held output.new;
+          pieces_before = K.pieces output.old;
+          pieces_after = K.pieces output.new;
+          faults_before = K.faults output.old;
+          faults_after = K.faults output.new;
+          calls_before = K.calls output.old;
+          calls_after = K.calls output.new;
+        })
         result }
     ensures unread { reads_input (map string_bytes words.now.items) ≡ false →
         input.new ≡ input.old }

@@ -21,6 +21,7 @@ use sc_make::made_scenario;
 use sc_statuses::Said;
 use sc_wants::{InputFault, fault_text, file_in, scenario_in, text_in};
 use sc_words::{Sight, Subcommand, subcommand_by};
+use sc_workers::Way;
 use std::alloc::Global;
 use std::sync::Wait;
 use std::thread::Threads;
@@ -50,7 +51,7 @@ fn tell_usage(alloc: Global) -> Result<(Said, Text), OutOfMemory>
     let text = tells(
         alloc,
         b"usage: scatter run | scatter make N S | scatter journal | scatter audit \
-        | scatter scan LO LEN R MOST",
+        | scatter scan LO LEN R MOST | scatter pool",
     )?;
     Ok((Said::Usage, text))
 }
@@ -59,17 +60,19 @@ fn tell_usage(alloc: Global) -> Result<(Said, Text), OutOfMemory>
 fn report_input<S: Source, G: Gate, R: Threads + Wait + Sync>(
     rt: &R,
     alloc: Global,
+    way: Way,
     input: &mut S,
     gate: &G,
 ) -> Result<(Said, Text), OutOfMemory>
     ensures says { IfOk result (λ begun. Reads (record {
-        left = S.left input.old;
-        faults_before = S.faults input.old;
-        faults_after = S.faults input.new }) begun.0 begun.1) }
+      left = S.left input.old;
+      faults_before = S.faults input.old;
+      faults_after = S.faults input.new;
+    }) begun.0 begun.1) }
     ensures takes { S.calls input.new ≤ S.calls input.old + (most_bytes + 2) }
 {
     match scenario_in(alloc, input) {
-        Ok(scenario) => report(rt, alloc, &scenario, gate),
+        Ok(scenario) => report(rt, alloc, way, &scenario, gate),
         Err(fault) => refuse(alloc, fault),
     }
 }
@@ -82,9 +85,10 @@ fn store_input<S: Source, G: Gate, R: Threads + Wait + Sync>(
     gate: &G,
 ) -> Result<(Said, Text), OutOfMemory>
     ensures says { IfOk result (λ begun. Keeps (record {
-        left = S.left input.old;
-        faults_before = S.faults input.old;
-        faults_after = S.faults input.new }) begun.0 begun.1) }
+      left = S.left input.old;
+      faults_before = S.faults input.old;
+      faults_after = S.faults input.new;
+    }) begun.0 begun.1) }
     ensures takes { S.calls input.new ≤ S.calls input.old + (most_bytes + 2) }
 {
     match text_in(alloc, input) {
@@ -103,9 +107,10 @@ fn show_input<S: Source, G: Gate, R: Threads + Wait + Sync>(
 ) -> Result<(Said, Text), OutOfMemory>
     requires { 1 ≤ sight.most }
     ensures says { IfOk result (λ begun. Scans sight (record {
-        left = S.left input.old;
-        faults_before = S.faults input.old;
-        faults_after = S.faults input.new }) begun.0 begun.1) }
+      left = S.left input.old;
+      faults_before = S.faults input.old;
+      faults_after = S.faults input.new;
+    }) begun.0 begun.1) }
     ensures takes { S.calls input.new ≤ S.calls input.old + (most_bytes + 2) }
 {
     match scenario_in(alloc, input) {
@@ -117,9 +122,10 @@ fn show_input<S: Source, G: Gate, R: Threads + Wait + Sync>(
 // Whether the journal is lawful that the input stores.
 fn audit_input<S: Source>(alloc: Global, input: &mut S) -> Result<(Said, Text), OutOfMemory>
     ensures says { IfOk result (λ begun. Audits (record {
-        left = S.left input.old;
-        faults_before = S.faults input.old;
-        faults_after = S.faults input.new }) begun.0 begun.1) }
+      left = S.left input.old;
+      faults_before = S.faults input.old;
+      faults_after = S.faults input.new;
+    }) begun.0 begun.1) }
     ensures takes { S.calls input.new ≤ S.calls input.old + (most_file_bytes + 2) }
 {
     match file_in(alloc, input) {
@@ -140,11 +146,11 @@ fn report_made<G: Gate, R: Threads + Wait + Sync>(
     ensures { IfOk result (λ begun. PlaysMade (made_scenario n seed) begun.0 begun.1) }
 {
     let scenario = made_scenario(alloc, n, seed)?;
-    report(rt, alloc, &scenario, gate)
+    report(rt, alloc, Way::Runs, &scenario, gate)
 }
 
 /// The text for what the words ask for. The input is read only after one of the words `run`,
-/// `journal` and `audit` alone, and after `scan` with its four numbers.
+/// `journal`, `audit` and `pool` alone, and after `scan` with its four numbers.
 pub(crate) fn say<S: Source, G: Gate, R: Threads + Wait + Sync>(
     rt: &R,
     alloc: Global,
@@ -153,9 +159,10 @@ pub(crate) fn say<S: Source, G: Gate, R: Threads + Wait + Sync>(
     gate: &G,
 ) -> Result<(Said, Text), OutOfMemory>
     ensures says { IfOk result (λ begun. Says (map string_bytes words.now) (record {
-        left = S.left input.old;
-        faults_before = S.faults input.old;
-        faults_after = S.faults input.new })
+      left = S.left input.old;
+      faults_before = S.faults input.old;
+      faults_after = S.faults input.new;
+    })
         begun.0 begun.1) }
     ensures unread { reads_input (map string_bytes words.now) ≡ false → input.new ≡ input.old }
     ensures takes { S.calls input.new ≤ S.calls input.old
@@ -163,7 +170,8 @@ pub(crate) fn say<S: Source, G: Gate, R: Threads + Wait + Sync>(
 {
     match subcommand_by(alloc, words)? {
         None => tell_usage(alloc),
-        Some(Subcommand::Run) => report_input(rt, alloc, input, gate),
+        Some(Subcommand::Run) => report_input(rt, alloc, Way::Runs, input, gate),
+        Some(Subcommand::Pool) => report_input(rt, alloc, Way::Queue, input, gate),
         Some(Subcommand::Journal) => store_input(rt, alloc, input, gate),
         Some(Subcommand::Audit) => audit_input(alloc, input),
         Some(Subcommand::Scan(sight)) => show_input(rt, alloc, input, sight, gate),

@@ -22,6 +22,7 @@ use sc_scenario::Scenario;
 use sc_statuses::{Said, said_by};
 use sc_whole_law::valid_entries_are_logs;
 use sc_words::Sight;
+use sc_workers::Way;
 use std::alloc::Global;
 use std::sync::Wait;
 use std::thread::Threads;
@@ -71,7 +72,7 @@ pub fn show<G: Gate, R: Threads + Wait + Sync>(
     scans_tell();
     entries_count_logs();
     valid_entries_are_logs();
-    let left = play_whole(rt, alloc, scenario, 1 << 30, gate)?;
+    let left = play_whole(rt, alloc, Way::Runs, scenario, 1 << 30, gate)?;
     let Some(said) = said_by(left.played) else {
         return Err(OutOfMemory);
     };

@@ -13,6 +13,7 @@ use sc_mail::{Mail, MailBody};
 use sc_run::{Left, play_whole, tells_full};
 use sc_scenario::Scenario;
 use sc_statuses::Played;
+use sc_workers::Way;
 use std::alloc::Global;
 use std::mem::forget;
 use std::process::Abort;
@@ -103,7 +104,7 @@ fn left_of<R: Abort + Threads + Wait + Sync>(
     requires valid { IsValid scenario.now }
     requires limit { limit ≤ 2 ^ 30 }
 {
-    play_whole(rt, alloc, scenario, limit, &Open).expect(rt, "memory")
+    play_whole(rt, alloc, Way::Runs, scenario, limit, &Open).expect(rt, "memory")
 }
 
 // The old values that the history of a run answers, in its order, a line each: a group of one

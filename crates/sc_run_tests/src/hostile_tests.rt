@@ -8,6 +8,7 @@ use crate::run_tests::{Case, FIRST, FIRST_REPORT, check, check_all};
 use crate::thread_tests::add;
 use sc_run::{Left, play_whole};
 use sc_statuses::Played;
+use sc_workers::Way;
 use std::alloc::Global;
 use std::mem::forget;
 use std::process::Abort;
@@ -137,7 +138,7 @@ fn played_within<R: Abort + Threads + Wait + Sync>(
     requires { limit ≤ 2 ^ 30 }
 {
     let scenario = scenario_of(rt, alloc, FIRST);
-    let left = play_whole(rt, alloc, &scenario, limit, &Open).expect(rt, "memory");
+    let left = play_whole(rt, alloc, Way::Runs, &scenario, limit, &Open).expect(rt, "memory");
     let Left {
         played,
         journal,

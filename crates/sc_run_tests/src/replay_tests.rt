@@ -15,6 +15,7 @@ use sc_report::{ReportLine, Summary, lines};
 use sc_run::{Left, play_whole};
 use sc_scenario::{Scenario, read_scenario};
 use sc_statuses::Played;
+use sc_workers::Way;
 use sc_world::{Party, ReplayFault, World, decided_log, history, replay_rows, summary};
 use std::alloc::Global;
 use std::mem::{self, forget};
@@ -77,7 +78,7 @@ pub fn played<R: Abort + Threads + Wait + Sync>(
 ) -> Journal<Mail, OrderLine>
     requires { IsValid scenario.now }
 {
-    let left = play_whole(rt, alloc, scenario, 1 << 30, &Open).expect(rt, "memory");
+    let left = play_whole(rt, alloc, Way::Runs, scenario, 1 << 30, &Open).expect(rt, "memory");
     let Left {
         played,
         journal,

@@ -31,11 +31,15 @@ pub const FIRST_REPORT: &[u8] =
         rows 9\nmail 8\ndelivered 8\nskipped 0\nquiet yes\n";
 
 const USAGE: &[u8] = b"usage: scatter run | scatter make N S | scatter journal | scatter audit \
-        | scatter scan LO LEN R MOST\n";
+        | scatter scan LO LEN R MOST | scatter pool\n";
 
 /// A run that is cut off with mail pending.
 pub const CUT_SHORT: &[u8] =
     b"scatter 1\nnodes 1\ngroup 0 1\nclient 1\nput a x\nget a\nend\ngo 1\nsettle 1\n";
+
+// One delivery by a pool is all that the line allows.
+const FREE_ONCE: &[u8] =
+    b"scatter 1\nnodes 1\ngroup 0 1\nclient 1\nput a x\nget a\nend\ngo 1\nfree 1 4\n";
 
 const CUT_SHORT_REPORT: &[u8] =
     b"scatter report 1\nunanswered 1 1 put\nunsent 1 2 get\nring 0 group 0.1 members 1\nrows 2\n\
@@ -218,7 +222,10 @@ pub fn check_all<R: Abort + Threads + Wait + Sync>(rt: &R, alloc: Global, cases:
 
 const CASES: &[Case] = &[
     (("run", FIRST, 0, 0), (0, true, FIRST_REPORT)),
+    (("pool", FIRST, 0, 0), (0, true, FIRST_REPORT)),
     (("run", CUT_SHORT, 0, 0), (6, true, CUT_SHORT_REPORT)),
+    (("pool", FREE_ONCE, 0, 0), (6, true, CUT_SHORT_REPORT)),
+    (("pool", FIRST, 1, 0), (4, false, b"read fault\n")),
     (("run", FIRST, 0, 2), (5, true, b"scatter report 1\n")),
     (("run", FIRST, 1, 0), (4, false, b"read fault\n")),
     (("make 0 7", FIRST, 0, 0), (2, false, USAGE)),
@@ -241,6 +248,7 @@ const CASES: &[Case] = &[
     (("", FIRST, 0, 0), (2, false, USAGE)),
     (("make 1001 7", FIRST, 0, 0), (2, false, USAGE)),
     (("run run", FIRST, 0, 0), (2, false, USAGE)),
+    (("pool 4", FIRST, 0, 0), (2, false, USAGE)),
     (("make 1 -7", FIRST, 0, 0), (2, false, USAGE)),
     (("make 1", FIRST, 0, 0), (2, false, USAGE)),
 ];
@@ -379,10 +387,12 @@ const JOIN_LEAVE_REFUSALS_REPORT: &[u8] =
 /// An input whose run keeps a journal, its status and its report.
 pub type TableRow = (&'static [u8], u8, &'static [u8]);
 
-/// The rows of a table are so.
+/// The rows of a table are so, where workers take runs of shells and where they are a pool.
 pub fn check_rows<R: Abort + Threads + Wait + Sync>(rt: &R, alloc: Global, rows: &[TableRow]) {
     for (input, status, report) in rows {
-        check(rt, alloc, ("run", *input, 0, 0), (*status, true, *report));
+        for word in ["run", "pool"] {
+            check(rt, alloc, (word, *input, 0, 0), (*status, true, *report));
+        }
     }
 }
 

@@ -181,16 +181,16 @@ pub fn is_sound(
     is_sound
 }
 
-// Two runs of an input end settled and are sound, and their reports end so.
+// Two runs of an input, the second by a pool, end settled and are sound, and their reports end so.
 fn check_twice<R: Abort + Threads + Wait + Sync>(
     rt: &R,
     alloc: Global,
     input: Vec<u8>,
     end: &[u8],
 ) {
-    let given = ("run", input.as_slice(), 0, 0);
-    let first = comes(rt, alloc, given, Wanted::Sound(end), &Open);
-    let second = comes(rt, alloc, given, Wanted::Sound(end), &Open);
+    let text = input.as_slice();
+    let first = comes(rt, alloc, ("run", text, 0, 0), Wanted::Sound(end), &Open);
+    let second = comes(rt, alloc, ("pool", text, 0, 0), Wanted::Sound(end), &Open);
     forget(input);
     assert!(rt; first && second);
 }

@@ -108,25 +108,27 @@ fn input_of(rt: &impl Abort, alloc: Global, case: Case, workers: &[u8]) -> Vec<u
 
 const WORKERS: &[&[u8]] = &[b"1", b"2", b"4", b"8", b"16"];
 
-// Whether a case runs so with that many workers.
+// Whether a case runs so with that many workers, after this word.
 fn runs_with<R: Abort + Threads + Wait + Sync>(
     rt: &R,
     alloc: Global,
     case: Case,
+    word: &str,
     workers: &[u8],
 ) -> bool {
     let input = input_of(rt, alloc, case, workers);
-    let given = ("run", input.as_slice(), 0, 0);
+    let given = (word, input.as_slice(), 0, 0);
     let runs_so = comes(rt, alloc, given, Wanted::Lawful(case.2), &Open);
     forget(input);
     runs_so
 }
 
-/// The replies of each case are the same with any number of workers.
+/// The replies of each case are the same with any number of workers, and with a pool of them.
 pub fn check_same<R: Abort + Threads + Wait + Sync>(rt: &R, alloc: Global, cases: &[Case]) {
     for case in cases {
         for workers in WORKERS {
-            assert!(rt; runs_with(rt, alloc, *case, workers));
+            assert!(rt; runs_with(rt, alloc, *case, "run", workers));
+            assert!(rt; runs_with(rt, alloc, *case, "pool", workers));
         }
     }
 }
@@ -199,20 +201,27 @@ const TWO_GROUPS: &[u8] =
     b"scatter 1\nnodes 2\ngroup 0 1\ngroup 1828716544 2\nclient 1\nput a x\nend\nclient 2\nput z y\n\
         end\ngo 2\ndeliver n1 1\ndeliver c2 1\ngo 1\nfree 100 4\n";
 
+const TWO_GROUPS_BY_TWO: &[u8] =
+    b"scatter 1\nnodes 2\ngroup 0 1\ngroup 1828716544 2\nclient 1\nput a x\nend\nclient 2\nput z y\n\
+        end\ngo 2\ndeliver n1 1\ndeliver c2 1\ngo 1\nfree 100 2\n";
+
 const TWO_GROUPS_REPORT: &[u8] =
     b"scatter report 1\nreply 1 1 put none\nreply 2 1 put none\nring 0 group 0.1 members 1\n\
         ring 1828716544 group 0.2 members 2\nrows 12\nmail 10\ndelivered 10\nskipped 0\nquiet yes\n";
+
+// The word, the text and its report.
+type Passage = (&'static str, &'static [u8], &'static [u8]);
 
 // Whether a run through a gate ends with this report, and both nodes came.
 fn is_passed<R: Abort + Threads + Wait + Sync>(
     rt: &R,
     alloc: Global,
-    input: &[u8],
-    report: &[u8],
+    case: Passage,
     gate: &Pair,
 ) -> bool {
+    let (word, input, report) = case;
     let wanted = Wanted::Exactly(0, true, report);
-    let is_so = comes(rt, alloc, ("run", input, 0, 0), wanted, gate);
+    let is_so = comes(rt, alloc, (word, input, 0, 0), wanted, gate);
     let came = gate.first.load(Ordering::SeqCst) >= 2 && gate.second.load(Ordering::SeqCst) >= 1;
     is_so && came
 }
@@ -221,7 +230,7 @@ fn is_passed<R: Abort + Threads + Wait + Sync>(
 fn lateness<R: Abort + Threads + Wait + Sync>(
     rt: &R,
     alloc: Global,
-    case: (&[u8], &[u8]),
+    case: Passage,
     turns: u32,
 ) -> Option<u64> {
     let gate = Pair {
@@ -230,7 +239,7 @@ fn lateness<R: Abort + Threads + Wait + Sync>(
         second: AtomicU64::new(0),
         late: AtomicU64::new(0),
     };
-    if is_passed(rt, alloc, case.0, case.1, &gate) {
+    if is_passed(rt, alloc, case, &gate) {
         Some(gate.late.load(Ordering::SeqCst))
     } else {
         None
@@ -239,13 +248,41 @@ fn lateness<R: Abort + Threads + Wait + Sync>(
 
 #[test]
 fn nodes_of_one_group_work_at_the_same_time(rt: HostRuntime) {
-    let four = lateness(&rt, rt.alloc(), (GATE_AT_FOUR, GATE_REPORT), 1_000_000);
-    let one = lateness(&rt, rt.alloc(), (GATE_AT_ONE, GATE_REPORT), 1_000);
+    let four = lateness(
+        &rt,
+        rt.alloc(),
+        ("run", GATE_AT_FOUR, GATE_REPORT),
+        1_000_000,
+    );
+    let one = lateness(&rt, rt.alloc(), ("run", GATE_AT_ONE, GATE_REPORT), 1_000);
     assert!(rt; four == Some(0) && one == Some(1));
 }
 
 #[test]
 fn nodes_of_two_groups_work_at_the_same_time(rt: HostRuntime) {
-    let two = lateness(&rt, rt.alloc(), (TWO_GROUPS, TWO_GROUPS_REPORT), 1_000_000);
+    let two = lateness(
+        &rt,
+        rt.alloc(),
+        ("run", TWO_GROUPS, TWO_GROUPS_REPORT),
+        1_000_000,
+    );
     assert!(rt; two == Some(0));
+}
+
+// Of two workers one has both nodes, where each takes a run of neighbours.
+#[test]
+fn neighbours_of_a_pool_work_at_the_same_time(rt: HostRuntime) {
+    let pool = lateness(
+        &rt,
+        rt.alloc(),
+        ("pool", TWO_GROUPS_BY_TWO, TWO_GROUPS_REPORT),
+        1_000_000,
+    );
+    let runs = lateness(
+        &rt,
+        rt.alloc(),
+        ("run", TWO_GROUPS_BY_TWO, TWO_GROUPS_REPORT),
+        1_000,
+    );
+    assert!(rt; pool == Some(0) && runs == Some(1));
 }

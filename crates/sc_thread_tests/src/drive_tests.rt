@@ -4,6 +4,7 @@ ghost use Rattle.std.specs.Prelude.{◌≤◌};
 use crate::players::{Open, Pair, seats};
 use sc_actor::{Gate, Line, Played};
 use sc_drive::{drive, goers_are_spared, open};
+use sc_workers::Way;
 use std::alloc::Global;
 use std::mem::forget;
 use std::process::Abort;
@@ -26,7 +27,7 @@ fn driven_to<G: Gate, R: Threads + Wait + Abort + Sync>(
     assert!(rt; goers_are_spared(lines));
     let seats = seats(rt, alloc, other, 4, starves);
     let mut company = open(alloc, seats, 3, bytes).expect(rt, "memory");
-    let end = drive(rt, alloc, &mut company, lines, gate);
+    let end = drive(rt, alloc, Way::Runs, &mut company, lines, gate);
     forget(company);
     end
 }

@@ -10,7 +10,7 @@ use crate::players::{Open, Player, go, seats};
 use sc_actor::{Line, Played, Row, Seat, are_few};
 use sc_checker::replay;
 use sc_drive::{Company, close, drive, goers_are_spared, open};
-use sc_workers::gather;
+use sc_workers::{Way, gather};
 use std::alloc::Global;
 use std::mem::forget;
 use std::process::Abort;
@@ -77,6 +77,7 @@ fn left_after<R: Wait + Abort>(rt: &R, alloc: Global, places: &[usize]) -> (u32,
 fn drive_all<R: Threads + Wait + Abort + Sync>(
     rt: &R,
     alloc: Global,
+    way: Way,
     company: &mut Company<Player>,
     lines: &[Line<u32>],
 )
@@ -84,7 +85,7 @@ fn drive_all<R: Threads + Wait + Abort + Sync>(
     ensures kept { StaysWhole company.old company.new }
 {
     assert!(rt; goers_are_spared(lines));
-    match drive(rt, alloc, company, lines, &Open) {
+    match drive(rt, alloc, way, company, lines, &Open) {
         Played::OutOfMemory => panic!(rt; "memory"),
         Played::Full | Played::Ended { .. } => {}
     }
@@ -113,11 +114,12 @@ fn replayed(
 fn left_by<R: Threads + Wait + Abort + Sync>(
     rt: &R,
     alloc: Global,
+    way: Way,
     lines: &[Line<u32>],
 ) -> (u32, u32, bool) {
     let seats = seats(rt, alloc, 2, 7, 0);
     let mut company = open(alloc, seats, 2, 1 << 19).expect(rt, "memory");
-    drive_all(rt, alloc, &mut company, lines);
+    drive_all(rt, alloc, way, &mut company, lines);
     let (journal, actors) = close(rt, alloc, company).expect(rt, "memory");
     let left = players(actors.as_slice());
     let again = replayed(rt, alloc, lines, journal.as_slice());
@@ -135,7 +137,7 @@ const TICK_AFTER_ALL: &[Line<u32>] = &[
 
 #[test]
 fn what_was_driven_is_given_back(rt: HostRuntime) {
-    let left = left_by(&rt, rt.alloc(), TICK_AFTER_ALL);
+    let left = left_by(&rt, rt.alloc(), Way::Runs, TICK_AFTER_ALL);
     assert!(rt; left == (2122, 1126, true));
 }
 
@@ -143,6 +145,7 @@ fn what_was_driven_is_given_back(rt: HostRuntime) {
 fn left_by_workers<R: Threads + Wait + Abort + Sync>(
     rt: &R,
     alloc: Global,
+    way: Way,
     workers: u32,
 ) -> (u32, bool) {
     let lines: [Line<u32>; 4] = [
@@ -151,14 +154,19 @@ fn left_by_workers<R: Threads + Wait + Abort + Sync>(
         Line::Free { most: 5, workers },
         Line::Settle { most: 100 },
     ];
-    let (_, left, same) = left_by(rt, alloc, &lines);
+    let (_, left, same) = left_by(rt, alloc, way, &lines);
     (left, same)
 }
 
 #[test]
 fn free_lines_are_replayed_whatever_the_order_of_their_rows(rt: HostRuntime) {
-    for workers in [1u32, 2, 16] {
-        assert!(rt; left_by_workers(&rt, rt.alloc(), workers) == (1022, true));
+    for (way, workers) in [
+        (Way::Runs, 1),
+        (Way::Runs, 16),
+        (Way::Queue, 1),
+        (Way::Queue, 16),
+    ] {
+        assert!(rt; left_by_workers(&rt, rt.alloc(), way, workers) == (1022, true));
     }
 }
 

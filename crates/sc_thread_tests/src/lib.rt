@@ -17,6 +17,10 @@ mod notes;
 #[cfg(test)]
 mod players;
 #[cfg(test)]
+mod pool_tests;
+#[cfg(test)]
+mod queue_tests;
+#[cfg(test)]
 mod rounds_tests;
 #[cfg(test)]
 mod shell_tests;

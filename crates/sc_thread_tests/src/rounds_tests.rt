@@ -1,10 +1,15 @@
 //! Rounds of actors that send each other notes.
 ghost use Rattle.std.specs.Prelude.{◌≤◌};
+ghost use Rattle.sc_workers.specs.Crews.{IsCrew};
 
-use crate::players::{Counter, Open, Pair, go, seats};
+use crate::notes::Note;
+use crate::players::{Counter, Open, Pair, Player, go, seats};
 use sc_actor::Gate;
 use sc_drive::{Company, open};
-use sc_workers::{Rounds, rounds};
+use sc_exchange::Port;
+use sc_pool::pool_rounds;
+use sc_shell::Shell;
+use sc_workers::{Rounds, Way, rounds};
 use std::alloc::Global;
 use std::mem::forget;
 use std::process::Abort;
@@ -12,10 +17,31 @@ use std::sync::Wait;
 use std::sync::atomic::{AtomicU64, Ordering};
 use std::thread::Threads;
 
-// What rounds of a pair answer, each with four notes, after both were told to go.
+fn worked<G: Gate, R: Threads + Wait + Sync>(
+    rt: &R,
+    alloc: Global,
+    way: Way,
+    net: &mut Port<Note, u32>,
+    shells: &mut Vec<Shell<Player>>,
+    workers: u32,
+    limit: u32,
+    gate: &G,
+) -> Rounds
+    requires workers { (1 ≤ workers) × (workers ≤ 16) }
+    requires crew { IsCrew net.old shells.old.items }
+{
+    match way {
+        Way::Runs => rounds(rt, alloc, net, shells, workers, limit, gate),
+        Way::Queue => pool_rounds(rt, alloc, net, shells, workers, limit, gate),
+    }
+}
+
+// What rounds of a pair, or the rounds of a pool, answer, each with four notes, after both were told
+// to go.
 fn played<G: Gate, R: Threads + Wait + Abort + Sync>(
     rt: &R,
     alloc: Global,
+    way: Way,
     bytes: u64,
     starves: u32,
     workers: u32,
@@ -29,19 +55,26 @@ fn played<G: Gate, R: Threads + Wait + Abort + Sync>(
     go(rt, alloc, &company.net, &mut company.shells, 0);
     go(rt, alloc, &company.net, &mut company.shells, 1);
     let Company { net, shells, .. } = &mut company;
-    let end = rounds(rt, alloc, net, shells, workers, limit, gate);
+    let end = worked(rt, alloc, way, net, shells, workers, limit, gate);
     forget(company);
     end
 }
 
 #[test]
 fn rounds_end_by_their_causes(rt: HostRuntime) {
-    for workers in [1u32, 2, 4, 16] {
+    for (way, workers) in [
+        (Way::Runs, 1),
+        (Way::Runs, 2),
+        (Way::Runs, 16),
+        (Way::Queue, 1),
+        (Way::Queue, 2),
+        (Way::Queue, 16),
+    ] {
         let ends = [
-            played(&rt, rt.alloc(), 1 << 19, 0, workers, 100, &Open),
-            played(&rt, rt.alloc(), 1 << 19, 0, workers, 3, &Open),
-            played(&rt, rt.alloc(), 1000, 0, workers, 100, &Open),
-            played(&rt, rt.alloc(), 1 << 19, 2, workers, 100, &Open),
+            played(&rt, rt.alloc(), way, 1 << 19, 0, workers, 100, &Open),
+            played(&rt, rt.alloc(), way, 1 << 19, 0, workers, 3, &Open),
+            played(&rt, rt.alloc(), way, 1000, 0, workers, 100, &Open),
+            played(&rt, rt.alloc(), way, 1 << 19, 2, workers, 100, &Open),
         ];
         let wanted = [
             Rounds::Quiet { used: 8 },
@@ -57,6 +90,7 @@ fn rounds_end_by_their_causes(rt: HostRuntime) {
 fn met<R: Threads + Wait + Abort + Sync>(
     rt: &R,
     alloc: Global,
+    way: Way,
     workers: u32,
     turns: u32,
 ) -> (Rounds, u64)
@@ -67,21 +101,24 @@ fn met<R: Threads + Wait + Abort + Sync>(
         come: AtomicU64::new(0),
         late: AtomicU64::new(0),
     };
-    let end = played(rt, alloc, 1 << 19, 0, workers, 2, &gate);
+    let end = played(rt, alloc, way, 1 << 19, 0, workers, 2, &gate);
     (end, gate.late.load(Ordering::SeqCst))
 }
 
 #[test]
-fn runs_work_at_the_same_time(rt: HostRuntime) {
+fn workers_work_at_the_same_time(rt: HostRuntime) {
     let end = Rounds::Limit { used: 2 };
-    assert!(rt; met(&rt, rt.alloc(), 2, 1_000_000) == (end, 0));
-    assert!(rt; met(&rt, rt.alloc(), 1, 1_000) == (end, 1));
+    for way in [Way::Runs, Way::Queue] {
+        assert!(rt; met(&rt, rt.alloc(), way, 2, 1_000_000) == (end, 0));
+        assert!(rt; met(&rt, rt.alloc(), way, 1, 1_000) == (end, 1));
+    }
 }
 
 // What rounds answer, and how often the gate was passed.
 fn counted<R: Threads + Wait + Abort + Sync>(
     rt: &R,
     alloc: Global,
+    way: Way,
     workers: u32,
     limit: u32,
 ) -> (Rounds, u64)
@@ -90,15 +127,20 @@ fn counted<R: Threads + Wait + Abort + Sync>(
     let gate = Counter {
         passes: AtomicU64::new(0),
     };
-    let end = played(rt, alloc, 1 << 19, 0, workers, limit, &gate);
+    let end = played(rt, alloc, way, 1 << 19, 0, workers, limit, &gate);
     (end, gate.passes.load(Ordering::SeqCst))
 }
 
 #[test]
 fn the_gate_is_passed_at_each_delivery(rt: HostRuntime) {
-    for workers in [1u32, 2, 4, 16] {
-        let all = counted(&rt, rt.alloc(), workers, 100);
-        let some = counted(&rt, rt.alloc(), workers, 3);
+    for (way, workers) in [
+        (Way::Runs, 1),
+        (Way::Runs, 4),
+        (Way::Queue, 1),
+        (Way::Queue, 4),
+    ] {
+        let all = counted(&rt, rt.alloc(), way, workers, 100);
+        let some = counted(&rt, rt.alloc(), way, workers, 3);
         assert!(rt; all == (Rounds::Quiet { used: 8 }, 8));
         assert!(rt; some == (Rounds::Limit { used: 3 }, 3));
     }

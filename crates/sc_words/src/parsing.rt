@@ -6,10 +6,10 @@ ghost use Rattle.sc_lines.specs.Words.{count_in, nth};
 ghost use Rattle.clap.specs.Words.{app_of, first_of, found_of, kind_of, rows_of, subcommand_rows_of};
 ghost use Rattle.clap.specs.declared.builder.command.Command.TheViews.{out-Command};
 ghost use Rattle.sc_words.specs.Subcommands.{has_dash, is_known, is_plain, make_of, subcommand_by, IsInRange};
-ghost use Rattle.sc_words.specs.Subcommands.{is_run, is_journal, is_audit, reads_input, is_on_input, scan_of, whole_circle};
+ghost use Rattle.sc_words.specs.Subcommands.{is_run, is_journal, is_audit, is_pool, reads_input, is_on_input, scan_of, whole_circle};
 ghost use Rattle.sc_words.specs.Commands.{make_app, arc_app, scan_app, bare_app, with_word, words_app, scatter_app};
 ghost use Rattle.sc_words.specs.Commands.{make_in, scan_in, subcommand_as, subcommand_in};
-ghost use Rattle.sc_words.specs.declared.subcommands.Subcommand.TheVariants.{Run, Journal, Audit};
+ghost use Rattle.sc_words.specs.declared.subcommands.Subcommand.TheVariants.{Run, Journal, Audit, Pool};
 
 use crate::subcommands::{Sight, Subcommand};
 use clap::error::ErrorKind;
@@ -59,18 +59,19 @@ fn have_dash(words: &[String]) -> bool
     any_dash(words)
 }
 
-// Whether a word is one of the five first words.
+// Whether a word is one of the six first words.
 fn is_known(word: &[u8]) -> bool
     ensures { result ≡ is_known word.now }
 {
     is_text(word, b"run")
         || is_text(word, b"journal")
         || is_text(word, b"audit")
+        || is_text(word, b"pool")
         || is_text(word, b"make")
         || is_text(word, b"scan")
 }
 
-// Whether the first word is one of the five, and no word begins with a dash.
+// Whether the first word is one of the six, and no word begins with a dash.
 fn is_plain(words: &[String]) -> bool
     ensures { result ≡ is_plain (map string_bytes words.now) }
 {
@@ -127,7 +128,8 @@ fn words_command<'a>(alloc: Global) -> Result<Command<'a>, AllocError>
 {
     let run = with_word(alloc, bare_command(alloc), "run")?;
     let journal = with_word(alloc, run, "journal")?;
-    with_word(alloc, journal, "audit")
+    let audit = with_word(alloc, journal, "audit")?;
+    with_word(alloc, audit, "pool")
 }
 
 fn command<'a>(alloc: Global) -> Result<Command<'a>, AllocError>
@@ -226,6 +228,9 @@ fn subcommand_as(count: usize, name: &str, matches: &ArgMatches) -> Option<Subco
     if count == 1 && is_text(name.as_bytes(), b"audit") {
         return Some(Subcommand::Audit);
     }
+    if count == 1 && is_text(name.as_bytes(), b"pool") {
+        return Some(Subcommand::Pool);
+    }
     if count == 3 && is_text(name.as_bytes(), b"make") {
         return make_in(matches);
     }
@@ -265,11 +270,11 @@ fn parsed(alloc: Global, words: &[String]) -> Result<Option<Subcommand>, OutOfMe
     }
 }
 
-/// What the words behind a program's name ask for: `run`, `journal`, `audit`, `make N S` with N
-/// from 1 to 1,000 and S from 0 to 2^64 - 1, or `scan LO LEN R MOST` with LO and R from 0 to
+/// What the words behind a program's name ask for: `run`, `journal`, `audit`, `pool`, `make N S` with
+/// N from 1 to 1,000 and S from 0 to 2^64 - 1, or `scan LO LEN R MOST` with LO and R from 0 to
 /// 2^32 - 1, LEN from 1 to 2^32 and MOST from 1 to 1,000,000. None where they are none of these.
 ///
-/// Words of which the first is none of the five, or of which one begins with a dash, are refused
+/// Words of which the first is none of the six, or of which one begins with a dash, are refused
 /// as they are; all others are parsed by clap.
 pub fn subcommand_by(alloc: Global, words: &[String]) -> Result<Option<Subcommand>, OutOfMemory>
     ensures asked { IfOk result (λ asked. asked ≡ subcommand_by (map string_bytes words.now)) }
@@ -280,6 +285,8 @@ pub fn subcommand_by(alloc: Global, words: &[String]) -> Result<Option<Subcomman
         (λ asked. asked ≡ Some Journal → is_journal (map string_bytes words.now) ≡ true) }
     ensures audit { IfOk result
         (λ asked. asked ≡ Some Audit → is_audit (map string_bytes words.now) ≡ true) }
+    ensures pool { IfOk result
+        (λ asked. asked ≡ Some Pool → is_pool (map string_bytes words.now) ≡ true) }
     ensures reads { IfOk result (λ asked. IfSome asked
         (λ what. is_on_input what ≡ reads_input (map string_bytes words.now))) }
 {

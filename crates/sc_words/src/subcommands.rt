@@ -21,6 +21,8 @@ pub enum Subcommand {
     Journal,
     /// `audit`: whether the journal on the input is lawful.
     Audit,
+    /// `pool`: a run of the scenario on the input, by a pool of workers.
+    Pool,
     /// `scan LO LEN R MOST`: a run of the scenario on the input, of which an arc is shown.
     Scan(Sight),
     /// `make N S`: a run of the made scenario with N requests a client and the seed S.

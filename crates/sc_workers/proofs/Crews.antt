@@ -16,7 +16,7 @@ use Rattle.sc_turn.specs.Turn.{StartsWith}
 use Rattle.sc_actor.specs.Mail.{is_delivery}
 use Rattle.sc_actor.specs.Replay.{value}
 use Rattle.sc_shell.specs.Shells.{State, Takes, state, KeepsReplay, Replays, ReplaysOver}
-use Rattle.sc_workers.specs.Crews.{Delivers, is_did, refusal_in, GoesByDeliveries, AllGo, Took, AllTook, Passed, AllPassed, Sound, AllSound, AllOf, AllMet, HasMet, IsAhead, IsOver, rows_made, Still, AllStill, AreStill, AreLater, HasRefusal, did, refusal}
+use Rattle.sc_workers.specs.Crews.{Delivers, is_did, refusal_in, GoesByDeliveries, AllGo, Took, AllTook, Passed, Sound, AllSound, AllOf, AllMet, HasMet, IsAhead, IsOver, rows_made, Still, AllStill, AreStill, AreLater, HasRefusal, did, refusal}
 use Rattle.sc_workers.proofs.Lists.{sum_with, sum_zero, sum_short}
 use Rattle.sc_exchange.proofs.Knowing.{looked_trans, stays_trans}
 use Rattle.sc_turn.proofs.Lists.{starts_trans}
@@ -106,9 +106,6 @@ module _ {A M O : Type 0} {g : Ghosts A M O} {h : MailGhosts M} where
   took_did s t sound took =
       ⊎_elim (λ x. crashed_did s t x.1 (sound x.0)) (λ x. takes_did s t x.1.0 x.0 x.1.1 x.1.2) took.acts
 
-  pub passed_goes : (s t : Shell A M O g h) → Passed s t → GoesByDeliveries s t
-  passed_goes s t p = ⊎_elim (λ same. subst (GoesByDeliveries s) (sym same) (goes_same s)) (λ (took : Took s t). took.goes) p
-
   pub refused_so : (s : Shell A M O g h) (r : Turn) → refusal s ≡ Some r → (s.spent ≡ true) × (s.port.crashed ≡ false) × (refusal_in s.last ≡ r)
   refused_so s r e = by s.spent s.port.crashed refl refl
     where
@@ -178,10 +175,6 @@ module _ {A M O : Type 0} {g : Ghosts A M O} {h : MailGhosts M} where
   -- shells that made nothing have gone on
   pub still_all_go : (ss ts : List (Shell A M O g h)) → AllStill ss ts → AllGo ss ts
   still_all_go ss ts a k d lt = (a k d lt).goes
-
-  -- shells that took a turn or none have gone on
-  pub passed_all_go : (ss ts : List (Shell A M O g h)) → AllPassed ss ts → AllGo ss ts
-  passed_all_go ss ts a k d lt = passed_goes (get_or ss k d) (get_or ts k d) (a k d lt)
 
   pub all_still_trans : (ss ts us : List (Shell A M O g h)) → length ts ≡ length ss → AllStill ss ts → AllStill ts us → AllStill ss us
   all_still_trans ss ts us l a b k d lt = still_trans (get_or ss k d) (get_or ts k d) (get_or us k d) (a k d lt) (b k d (omega (arith, l, lt)))
@@ -263,14 +256,6 @@ module _ {A M O : Type 0} {g : Ghosts A M O} {h : MailGhosts M} where
     len = two.len ∙ one.len;
     go = all_go_trans ss ts us one.len one.go two.go;
     looked = looked_trans a b c one.looked two.looked;
-  }
-
-  -- the shells took their turns
-  pub later_passed : (a b : Port M O h) (ss ts us : List (Shell A M O g h)) → AreStill a b ss ts → length us ≡ length ts → AllPassed ts us → AreLater a b ss us
-  later_passed a b ss ts us one len passed = record {
-    len = len ∙ one.len;
-    go = all_go_trans ss ts us one.len (still_all_go ss ts one.still) (passed_all_go ts us passed);
-    looked = one.looked;
   }
 
   -- they are of the exchange as before

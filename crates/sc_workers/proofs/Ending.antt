@@ -15,10 +15,12 @@ use Rattle.sc_shell.specs.declared.shells.Shell.{Shell}
 use Rattle.sc_shell.specs.declared.turns.Turn.{Turn}
 use Rattle.sc_shell.specs.declared.turns.Turn.TheVariants.{Full as RefusedFull}
 use Rattle.sc_workers.specs.declared.answers.Rounds.{Rounds}
+use Rattle.sc_workers.specs.declared.answers.Way.{Way}
+use Rattle.sc_workers.specs.declared.answers.Way.TheVariants.{Runs, Queue}
 use Rattle.sc_workers.specs.declared.answers.Rounds.TheVariants.{Quiet, Limit, Full, OutOfMemory}
 use Rattle.sc_workers.specs.Crews.{rows_made, AllSound, AreStill, HaveVouched}
 use Rattle.sc_workers.specs.Services.{AllServe}
-use Rattle.sc_workers.specs.Ends.{any_waits, IsFirst, HasRefusedShell, IsEnd, StepEnd, RefusedEnd, IsGathered, IfCalm, IfHeld}
+use Rattle.sc_workers.specs.Ends.{any_waits, IsFirst, HasRefusedShell, IsEnd, StepEnd, RefusedEnd, IsGathered, IfCalm, IfHeld, IfKept}
 
 any_map : {A : Type 0} (f : A → Bool) (xs : List A) → list_any (λ (b : Bool). b) (map f xs) ≡ list_any f xs
 any_map f [] = refl
@@ -75,8 +77,8 @@ module _ {A M O : Type 0} {g : Ghosts A M O} {h : MailGhosts M} where
   step_from (Some OutOfMemory) net first mid ss whos limit used f p = tt
 
   -- the end of all rounds, from that of the last
-  pub end_so : (r : Rounds) (net : Port M O h) (first mid ss : List (Shell A M O g h)) (whos all : List ℕ) (limit used : ℕ) → StepEnd r net mid ss whos limit used → whos ≡ all → used ≤ limit → rows_made ss ≡ rows_made first + used
-      → ((bytes : ℕ) → HasRefusedShell mid net ss bytes → HasRefusedShell first net ss bytes) → IfHeld (Some r) (AllServe net first) → IfCalm (Some r) (AllSound ss) → IsEnd r net first ss all limit
+  pub end_so : (r : Rounds) (net : Port M O h) (first mid ss : List (Shell A M O g h)) (whos all : List ℕ) (limit used : ℕ) → StepEnd r net mid ss whos limit used → whos ≡ all → used ≤ limit → IfHeld (Some r) (rows_made ss ≡ rows_made first + used)
+      → IfHeld (Some r) ((bytes : ℕ) → HasRefusedShell mid net ss bytes → HasRefusedShell first net ss bytes) → IfHeld (Some r) (AllServe net first) → IfCalm (Some r) (AllSound ss) → IsEnd r net first ss all limit
   end_so (Quiet told) net first mid ss whos all limit used p same fits count f served sound =
       (p.0, ap (any_waits net) (sym same) ∙ p.1, subst (λ n. n ≤ limit) (sym p.2) fits, count ∙ ap (λ n. rows_made first + n) (sym p.2), served, sound)
   end_so (Limit told) net first mid ss whos all limit used p same fits count f served sound =
@@ -129,3 +131,37 @@ calm_of P (Some (Quiet used)) p = p
 calm_of P (Some (Limit used)) p = p
 calm_of P (Some (Full bytes)) p = tt
 calm_of P (Some OutOfMemory) p = tt
+
+-- the same of a round for which there was memory
+pub held_of : (P : Type 0) (r : Option Rounds) → P → IfHeld r P
+held_of P None p = p
+held_of P (Some (Quiet used)) p = p
+held_of P (Some (Limit used)) p = p
+held_of P (Some (Full bytes)) p = p
+held_of P (Some OutOfMemory) p = tt
+
+-- two claims on it
+pub held_with : {P Q R : Type 0} (r : Option Rounds) → (P → Q → R) → IfHeld r P → IfHeld r Q → IfHeld r R
+held_with None f p q = f p q
+held_with (Some (Quiet used)) f p q = f p q
+held_with (Some (Limit used)) f p q = f p q
+held_with (Some (Full bytes)) f p q = f p q
+held_with (Some OutOfMemory) f p q = tt
+
+-- a round that is not the last had memory
+pub held_none : (P : Type 0) (r : Option Rounds) → r ≡ None → IfHeld r P → P
+held_none P r none p = subst (λ (o : Option Rounds). IfHeld o P) none p
+
+-- a claim on shells that may be lost
+pub kept_of : (P : Type 0) (way : Way) (r : Option Rounds) → P → IfKept way r P
+kept_of P Runs r p = p
+kept_of P Queue r p = held_of P r p
+
+pub kept_maps : {P Q : Type 0} (way : Way) (r : Option Rounds) → (P → Q) → IfKept way r P → IfKept way r Q
+kept_maps Runs r f p = f p
+kept_maps Queue r f p = held_maps r f p
+
+-- where there was memory none was
+pub kept_held : (P : Type 0) (way : Way) (r : Option Rounds) → IfKept way r P → IfHeld r P
+kept_held P Runs r p = held_of P r p
+kept_held P Queue r p = p

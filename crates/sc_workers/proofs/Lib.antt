@@ -1,8 +1,10 @@
 pub mod Lists
 pub mod Crews
+pub mod Working
 pub mod Serving
 pub mod Stopping
 pub mod Attending
 pub mod Refusing
 pub mod Ending
 pub mod Joining
+pub mod Phasing

@@ -22,9 +22,10 @@ use Rattle.sc_shell.specs.declared.shells.Shell.{Shell}
 use Rattle.sc_shell.specs.declared.turns.Turn.TheVariants.{Full}
 use Rattle.sc_shell.specs.Shells.{Takes, IsReplay, state, row_at}
 use Rattle.sc_shell.proofs.Replaying.{numbered_more, replay_over}
-use Rattle.sc_workers.specs.Crews.{GoesByDeliveries, AllGo, AllPassed, AllSound, AllStill, AllOf, AllOver, IsAhead, AllAhead, HasRefusal, Still, IsOver}
+use Rattle.sc_workers.specs.Crews.{GoesByDeliveries, AllGo, AllWorked, AllSound, AllStill, AllOf, AllOver, AllAhead, HasRefusal, Still, IsOver}
 use Rattle.sc_workers.specs.Ends.{IsRefusedShell, HasRefusedShell}
-use Rattle.sc_workers.proofs.Crews.{passed_full}
+use Rattle.sc_workers.proofs.Crews.{goes_trans}
+use Rattle.sc_workers.proofs.Working.{worked_full}
 use Rattle.sc_workers.proofs.Serving.{net_same}
 use Rattle.sc_turn.proofs.Lists.{starts_trans}
 
@@ -36,7 +37,7 @@ counts_more weighs xs ys p =
 
 module _ {A M O : Type 0} {g : Ghosts A M O} {h : MailGhosts M} where
   module _ (start s t u : Shell A M O g h) (net : Port M O h) (bytes : ℕ) (goes : GoesByDeliveries start s) (x : Takes (state s) (state t) 1 (Full bytes)) (still : Still t u) (over : IsOver net u) (one : SameExchange u.port net)
-      (begin : Port M O h) (ahead : IsAhead begin s) (looked : Looked begin net) (first : begin.who ≡ 0) (addressed : IsAddressed net) where
+      (begin : Port M O h) (met : StartsWith (seen s.port) (seen begin)) (looked : Looked begin net) (first : begin.who ≡ 0) (addressed : IsAddressed net) where
     all_later : StartsWith (seen net) (seen t.port)
     all_later = starts_trans (seen net) (seen u.port) (seen t.port) over.begins still.later
 
@@ -64,7 +65,7 @@ module _ {A M O : Type 0} {g : Ghosts A M O} {h : MailGhosts M} where
     -- neither the actor nor the network made a row since the fetch
     first_still : kth_pending h.receiver s.port.actors (seen net) s.port.who 1 ≡ Some x.1.number
     first_still =
-        let up : StartsWith x.1.rows (seen begin) = starts_trans x.1.rows (seen s.port) (seen begin) x.1.later ahead.begins in
+        let up : StartsWith x.1.rows (seen begin) = starts_trans x.1.rows (seen s.port) (seen begin) x.1.later met in
         first_stays h.receiver s.port.actors x.1.rows (seen net) s.port.who x.1.number rows_later (λ z. let some = s.numbered in absurd (omega (arith, z, some))) (ap length own_rows ∙ sym (ap length x.1.own))
         (net_same begin net x.1.rows (seen net) looked first up rows_later ([], sym (append-nil (seen net)))) addressed x.1.kth
 
@@ -91,19 +92,22 @@ module _ {A M O : Type 0} {g : Ghosts A M O} {h : MailGhosts M} where
 
   -- after a round with a refusal, and the meetings after it
   pub full_so : (start before after last : List (Shell A M O g h)) (net : Port M O h) (bytes : ℕ) → length before ≡ length start → length after ≡ length before → length last ≡ length after →
-      AllGo start before → AllSound before → AllPassed before after → HasRefusal after (Full bytes) → AllStill after last → AllOver net last → AllOf net last →
+      AllGo start before → AllSound before → AllWorked before after → HasRefusal after (Full bytes) → AllStill after last → AllOver net last → AllOf net last →
       (begin : Port M O h) → AllAhead begin before → Looked begin net → begin.who ≡ 0 → IsAddressed net → HasRefusedShell start net last bytes
-  full_so start before after last net bytes l m n go sound passed r still over one begin ahead looked first addressed = record {
+  full_so start before after last net bytes l m n go sound worked r still over one begin ahead looked first addressed = record {
     place = r.place;
     inside = omega (arith, r.inside, n);
     refused = λ d.
-        refused_at (get_or start r.place d) (get_or before r.place d) (get_or after r.place d) (get_or last r.place d) net bytes
-        (go r.place d (omega (arith, r.inside, m, l)))
-        (passed_full (get_or before r.place d) (get_or after r.place d) bytes (sound r.place d (omega (arith, r.inside, m))) (passed r.place d (omega (arith, r.inside, m))) (r.told d))
+        (let s = get_or start r.place d in let b = get_or before r.place d in let t = get_or after r.place d in
+        let w = worked r.place d (omega (arith, r.inside, m)) in
+        let f = worked_full w.0 b t bytes (sound r.place d (omega (arith, r.inside, m))) w.1 (r.told d) in
+        refused_at s f.last t (get_or last r.place d) net bytes
+        (goes_trans s b f.last (go r.place d (omega (arith, r.inside, m, l))) f.goes)
+        f.takes
         (still r.place d r.inside)
         (over r.place d (omega (arith, r.inside, n)))
         (one r.place d (omega (arith, r.inside, n)))
-        begin (ahead r.place d (omega (arith, r.inside, m))) looked first addressed;
+        begin (starts_trans (seen f.last.port) (seen b.port) (seen begin) f.later (ahead r.place d (omega (arith, r.inside, m))).begins) looked first addressed);
   }
 
   -- from an earlier start

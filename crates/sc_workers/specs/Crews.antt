@@ -1,5 +1,5 @@
 -- What a clause says of a list of shells.
-use Rattle.std.specs.Prelude.{◌≡◌, ℕ, ◌<◌, List, ◌++◌, length, map, sum_by, slice_index_or, Bool, true, false, Option, Some, None, ◌⊎◌, ◌&&◌, not, if◌then◌else◌}
+use Rattle.std.specs.Prelude.{◌≡◌, ℕ, zero, suc, ◌+◌, ◌<◌, ◌≤◌, List, ◌++◌, length, map, sum_by, slice_index_or, Bool, true, false, Option, Some, None, ◌⊎◌, ◌&&◌, not, if◌then◌else◌}
 use Rattle.std.specs.List.{AllByRecursion}
 use Rattle.sc_turn.specs.Turn.{StartsWith as Begins}
 use Rattle.sc_actor.specs.declared.actors.Actor.{Ghosts}
@@ -57,6 +57,26 @@ module _ {A M O : Type 0} {g : Ghosts A M O} {h : MailGhosts M} where
   -- each shell took a turn or none
   abbrev pub AllPassed : List (Shell A M O g h) → List (Shell A M O g h) → Type 0
   AllPassed ss ts = (k : ℕ) (d : Shell A M O g h) → k < length ss → Passed (slice_index_or ss k d) (slice_index_or ts k d)
+
+  -- a turn that made a row
+  pub record TookRow (s t : Shell A M O g h) : Type 0 where
+    pub took : Took s t
+    pub made : length (made t.port) ≡ length (made s.port) + 1
+
+  -- so many turns, one after the other, each of which made a row
+  abbrev pub MadeRows : ℕ → Shell A M O g h → Shell A M O g h → Type 0
+  MadeRows zero s t = t ≡ s
+  MadeRows (suc n) s t = (u : Shell A M O g h) × (MadeRows n s u × TookRow u t)
+
+  -- turns, one after the other: so many that made a row, and then none, or one that made none
+  pub record Worked (n : ℕ) (s t : Shell A M O g h) : Type 0 where
+    pub last : Shell A M O g h
+    pub rows : MadeRows n s last
+    pub end : (t ≡ last) ⊎ (Took last t × (made t.port ≡ made last.port))
+
+  -- each shell took turns so
+  abbrev pub AllWorked : List (Shell A M O g h) → List (Shell A M O g h) → Type 0
+  AllWorked ss ts = (k : ℕ) (d : Shell A M O g h) → k < length ss → (n : ℕ) × Worked n (slice_index_or ss k d) (slice_index_or ts k d)
 
   -- each shell is of the exchange of the port
   abbrev pub AllOf : Port M O h → List (Shell A M O g h) → Type 0
@@ -178,3 +198,12 @@ module _ {A M O : Type 0} {g : Ghosts A M O} {h : MailGhosts M} where
     pub place : ℕ
     pub inside : place < length ss
     pub told : (d : Shell A M O g h) → refusal (slice_index_or ss place d) ≡ Some r
+
+  -- A round or a phase: the shells of the same actors in the same order, which took turns one after the other. They made so many rows in all, no more than were left, and fewer where one was refused. Where they made none and none was refused, each took a turn.
+  pub record HasPlayed (left : ℕ) (ss ts : List (Shell A M O g h)) (rows : ℕ) : Type 0 where
+    pub len : length ts ≡ length ss
+    pub worked : AllWorked ss ts
+    pub most : rows ≤ left
+    pub did : rows_made ts ≡ rows_made ss + rows
+    pub whole : rows ≡ 0 → 0 < left → AllSound ts → AllTook ss ts
+    pub short : (r : Turn) → HasRefusal ts r → rows < left

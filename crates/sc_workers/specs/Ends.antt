@@ -17,6 +17,8 @@ use Rattle.sc_shell.specs.declared.turns.Turn.{Turn}
 use Rattle.sc_shell.specs.declared.turns.Turn.TheVariants.{Full as RefusedFull}
 use Rattle.sc_shell.specs.Shells.{IsReplay}
 use Rattle.sc_workers.specs.declared.answers.Rounds.{Rounds}
+use Rattle.sc_workers.specs.declared.answers.Way.{Way}
+use Rattle.sc_workers.specs.declared.answers.Way.TheVariants.{Runs, Queue}
 use Rattle.sc_workers.specs.declared.answers.Rounds.TheVariants.{Quiet, Limit, Full, OutOfMemory}
 use Rattle.sc_workers.specs.Crews.{AllOver, AllSound, rows_made}
 use Rattle.sc_workers.specs.Services.{AllServe}
@@ -95,3 +97,8 @@ IfHeld (Some (Quiet used)) claim = claim
 IfHeld (Some (Limit used)) claim = claim
 IfHeld (Some (Full bytes)) claim = claim
 IfHeld (Some OutOfMemory) claim = ⊤
+
+-- a claim on shells that a phase loses where there was no memory, and runs do not
+abbrev pub IfKept : Way → Option Rounds → Type 0 → Type 0
+IfKept Runs answer claim = claim
+IfKept Queue answer claim = IfHeld answer claim

@@ -1,3 +1,4 @@
 pub mod Crews
 pub mod Ends
 pub mod Services
+pub mod Phases

@@ -1,4 +1,4 @@
-//! What rounds answer.
+//! What rounds answer, and how they are worked.
 
 /// How rounds end.
 #[derive(Clone, Copy, Debug, PartialEq, Eq)]
@@ -10,4 +10,13 @@ pub enum Rounds {
     /// A row was refused, since with it the journal passes its limit.
     Full { bytes: u64 },
     OutOfMemory,
+}
+
+/// How the shells take their turns.
+#[derive(Clone, Copy, Debug, PartialEq, Eq)]
+pub enum Way {
+    /// In rounds: each takes one turn, runs of neighbours at the same time.
+    Runs,
+    /// In phases: each is put into one queue, from which workers take, and takes up to 16 turns.
+    Queue,
 }

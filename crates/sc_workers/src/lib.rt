@@ -3,9 +3,10 @@
 
 mod answers;
 mod meetings;
+mod phases;
 mod playing;
 mod turns;
 
-pub use answers::Rounds;
+pub use answers::{Rounds, Way};
 pub use meetings::gather;
-pub use playing::rounds;
+pub use playing::{rounds, rounds_by};

@@ -1,12 +1,12 @@
-//! The rounds.
-ghost use Rattle.std.specs.Prelude.{◌≡◌, ◌<◌, ◌≤◌, ◌+◌, None, IfSome, length};
-ghost use Rattle.sc_workers.specs.Ends.{IsEnd, StepEnd, RefusedEnd, IsGathered, CanBegin, IfCalm, IfHeld};
-ghost use Rattle.sc_workers.specs.Crews.{AllOf, AllTook, AllPassed, AllSound, AreLater, AreStill, HasRefusal, IsCrew, crew_numbers, rows_made};
-ghost use Rattle.sc_shell.specs.declared.turns.Turn.{Turn};
+//! The rounds, and the phases.
+ghost use Rattle.std.specs.Prelude.{◌≡◌, ◌<◌, ◌≤◌, ◌+◌, None, Some, IfSome};
+ghost use Rattle.sc_workers.specs.Ends.{IsEnd, StepEnd, RefusedEnd, IsGathered, CanBegin, IfCalm, IfHeld, IfKept};
+ghost use Rattle.sc_workers.specs.Crews.{AllOf, AllSound, AreLater, AreStill, HasPlayed, IsCrew, crew_numbers, rows_made};
 ghost use Rattle.sc_workers.specs.Services.{AllServe};
 
-use crate::answers::Rounds;
+use crate::answers::{Rounds, Way};
 use crate::meetings::{gather, meet, numbers_of, vouch};
+use crate::phases::phase;
 use crate::turns::{any_of, at_once, did_in, in_order, refused_in};
 use sc_actor::{Actor, Gate};
 use sc_exchange::Port;
@@ -15,32 +15,35 @@ use std::alloc::Global;
 use std::sync::Wait;
 use std::thread::Threads;
 
-// One round. Answers how many deliveries were made in it.
+// One round, or one phase. Answers how many deliveries were made in it, and None where there was no
+// memory for a phase.
 fn play_round<A: Actor, G: Gate, R: Threads + Wait + Sync>(
     rt: &R,
     alloc: Global,
+    way: Way,
     gate: &G,
     waits: &[bool],
     shells: &mut Vec<Shell<A>>,
     workers: u32,
     left: u32,
-) -> u32
-    requires workers { 0 < workers }
+) -> Option<u32>
+    requires workers { (0 < workers) × (workers ≤ 16) }
     requires sound { AllSound shells.old.items }
-    ensures len { length shells.new.items ≡ length shells.old.items }
-    ensures passed { AllPassed shells.old.items shells.new.items }
-    ensures most { result ≤ left }
-    ensures did { rows_made shells.new.items ≡ rows_made shells.old.items + result }
-    ensures whole { result ≡ 0 → 0 < left → AllSound shells.new.items →
-        AllTook shells.old.items shells.new.items }
-    ensures short { (refused : Turn) → HasRefusal shells.new.items refused → result < left }
+    ensures played { IfSome result
+        (λ did. HasPlayed left shells.old.items shells.new.items did) }
+    ensures none { result ≡ None → way ≡ Way.Queue }
 {
-    let size = shells.len().div_ceil(workers as usize);
-    if size == 0 || (left as usize) < shells.len() {
-        return in_order(rt, alloc, gate, shells.as_mut_slice(), left);
+    if shells.is_empty() || (left as usize) < shells.len() {
+        return Some(in_order(rt, alloc, gate, shells.as_mut_slice(), left));
     }
-    at_once(rt, alloc, gate, waits, size, shells);
-    did_in(shells.as_slice())
+    match way {
+        Way::Runs => {
+            let size = shells.len().div_ceil(workers as usize);
+            at_once(rt, alloc, gate, waits, size, shells);
+            Some(did_in(shells.as_slice()))
+        }
+        Way::Queue => phase(rt, alloc, gate, waits, shells, workers, left).ok(),
+    }
 }
 
 // What comes before a round: the meetings, the ends found there, and for whom mail waits.
@@ -99,11 +102,12 @@ fn ended<A: Actor, R: Wait>(
     Rounds::Full { bytes }
 }
 
-// One round with what comes after it. Some where the call ends. A round that is not refused
-// delivers at least one.
+// One round or phase, with what comes after it. Some where the call ends. A round that is not
+// refused delivers at least one.
 fn step<A: Actor, G: Gate, R: Threads + Wait + Sync>(
     rt: &R,
     alloc: Global,
+    way: Way,
     net: &mut Port<A::Mail, A::Order>,
     shells: &mut Vec<Shell<A>>,
     whos: &[u32],
@@ -113,14 +117,16 @@ fn step<A: Actor, G: Gate, R: Threads + Wait + Sync>(
     waits: &mut Vec<bool>,
     gate: &G,
 ) -> Option<Rounds>
-    requires workers { 0 < workers }
+    requires workers { (0 < workers) × (workers ≤ 16) }
     requires crew { IsCrew net.old shells.old.items }
     requires whos { whos.now ≡ crew_numbers shells.old.items }
     requires begin { CanBegin net.old shells.old.items whos.now }
     requires used { used.old < limit }
-    ensures later { AreLater net.old net.new shells.old.items shells.new.items }
+    ensures later { IfKept way result
+        (AreLater net.old net.new shells.old.items shells.new.items) }
     ensures used { used.new ≤ limit }
-    ensures count { rows_made shells.new.items + used.old ≡ rows_made shells.old.items + used.new }
+    ensures count { IfHeld result
+        (rows_made shells.new.items + used.old ≡ rows_made shells.old.items + used.new) }
     ensures serves { IfCalm result (used.old < used.new) }
     ensures served { IfHeld result (AllServe net.new shells.old.items) }
     ensures sound { IfCalm result (AllSound shells.new.items) }
@@ -134,7 +140,10 @@ fn step<A: Actor, G: Gate, R: Threads + Wait + Sync>(
         return Some(Rounds::OutOfMemory);
     };
     let flags = waits.as_slice();
-    let did = play_round(rt, alloc, gate, flags, shells, workers, limit - *used);
+    let left = limit - *used;
+    let Some(did) = play_round(rt, alloc, way, gate, flags, shells, workers, left) else {
+        return Some(Rounds::OutOfMemory);
+    };
     *used += did;
     match refused_in(shells.as_slice()) {
         None => prepare(rt, net, shells, whos, limit, *used, waits),
@@ -142,15 +151,54 @@ fn step<A: Actor, G: Gate, R: Threads + Wait + Sync>(
     }
 }
 
+/// Rounds or phases, by `way`, in which each shell that is not spent takes turns, until nothing is
+/// pending for the shells' actors, `limit` deliveries were made, or a row is refused.
+///
+/// Before each of them every shell meets `net`, which is the network's port and makes no row. One in
+/// which no turn is refused makes at least one delivery, so there are at most as many as `limit`.
+/// Where fewer deliveries are left than there are shells, the shells take their turns one after the
+/// other. Without memory a phase loses shells.
+pub fn rounds_by<A: Actor, G: Gate, R: Threads + Wait + Sync>(
+    rt: &R,
+    alloc: Global,
+    way: Way,
+    net: &mut Port<A::Mail, A::Order>,
+    shells: &mut Vec<Shell<A>>,
+    workers: u32,
+    limit: u32,
+    gate: &G,
+) -> Rounds
+    requires workers { (1 ≤ workers) × (workers ≤ 16) }
+    requires crew { IsCrew net.old shells.old.items }
+    ensures later { IfKept way (Some result)
+        (AreLater net.old net.new shells.old.items shells.new.items) }
+    ensures end { IsEnd result net.new shells.old.items shells.new.items (crew_numbers shells.old.items)
+        limit }
+{
+    let Ok(whos) = numbers_of(alloc, shells.as_slice()) else {
+        return Rounds::OutOfMemory;
+    };
+    let mut waits = Vec::new(alloc);
+    if let Some(answer) = prepare(rt, net, shells, whos.as_slice(), limit, 0, &mut waits) {
+        return answer;
+    }
+    let mut used = 0u32;
+    loop {
+        let whos = whos.as_slice();
+        if let Some(answer) = step(
+            rt, alloc, way, net, shells, whos, workers, limit, &mut used, &mut waits, gate,
+        ) {
+            return answer;
+        }
+    }
+}
+
 /// Rounds in which each shell that is not spent takes a turn, runs of neighbours at the same time,
 /// until nothing is pending for the shells' actors, `limit` deliveries were made, or a row is
 /// refused.
 ///
-/// Before each round every shell meets `net`, which is the network's port and makes no row. A round
-/// in which no turn is refused makes at least one delivery, so there are at most as many rounds as
-/// `limit`. There are as many runs as `workers`, or fewer, and none waits for one with mail. Where
-/// mail waits for the shells of one run alone, no thread is started. Where fewer deliveries are
-/// left than there are shells, the shells take their turns one after the other.
+/// There are as many runs as `workers`, or fewer, and none waits for one with mail. Where mail waits
+/// for the shells of one run alone, no thread is started. No shell is lost.
 pub fn rounds<A: Actor, G: Gate, R: Threads + Wait + Sync>(
     rt: &R,
     alloc: Global,
@@ -166,20 +214,5 @@ pub fn rounds<A: Actor, G: Gate, R: Threads + Wait + Sync>(
     ensures end { IsEnd result net.new shells.old.items shells.new.items (crew_numbers shells.old.items)
         limit }
 {
-    let Ok(whos) = numbers_of(alloc, shells.as_slice()) else {
-        return Rounds::OutOfMemory;
-    };
-    let mut waits = Vec::new(alloc);
-    if let Some(answer) = prepare(rt, net, shells, whos.as_slice(), limit, 0, &mut waits) {
-        return answer;
-    }
-    let mut used = 0u32;
-    loop {
-        let whos = whos.as_slice();
-        if let Some(answer) = step(
-            rt, alloc, net, shells, whos, workers, limit, &mut used, &mut waits, gate,
-        ) {
-            return answer;
-        }
-    }
+    rounds_by(rt, alloc, Way::Runs, net, shells, workers, limit, gate)
 }

@@ -2,7 +2,8 @@
 ghost use Rattle.std.specs.Prelude.{◌≡◌, ◌<◌, ◌≤◌, ◌+◌, ◌^◌, ◌⊎◌, true, false, length, sum_by, None, IfSome};
 ghost use Rattle.std.specs.List.{list_any};
 ghost use Rattle.sc_exchange.specs.Ports.{made};
-ghost use Rattle.sc_workers.specs.Crews.{Took, Passed, Sound, AllTook, AllPassed, AllSound, HasRefusal, rows_made, did, refusal, is_did, refusal_in};
+ghost use Rattle.sc_workers.specs.Crews.{Took, TookRow, Passed, Sound, AllTook, AllPassed, AllSound, HasRefusal, rows_made, did, refusal, is_did, refusal_in};
+ghost use Rattle.sc_shell.specs.Shells.{port_of};
 ghost use Rattle.sc_shell.specs.declared.turns.Turn.{Turn};
 
 use sc_actor::{Actor, Gate};
@@ -12,13 +13,28 @@ use std::sync::Wait;
 use std::thread;
 use std::thread::Threads;
 
-// A turn, unless the shell is spent.
+/// A turn, unless the shell is spent. Answers whether a row was made.
+pub(crate) fn made_row<A: Actor, G: Gate, R: Wait>(
+    rt: &R,
+    alloc: Global,
+    gate: &G,
+    shell: &mut Shell<A>,
+) -> bool
+    ensures took { Took shell.old shell.new }
+    ensures row { result ≡ true → TookRow shell.old shell.new }
+    ensures none { result ≡ false → made (port_of shell.new) ≡ made (port_of shell.old) }
+{
+    if shell.is_spent() {
+        return false;
+    }
+    let answer = shell.turn(rt, alloc, 1, gate);
+    is_did(Some(answer))
+}
+
 fn one<A: Actor, G: Gate, R: Wait>(rt: &R, alloc: Global, gate: &G, shell: &mut Shell<A>)
     ensures { Took shell.old shell.new }
 {
-    if !shell.is_spent() {
-        let _ = shell.turn(rt, alloc, 1, gate);
-    }
+    let _ = made_row(rt, alloc, gate, shell);
 }
 
 fn turns<A: Actor, G: Gate, R: Wait>(rt: &R, alloc: Global, gate: &G, part: &mut [Shell<A>])

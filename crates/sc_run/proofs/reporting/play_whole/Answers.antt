@@ -4,26 +4,26 @@ use Rattle.sc_run.proofs.reporting.play_whole.Goals as goal
 
 pub close-requires-clause-exchange : goal.close-requires-clause-exchange
 close-requires-clause-exchange g c κs within =
-    let went_on : c.play-played.result ≢ OutOfMemory = search rules in
-    (c.play-played.ensures.kept went_on).exchange
+    let went_on : c.play_in-played.result ≢ OutOfMemory = search rules in
+    (c.play_in-played.ensures.kept went_on).exchange
 
 pub close-requires-clause-all : goal.close-requires-clause-all
 close-requires-clause-all g c κs within =
-    let went_on : c.play-played.result ≢ OutOfMemory = search rules in
-    let kept = c.play-played.ensures.kept went_on in
+    let went_on : c.play_in-played.result ≢ OutOfMemory = search rules in
+    let kept = c.play_in-played.ensures.kept went_on in
     kept.stays.given ∙ c.in_ok-company.ensures.opened.birth.all ∙ sym kept.same
 
 pub close-requires-clause-none : goal.close-requires-clause-none
 close-requires-clause-none g c κs within =
-    let went_on : c.play-played.result ≢ OutOfMemory = search rules in
-    (c.play-played.ensures.kept went_on).stays.joined ∙ c.in_ok-company.ensures.unjoined
+    let went_on : c.play_in-played.result ≢ OutOfMemory = search rules in
+    (c.play_in-played.ensures.kept went_on).stays.joined ∙ c.in_ok-company.ensures.unjoined
 
 pub close-requires-clause-over : goal.close-requires-clause-over
 close-requires-clause-over g c κs within =
-    let went_on : c.play-played.result ≢ OutOfMemory = search rules in
-    (c.play-played.ensures.kept went_on).over
+    let went_on : c.play_in-played.result ≢ OutOfMemory = search rules in
+    (c.play_in-played.ensures.kept went_on).over
 
 pub close-requires-clause-rows : goal.close-requires-clause-rows
 close-requires-clause-rows g c κs within =
-    let went_on : c.play-played.result ≢ OutOfMemory = search rules in
-    (c.play-played.ensures.kept went_on).rows
+    let went_on : c.play_in-played.result ≢ OutOfMemory = search rules in
+    (c.play_in-played.ensures.kept went_on).rows

@@ -1,4 +1,4 @@
-use Rattle.std.proofs.Common.{ℕ, ◌<◌, ◌≤◌, ◌≡◌, slice_index_or}
+use Rattle.std.proofs.Common.{ℕ, ◌<◌, slice_index_or}
 use Rattle.sc_exchange.specs.Ports.{Looked}
 use Rattle.sc_workers.specs.Crews.{Still, HasMet, IsAhead}
 use Rattle.sc_workers.proofs.Lists.{AllBelow, IsLeft}

@@ -1,4 +1,4 @@
-use Rattle.std.proofs.Common.{ℕ, ◌<◌, ◌≤◌, ◌≡◌, slice_index_or}
+use Rattle.std.proofs.Common.{ℕ, ◌<◌, ◌≡◌, slice_index_or}
 use Rattle.sc_exchange.specs.Ports.{Looked, seen}
 use Rattle.sc_workers.specs.Crews.{Still, IsOver}
 use Rattle.sc_workers.proofs.Lists.{AllBelow, IsLeft}

@@ -1,23 +1,34 @@
-use Rattle.std.proofs.Common.{rules, ◌≡◌, ◌+◌, sum_by, sym, ap, ◌∙◌, subst, length, arith}
-use Rattle.sc_workers.specs.Crews.{did, rows_made, HasRefusal}
+use Rattle.std.proofs.Common.{rules, inr, ◌≡◌, ◌+◌, sum_by, sym, ap, ◌∙◌, subst, length, arith}
+use Rattle.sc_workers.specs.Crews.{did, rows_made, HasPlayed}
 use Rattle.sc_workers.proofs.Crews.{took_rows, took_short}
+use Rattle.sc_workers.proofs.Working.{all_passed_worked}
 use Rattle.sc_workers.proofs.Lists.{whole_slice}
 use Rattle.sc_workers.proofs.playing.play_round.Goals as goal
 
-pub returns-clause-did : goal.returns-clause-did
-returns-clause-did g c =
-    took_rows c.args.shells.now.items c.at_once.new.shells.items c.at_once.ensures.len c.requires.sound c.at_once.ensures.took
-    ∙ ap (λ n. rows_made c.args.shells.now.items + n) (sym (c.did_in.ensures.did ∙ ap (sum_by did) c.as_slice.ensures.value))
+pub returns-then-is_empty-clause-played : goal.returns-then-is_empty-clause-played
+returns-then-is_empty-clause-played g c =
+    let ss = c.args.shells.now.items in let ts = c.in_order.new.shells in
+    let value : c.as_mut_slice.result.now ≡ ss = c.as_mut_slice.ensures.value in
+    let len : length ts ≡ length ss = search rules in
+    let all : c.args.shells.now.len ≡ length ss = search rules in
+    subst (λ l. HasPlayed c.args.left ss l c.in_order.result) (sym (whole_slice ts ss c.args.shells.now.len len all))
+    (subst (λ l. HasPlayed c.args.left l ts c.in_order.result) value (record {
+      len = len ∙ sym (ap length value);
+      worked = all_passed_worked c.as_mut_slice.result.now ts c.in_order.ensures.passed;
+      most = c.in_order.ensures.most;
+      did = c.in_order.ensures.did;
+      whole = c.in_order.ensures.whole;
+      short = c.in_order.ensures.short;
+    }))
 
-pub returns-clause-short : goal.returns-clause-short
-returns-clause-short g c = λ r refused.
-    let after = c.at_once.new.shells.items in
-    let few = took_short c.args.shells.now.items after r c.at_once.ensures.len c.requires.sound c.at_once.ensures.took refused in
-    let is : c.did_in.result ≡ sum_by did after = c.did_in.ensures.did ∙ ap (sum_by did) c.as_slice.ensures.value in
-    omega (arith, few, is, c.at_once.ensures.len)
-
-pub returns-then-size-eq0-clause-short : goal.returns-then-size-eq0-clause-short
-returns-then-size-eq0-clause-short g c = λ r refused.
-    let same : length c.in_order.new.shells ≡ length c.args.shells.now.items = search rules in
-    let all : c.args.shells.now.len ≡ length c.args.shells.now.items = search rules in
-    c.in_order.ensures.short r (subst (λ l. HasRefusal l r) (whole_slice c.in_order.new.shells c.args.shells.now.items c.args.shells.now.len same all) refused)
+pub returns-in-Runs-clause-played : goal.returns-in-Runs-clause-played
+returns-in-Runs-clause-played g c =
+    let ss = c.args.shells.now.items in let ts = c.at_once.new.shells.items in
+    let is : c.did_in.result ≡ sum_by did ts = c.did_in.ensures.did ∙ ap (sum_by did) c.as_slice.ensures.value in record {
+      len = c.at_once.ensures.len;
+      worked = all_passed_worked ss ts (λ k d lt. inr (c.at_once.ensures.took k d lt));
+      most = search rules;
+      did = took_rows ss ts c.at_once.ensures.len c.requires.sound c.at_once.ensures.took ∙ ap (λ n. rows_made ss + n) (sym is);
+      whole = λ none some calm. c.at_once.ensures.took;
+      short = λ r refused. omega (arith, took_short ss ts r c.at_once.ensures.len c.requires.sound c.at_once.ensures.took refused, is, c.at_once.ensures.len);
+    }

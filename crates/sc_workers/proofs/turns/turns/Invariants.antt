@@ -1,4 +1,3 @@
-use Rattle.std.proofs.Common.{◌<◌, ◌≤◌, ◌≡◌}
 use Rattle.sc_workers.specs.Crews.{Took}
 use Rattle.sc_workers.proofs.Lists.{AllBelow, IsLeft}
 use Rattle.sc_workers.proofs.turns.turns.Given as goal

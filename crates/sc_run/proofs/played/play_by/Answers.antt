@@ -8,7 +8,7 @@ use Rattle.sc_drive.specs.Working.{IsDriven, StaysWhole}
 use Rattle.sc_sound.specs.Players.{births, as_nodes}
 use Rattle.sc_run.specs.Played.{mail_weight, IsPlayed}
 use Rattle.sc_run.proofs.Plays.{actors_of, ends, fills, no_want}
-use Rattle.sc_run.proofs.played.play.Goals as goal
+use Rattle.sc_run.proofs.played.play_by.Goals as goal
 
 pub drive-requires-clause-begins : goal.drive-requires-clause-begins
 drive-requires-clause-begins g c κs within = (births as_nodes c.args.scenario.now, c.requires.opened)

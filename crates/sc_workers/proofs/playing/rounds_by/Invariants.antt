@@ -2,7 +2,7 @@ use Rattle.std.proofs.Common.{◌≡◌, ◌<◌, ◌+◌, ◌-◌}
 use Rattle.sc_workers.specs.Crews.{AllSound, AreLater, rows_made}
 use Rattle.sc_workers.specs.Ends.{CanBegin}
 use Rattle.sc_workers.specs.Services.{AllServe}
-use Rattle.sc_workers.proofs.playing.rounds.Given as goal
+use Rattle.sc_workers.proofs.playing.rounds_by.Given as goal
 
 abbrev pub invariant-loop-answer : goal.invariant-loop-answer
 invariant-loop-answer g l = record {

@@ -1,0 +1,33 @@
+-- Where a shell is, by its actor's number.
+use Rattle.std.specs.Prelude.{◌≡◌, ℕ, ◌==◌, List, ◌⊎◌, if◌then◌else◌}
+use Rattle.sc_actor.specs.declared.actors.Actor.{Ghosts}
+use Rattle.sc_actor.specs.declared.actors.Parcel.{Ghosts as MailGhosts}
+use Rattle.sc_shell.specs.declared.shells.Shell.{Shell}
+use Rattle.sc_queue.specs.declared.rule.Hand.{Hand}
+use Rattle.sc_queue.specs.declared.rule.Item.{Item}
+use Rattle.sc_queue.specs.Hands.{weigh}
+
+module _ {A M O : Type 0} {g : Ghosts A M O} {h : MailGhosts M} where
+  -- 1 for the shell of this number, and else 0
+  abbrev pub is_of : ℕ → Item (Shell A M O g h) → ℕ
+  is_of number item = if item.work.port.who == number then 1 else 0
+
+  -- how often the shell of this number was put
+  abbrev pub put_of : ℕ → List (Item (Shell A M O g h)) → ℕ
+  put_of number put = weigh (is_of number) put
+
+  -- how often it lies in the queue
+  abbrev pub queued_of : ℕ → List (Item (Shell A M O g h)) → ℕ
+  queued_of number items = weigh (is_of number) items
+
+  -- how often one holder took it
+  abbrev pub held_by : ℕ → Hand (Shell A M O g h) → ℕ
+  held_by number holder = weigh (is_of number) holder.taken
+
+  -- how often all holders took it
+  abbrev pub taken_of : ℕ → List (Hand (Shell A M O g h)) → ℕ
+  taken_of number views = weigh (held_by number) views
+
+  -- the shell of this number lies in the queue and nobody has taken it, or one holder has taken it, once
+  abbrev pub HasOneHolder : ℕ → List (Item (Shell A M O g h)) → List (Hand (Shell A M O g h)) → Type 0
+  HasOneHolder number items views = ((queued_of number items ≡ 1) × (taken_of number views ≡ 0)) ⊎ ((queued_of number items ≡ 0) × (taken_of number views ≡ 1))

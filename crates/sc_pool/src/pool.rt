@@ -1,0 +1,41 @@
+//! The rounds of a pool.
+ghost use Rattle.std.specs.Prelude.{◌≤◌, Some};
+ghost use Rattle.sc_workers.specs.Crews.{AreLater, IsCrew, crew_numbers};
+ghost use Rattle.sc_workers.specs.Ends.{IsEnd, IfHeld};
+
+use sc_actor::{Actor, Gate};
+use sc_exchange::Port;
+use sc_shell::Shell;
+use sc_workers::{Rounds, Way, rounds_by};
+use std::alloc::Global;
+use std::sync::Wait;
+use std::thread::Threads;
+
+/// Phases, until nothing is pending for the shells' actors, `limit` deliveries were made, or a row
+/// is refused.
+///
+/// Before each phase every shell meets `net`, which is the network's port and makes no row. With d
+/// deliveries left and s shells, of which there are no more than d, a phase puts each shell once
+/// into a queue, with a grant of d / s turns, 16 at most. As many workers as shells have mail, at
+/// most `workers`, take shells from it, each the next one, and give it turns until the grant is used
+/// or a turn makes no row; then the shells are put back in their order. Where fewer deliveries are
+/// left than there are shells, they take turns one after the other. A phase in which no turn is
+/// refused makes at least one delivery. Without memory shells may be lost.
+pub fn pool_rounds<A: Actor, G: Gate, R: Threads + Wait + Sync>(
+    rt: &R,
+    alloc: Global,
+    net: &mut Port<A::Mail, A::Order>,
+    shells: &mut Vec<Shell<A>>,
+    workers: u32,
+    limit: u32,
+    gate: &G,
+) -> Rounds
+    requires workers { (1 ≤ workers) × (workers ≤ 16) }
+    requires crew { IsCrew net.old shells.old.items }
+    ensures later { IfHeld (Some result)
+        (AreLater net.old net.new shells.old.items shells.new.items) }
+    ensures end { IsEnd result net.new shells.old.items shells.new.items (crew_numbers shells.old.items)
+        limit }
+{
+    rounds_by(rt, alloc, Way::Queue, net, shells, workers, limit, gate)
+}

@@ -1,0 +1,304 @@
+//! Threads that work a queue off.
+ghost use Rattle.std.specs.Prelude.{◌≡◌, ◌<◌, ◌≤◌, ◌-◌, ◌+◌, true, [], List, length, map, All, vec_len, ℕ, IfOk, OnOk, slice_set};
+ghost use Rattle.crossbeam_queue.specs.Fifo.{Held};
+ghost use Rattle.crossbeam_queue.specs.Passes.{view, IsPassOf, ruled_capacity};
+ghost use Rattle.sc_queue.specs.Hands.{all_parts, hand, opener, taker, numbered, works, with_put, KnowsWhole};
+ghost use Rattle.sc_queue.specs.Working.{AllGiven, AllInside, AllFree, AllThere, Did, Gathers, filled};
+
+use crate::rule::{Cut, Hand, Item, OneHolder, Puts, Takes};
+use crossbeam_queue::{Pass, RuledArrayQueue};
+use std::alloc::{AllocError, Global};
+use std::sync::Wait;
+use std::thread;
+use std::thread::Threads;
+
+/// A queue under the rule.
+pub type Bench<T> = RuledArrayQueue<Item<T>, Hand<T>, OneHolder<T>>;
+
+/// One of the passes to it.
+pub type Holder<T> = Pass<Item<T>, Hand<T>>;
+
+// Puts one more. There is room, since no more is in the queue than this pass has put.
+fn put<T: Drop, R: Wait>(rt: &R, bench: &Bench<T>, pass: &mut Holder<T>, work: T, place: usize)
+    requires pass { IsPassOf bench.now pass.old }
+    requires puts { (view pass.old).puts ≡ true }
+    requires next { place ≡ length (view pass.old).put }
+    requires room { place < ruled_capacity bench.now }
+    ensures pass { IsPassOf bench.now pass.new }
+    ensures put { view pass.new
+        ≡ with_put (view pass.old) (record { place = place; work = work }) }
+{
+    match bench.push_as::<Puts<T>, R>(rt, pass, Item { place, work }) {
+        Ok(()) => {}
+        Err(_) => unreachable!(),
+    }
+}
+
+// Puts all.
+fn put_all<T: Drop, R: Wait>(rt: &R, bench: &Bench<T>, pass: &mut Holder<T>, all: Vec<T>)
+    requires pass { IsPassOf bench.now pass.old }
+    requires fresh { view pass.old ≡ opener }
+    requires room { vec_len all ≤ ruled_capacity bench.now }
+    ensures pass { IsPassOf bench.now pass.new }
+    ensures put { view pass.new ≡ hand all_parts true (numbered 0 all.items) [] }
+{
+    let mut place = 0;
+    for work in all {
+        put(rt, bench, pass, work, place);
+        place += 1;
+    }
+}
+
+// So many more passes.
+fn cut<T: Drop>(
+    alloc: Global,
+    bench: &Bench<T>,
+    pass: &mut Holder<T>,
+    many: usize,
+) -> Result<Vec<Holder<T>>, AllocError>
+    requires pass { IsPassOf bench.now pass.old }
+    requires parts { ((view pass.old).parts ≡ all_parts) × (many < all_parts) }
+    ensures pass { IsPassOf bench.now pass.new }
+    ensures left { IfOk result (λ v. view pass.new
+        ≡ hand (all_parts - many) (view pass.old).puts (view pass.old).put (view pass.old).taken) }
+    ensures each { IfOk result (λ v. (vec_len v ≡ many)
+        × All (λ p. IsPassOf bench.now p × (view p ≡ taker)) v.items) }
+{
+    let mut passes = Vec::new(alloc);
+    for _ in 0..many {
+        passes.push(bench.another::<Cut<T>>(pass))?;
+    }
+    Ok(passes)
+}
+
+/// What one thread did: its pass, what came of what it took, and whether it found the queue empty.
+#[derive(Drop)]
+pub struct Done<T, X> {
+    pub pass: Holder<T>,
+    pub kept: Vec<Item<X>>,
+    pub whole: bool,
+}
+
+// Takes and works until the queue is empty, or there is no memory to keep more: so nothing that
+// was taken is lost.
+fn work<T: Drop, X: Drop, F: Fn(T) -> X, R: Wait>(
+    rt: &R,
+    alloc: Global,
+    bench: &Bench<T>,
+    f: &F,
+    mut pass: Holder<T>,
+) -> Done<T, X>
+    requires calls { F.IsAlwaysCallable f.now }
+    requires pass { IsPassOf bench.now pass }
+    requires part { 0 < (view pass).parts }
+    ensures pass { IsPassOf bench.now result.pass }
+    ensures did { Did F.Fn f.now (view pass) (view result.pass) result.kept.items }
+    ensures whole { result.whole ≡ true → Held 0 (KnowsWhole (view result.pass)) }
+{
+    let mut kept = Vec::new(alloc);
+    for _ in rt.forever() {
+        if kept.reserve(1).is_err() {
+            return Done {
+                pass,
+                kept,
+                whole: false,
+            };
+        }
+        match bench.pop_as::<Takes<T>, R>(rt, &mut pass) {
+            Some(item) => {
+                let Item { place, work: taken } = item;
+                kept.push_reserved(Item {
+                    place,
+                    work: f(taken),
+                });
+            }
+            None => return Done {
+                pass,
+                kept,
+                whole: true,
+            },
+        }
+    }
+    unreachable!()
+}
+
+// Puts one into its place.
+fn keep<X: Drop>(slots: &mut Vec<Option<X>>, place: usize, work: X)
+    requires { place < vec_len slots.old }
+    ensures { slots.new.items ≡ slice_set slots.old.items place (Some work) }
+{
+    slots[place] = Some(work);
+}
+
+// Puts each into its place.
+fn fill<X: Drop>(slots: &mut Vec<Option<X>>, kept: Vec<Item<X>>)
+    requires { AllInside (vec_len slots.old) kept.items }
+    ensures { slots.new.items ≡ filled slots.old.items kept.items }
+{
+    for item in kept {
+        let Item { place, work } = item;
+        keep(slots, place, work);
+    }
+}
+
+// So many empty places.
+fn vacant<X: Drop>(alloc: Global, many: usize) -> Result<Vec<Option<X>>, AllocError>
+    ensures len { IfOk result (λ v. vec_len v ≡ many) }
+    ensures free { IfOk result (λ v. AllFree v.items) }
+{
+    let mut slots = Vec::new(alloc);
+    for _ in 0..many {
+        slots.push(None)?;
+    }
+    Ok(slots)
+}
+
+// What lies in the places, in order.
+fn unwrapped<X: Drop>(alloc: Global, slots: Vec<Option<X>>) -> Result<Vec<X>, AllocError>
+    requires { AllThere slots.items }
+    ensures { IfOk result (λ v. map (λ x. Some x) v.items ≡ slots.items) }
+{
+    let mut all = Vec::new(alloc);
+    for slot in slots {
+        match slot {
+            Some(one) => all.push(one)?,
+            None => unreachable!(),
+        }
+    }
+    Ok(all)
+}
+
+// Each pass works in a thread of its own, where one can be made, but one, which works in the
+// caller's.
+fn by_threads<T: Send + Drop, X: Send + Drop, F: Fn(T) -> X + Sync, R: Threads + Wait + Sync>(
+    rt: &R,
+    alloc: Global,
+    bench: &Bench<T>,
+    f: &F,
+    passes: Vec<Holder<T>>,
+) -> Result<Vec<Done<T, X>>, AllocError>
+    requires calls { F.IsAlwaysCallable f.now }
+    requires passes { All (λ p. IsPassOf bench.now p × (view p ≡ taker)) passes.items }
+    ensures len { IfOk result (λ v. vec_len v ≡ vec_len passes) }
+    ensures each { IfOk result (λ v. All (λ d. IsPassOf bench.now d.pass
+        × Did F.Fn f.now taker (view d.pass) d.kept.items) v.items) }
+{
+    thread::map_vec(rt, passes, &|pass| work(rt, alloc, bench, f, pass))
+}
+
+// The one that puts takes in what one thread did.
+fn gather_one<T: Drop, X: Drop, F: Fn(T) -> X>(
+    bench: &Bench<T>,
+    f: &F,
+    pass: &mut Holder<T>,
+    kept: &mut Vec<Item<X>>,
+    done: Done<T, X>,
+) -> Result<(), AllocError>
+    requires pass { IsPassOf bench.now pass.old }
+    requires part { 0 < (view pass.old).parts }
+    requires done { IsPassOf bench.now done.pass
+        × Did F.Fn f.now taker (view done.pass) done.kept.items }
+    ensures pass { IsPassOf bench.now pass.new }
+    ensures more { OnOk result ((parts : ℕ) (put : List (Item T)) →
+        Gathers F.Fn f.now parts put (view pass.old) kept.old.items →
+        Gathers F.Fn f.now (parts + 1) put (view pass.new) kept.new.items) }
+{
+    let Done {
+        pass: other,
+        kept: mut theirs,
+        whole: _,
+    } = done;
+    bench.absorb::<Cut<T>>(pass, other);
+    kept.append(&mut theirs)?;
+    Ok(())
+}
+
+// The one that puts takes in what all threads did.
+fn gather<T: Drop, X: Drop, F: Fn(T) -> X>(
+    bench: &Bench<T>,
+    f: &F,
+    pass: &mut Holder<T>,
+    kept: &mut Vec<Item<X>>,
+    all: Vec<Done<T, X>>,
+) -> Result<(), AllocError>
+    requires pass { IsPassOf bench.now pass.old }
+    requires part { 0 < (view pass.old).parts }
+    requires done { All (λ d. IsPassOf bench.now d.pass
+        × Did F.Fn f.now taker (view d.pass) d.kept.items) all.items }
+    requires before { (parts : ℕ) × (put : List (Item T))
+        × Gathers F.Fn f.now parts put (view pass.old) kept.old.items }
+    ensures pass { IsPassOf bench.now pass.new }
+    ensures more { OnOk result ((parts : ℕ) (put : List (Item T)) →
+        Gathers F.Fn f.now parts put (view pass.old) kept.old.items →
+        Gathers F.Fn f.now (parts + vec_len all) put (view pass.new) kept.new.items) }
+{
+    for done in all {
+        gather_one(bench, f, pass, kept, done)?;
+    }
+    Ok(())
+}
+
+// The one that puts, which has all parts again, works what is left, and puts all into order.
+fn finish<T: Drop, X: Drop, F: Fn(T) -> X, R: Wait>(
+    rt: &R,
+    alloc: Global,
+    bench: &Bench<T>,
+    f: &F,
+    pass: Holder<T>,
+    mut kept: Vec<Item<X>>,
+    many: usize,
+) -> Result<Vec<X>, AllocError>
+    requires calls { F.IsAlwaysCallable f.now }
+    requires pass { IsPassOf bench.now pass }
+    requires many { many ≡ length (works (view pass).put) }
+    requires gathered { Gathers F.Fn f.now all_parts (numbered 0 (works (view pass).put))
+        (view pass) kept.items }
+    ensures len { IfOk result (λ v. vec_len v ≡ length (works (view pass).put)) }
+    ensures each { IfOk result (λ v. AllGiven F.Fn f.now (works (view pass).put) v.items) }
+{
+    let mut slots = vacant(alloc, many)?;
+    let last = work(rt, alloc, bench, f, pass);
+    if !last.whole {
+        return Err(AllocError);
+    }
+    let Done {
+        pass: _,
+        kept: mut rest,
+        whole: _,
+    } = last;
+    kept.append(&mut rest)?;
+    fill(&mut slots, kept);
+    let ordered = unwrapped(alloc, slots)?;
+    Ok(ordered)
+}
+
+/// What calls of `f` give with these, in their order. Each is put into one queue, from which so
+/// many threads take, the caller's among them: each is taken once, by one of them.
+///
+/// Where no thread can be made, the calls run one after another. Without memory for the queue, its
+/// passes or what the calls give it is an error, and what was not worked yet is dropped.
+pub fn work_off<T: Send + Drop, X: Send + Drop, F: Fn(T) -> X + Sync, R: Threads + Wait + Sync>(
+    rt: &R,
+    alloc: Global,
+    all: Vec<T>,
+    threads: usize,
+    f: &F,
+) -> Result<Vec<X>, AllocError>
+    requires calls { F.IsAlwaysCallable f.now }
+    requires threads { threads < all_parts }
+    ensures len { IfOk result (λ v. vec_len v ≡ vec_len all) }
+    ensures each { IfOk result (λ v. AllGiven F.Fn f.now all.items v.items) }
+{
+    let many = all.len();
+    if many == 0 {
+        return Ok(Vec::new(alloc));
+    }
+    let mut kept = Vec::new(alloc);
+    let (bench, mut pass) = Bench::ruled(alloc, many)?;
+    put_all(rt, &bench, &mut pass, all);
+    let passes = cut(alloc, &bench, &mut pass, threads)?;
+    let done = by_threads(rt, alloc, &bench, f, passes)?;
+    gather(&bench, f, &mut pass, &mut kept, done)?;
+    let ordered = finish(rt, alloc, &bench, f, pass, kept, many)?;
+    Ok(ordered)
+}

@@ -1,0 +1,8 @@
+//! Work that several threads take from one queue.
+#![tactic(auto)]
+
+mod hands;
+mod rule;
+
+pub use hands::work_off;
+pub use rule::{Hand, Item};

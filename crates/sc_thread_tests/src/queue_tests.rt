@@ -1,0 +1,17 @@
+//! A list worked over a queue.
+use sc_queue::work_off;
+use std::test::Fail;
+
+#[test]
+fn doubles_in_order(rt: HostRuntime) -> Result<(), Fail> {
+    let mut all = Vec::new(rt.alloc());
+    for x in 0..40u32 {
+        all.push(x)?;
+    }
+    let doubled = work_off(&rt, rt.alloc(), all, 4, &|x: u32| x / 2)?;
+    assert_eq!(rt; doubled.len(), 40);
+    assert_eq!(rt; (doubled[0], doubled[7], doubled[39]), (0, 3, 19));
+    let none = work_off(&rt, rt.alloc(), Vec::new(rt.alloc()), 4, &|x: u32| x / 2)?;
+    assert_eq!(rt; none.len(), 0);
+    Ok(())
+}

@@ -1,0 +1,130 @@
+//! Phases, in which workers take shells from one queue.
+ghost use Rattle.std.specs.Prelude.{◌≡◌, ◌<◌, ◌≤◌, ◌*◌, ◌/◌, ◌^◌, [], length, count_by, min, max, vec_len, IfOk};
+ghost use Rattle.sc_workers.specs.Crews.{AllSound, HasPlayed};
+ghost use Rattle.sc_workers.specs.Phases.{IsServed, AllServed, shells_of, rows_of_all};
+
+use crate::turns::made_row;
+use sc_actor::{Actor, Gate};
+use sc_queue::work_off;
+use sc_shell::Shell;
+use std::alloc::{AllocError, Global};
+use std::mem;
+use std::sync::Wait;
+use std::thread::Threads;
+
+/// The most turns that a worker gives a shell.
+const MOST_TURNS: u32 = 16;
+
+/// A shell that a worker has given its turns, and how many rows it made.
+#[derive(Drop)]
+pub(crate) struct Served<A: Actor> {
+    pub(crate) shell: Shell<A>,
+    pub(crate) did: u32,
+}
+
+// Up to so many turns, until one makes no row.
+fn serve<A: Actor, G: Gate, R: Wait>(
+    rt: &R,
+    alloc: Global,
+    gate: &G,
+    mut shell: Shell<A>,
+    grant: u32,
+) -> Served<A>
+    ensures { IsServed grant shell result }
+{
+    for did in 0..grant {
+        if !made_row(rt, alloc, gate, &mut shell) {
+            return Served { shell, did };
+        }
+    }
+    Served { shell, did: grant }
+}
+
+// All take their turns, by so many workers.
+fn serve_all<A: Actor, G: Gate, R: Threads + Wait + Sync>(
+    rt: &R,
+    alloc: Global,
+    gate: &G,
+    shells: Vec<Shell<A>>,
+    workers: usize,
+    grant: u32,
+) -> Result<Vec<Served<A>>, AllocError>
+    requires { workers ≤ 16 }
+    ensures len { IfOk result (λ all. vec_len all ≡ vec_len shells) }
+    ensures each { IfOk result (λ all. AllServed grant shells.items all.items) }
+{
+    let all = work_off(
+        rt,
+        alloc,
+        shells,
+        workers,
+        &|shell: Shell<A>| -> Served<A>
+            ensures { IsServed grant shell result }
+        { serve(rt, alloc, gate, shell, grant) },
+    )?;
+    Ok(all)
+}
+
+// Puts the shells back, and adds up the rows that they made.
+fn put_back<A: Actor>(shells: &mut Vec<Shell<A>>, all: Vec<Served<A>>) -> Result<u32, AllocError>
+    requires empty { shells.old.items ≡ [] }
+    requires fits { rows_of_all all.items < 2 ^ 32 }
+    ensures shells { IfOk result (λ did. shells.new.items ≡ shells_of all.items) }
+    ensures did { IfOk result (λ did. did ≡ rows_of_all all.items) }
+{
+    let mut did = 0u32;
+    for one in all {
+        let Served { shell, did: more } = one;
+        did += more;
+        shells.push(shell)?;
+    }
+    Ok(did)
+}
+
+// How many turns each may take, so that all together make no more rows than are left.
+fn grant_of(left: u32, many: usize) -> u32
+    requires { 0 < many }
+    ensures value { result ≡ min (left / many) MOST_TURNS }
+    ensures fits { many * result ≤ left }
+    ensures some { many ≤ left → 0 < result }
+{
+    (left as usize / many).min(MOST_TURNS as usize) as u32
+}
+
+// As many workers as shells have mail, but at most so many, and one at least.
+fn workers_for(waits: &[bool], workers: u32) -> usize
+    requires { workers ≤ 16 }
+    ensures value { result ≡ max (min (count_by (λ wait. wait) waits.now) workers) 1 }
+    ensures most { result ≤ 16 }
+{
+    let with_mail = waits.iter().filter(|wait| **wait).count();
+    with_mail.min(workers as usize).max(1)
+}
+
+/// Each shell is put into a queue, from which workers take. A worker gives a shell turns until one
+/// makes no row, 16 at most, and all shells together at most `left`. Then the shells are put back
+/// in their order. Answers how many rows were made.
+///
+/// `waits` tells for which of the shells mail waits: there are no more workers than such shells.
+/// Without memory it is an error, and shells may be lost.
+pub(crate) fn phase<A: Actor, G: Gate, R: Threads + Wait + Sync>(
+    rt: &R,
+    alloc: Global,
+    gate: &G,
+    waits: &[bool],
+    shells: &mut Vec<Shell<A>>,
+    workers: u32,
+    left: u32,
+) -> Result<u32, AllocError>
+    requires workers { workers ≤ 16 }
+    requires many { (0 < length shells.old.items) × (length shells.old.items ≤ left) }
+    requires sound { AllSound shells.old.items }
+    ensures { IfOk result (λ did. HasPlayed left shells.old.items shells.new.items did) }
+{
+    let workers = workers_for(waits, workers);
+    let grant = grant_of(left, shells.len());
+    let all = mem::replace(shells, Vec::new(alloc));
+    let served = serve_all(rt, alloc, gate, all, workers, grant)?;
+    let did = put_back(shells, served)?;
+    Ok(did)
+}
