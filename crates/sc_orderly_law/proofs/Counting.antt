@@ -85,10 +85,10 @@ module _ {A M O : Type 0} (s : System A M O) (apart : are_apart s.births ≡ tru
       journal lawful
 
   -- there are no more mails than deliveries that were made and that are owed
-  pub mails_are_owed : SendsToActors s lines → (owing : Owing A M) → Lowers s owing lines → (journal : List (Row M O)) → IsLawful s lines journal → length (mails journal) ≤ deliveries journal + owed s owing journal
-  mails_are_owed to_actors owing lowers journal lawful =
+  pub mails_are_owed : SendsToActors s lines → (owing : Owing A M) → (journal : List (Row M O)) → Each (λ mail. 1 ≤ owing.mail mail) (mails journal) → IsLawful s lines journal → length (mails journal) ≤ deliveries journal + owed s owing journal
+  mails_are_owed to_actors owing journal owes lawful =
       let a = mails_under_way to_actors journal lawful in
-      let b = count_owes (λ mail. is_born s (s.receiver mail)) owing.mail (mails journal) (copies journal) (lowers.mail journal lawful) in
+      let b = count_owes (λ mail. is_born s (s.receiver mail)) owing.mail (mails journal) (copies journal) owes in
       omega (arith, a, b)
   -- ---- rows
 

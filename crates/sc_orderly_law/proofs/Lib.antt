@@ -1,5 +1,6 @@
 pub mod Counting
 pub mod Ordering
+pub mod Passing
 pub mod Paying
 pub mod Resting
 pub mod Rests

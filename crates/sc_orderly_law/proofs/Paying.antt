@@ -8,9 +8,9 @@ use Rattle.sc_actor.specs.declared.actors.Seat.{Seat}
 use Rattle.sc_actor.specs.declared.rows.Row.{Row}
 use Rattle.sc_actor.specs.declared.rows.Event.{Event}
 use Rattle.sc_actor.specs.declared.rows.Event.TheVariants.{Deliver, Tick, Go, Told, Crash, Drop, Again}
-use Rattle.sc_actor.specs.declared.rows.Input.TheVariants.{Got}
+use Rattle.sc_actor.specs.declared.rows.Input.TheVariants.{Got, Go as GoInput}
 use Rattle.sc_actor.specs.declared.schedules.Line.{Line}
-use Rattle.sc_actor.specs.Mail.{mails, copies, counts_at, is_delivery}
+use Rattle.sc_actor.specs.Mail.{mails, copies, counts_at, numbered, is_delivery}
 use Rattle.sc_actor.specs.Replay.{value, acted, input_of}
 use Rattle.sc_actor.specs.Steps.{IsUnderWay}
 use Rattle.sc_actor.specs.System.{System, row_of, are_apart}
@@ -63,34 +63,54 @@ module _ {A M O : Type 0} (s : System A M O) (apart : are_apart s.births ≡ tru
       ap owes (value-snoc s.table seat rows row ∙ ap (λ b. cond b (acted s.table (value s.table seat rows) (input_of (mails rows) event)).0 (value s.table seat rows)) (eq-eqb seat.who seat.who refl)) in
       one_changes f g seat.who stays s.births seat apart born ∙ ap (λ n. sum_by f s.births + n) here
 
-  module _ (owing : Owing A M) (lines : List (Line O)) (plain : Each IsPlainLine lines) (lowers : Lowers s owing lines) where
-    -- a row in order pays for its delivery
-    pays : (rows : List (Row M O)) (seat : Seat A) (event : Event O) → find (λ other. eqb other.who seat.who) s.births ≡ Some seat → IsInOrder s rows seat.who event → IsLawful s lines (rows ++ row_of s.table seat rows event ∷ []) →
+  module _ (owing : Owing A M) where
+    -- a row pays: a delivery lowers by one at least what its actor and its mail owe, and one that goes raises nothing
+    abbrev pub IsPaid : List (Row M O) → Seat A → Event O → Type 0
+    IsPaid rows seat (Deliver number) =
+        (mail : M) → numbered (mails rows) number ≡ Some mail → 1 + owed_by owing (s.table (value s.table seat rows) (Got mail)) ≤ owing.actor (value s.table seat rows) + owing.mail mail
+    IsPaid rows seat Go = owed_by owing (s.table (value s.table seat rows) GoInput) ≤ owing.actor (value s.table seat rows)
+    IsPaid rows seat Tick = Unit {0}
+    IsPaid rows seat (Told order) = Unit {0}
+    IsPaid rows seat Crash = Unit {0}
+    IsPaid rows seat (Drop mail) = Unit {0}
+    IsPaid rows seat (Again mail) = Unit {0}
+
+    -- so deliveries and what is owed together do not rise
+    pub pays : (rows : List (Row M O)) (seat : Seat A) (event : Event O) → find (λ other. eqb other.who seat.who) s.births ≡ Some seat → IsInOrder s rows seat.who event → IsPaid rows seat event →
         deliveries (rows ++ row_of s.table seat rows event ∷ []) + owed s owing (rows ++ row_of s.table seat rows event ∷ []) ≤ deliveries rows + owed s owing rows
-    pays rows seat (Deliver number) born fine lawful =
+    pays rows seat (Deliver number) born fine paid =
         let row = row_of s.table seat rows (Deliver number) in
         let w = waiting_one s rows seat.who 1 number fine in
         let input : input_of {O = O} (mails rows) (Deliver number) ≡ Some (Got w.0) = ap (λ o. option_map Got o) w.1.sent in
         let now = value s.table seat rows in
         let by_table = ap (λ i. owed_by owing (acted s.table now i)) input in
-        let lower = lowers.delivery rows seat number w.0 born w.1.sent lawful in
+        let lower = paid w.0 w.1.sent in
         let actors = actors-row owing.actor rows seat (Deliver number) born in
         let mail = mail-row s owing.mail rows row in
         let took = delivered s owing.mail rows number w.0 (ap (is_born s) w.2 ∙ is_born-from s seat.who seat born) w.1 in
         let count = count_push (λ (r : Row M O). is_delivery r.event) rows row true refl in
         omega (arith, by_table, lower, actors, mail, took, count)
-    pays rows seat Go born fine lawful =
+    pays rows seat Go born fine paid =
         let row = row_of s.table seat rows Go in
-        let lower = lowers.go rows seat born lawful in
         let actors = actors-row owing.actor rows seat Go born in
         let mail = mail-row s owing.mail rows row in
         let count = count_push (λ (r : Row M O). is_delivery r.event) rows row false refl in
-        omega (arith, lower, actors, mail, count)
-    pays rows seat Tick born fine lawful = absurd fine
-    pays rows seat (Told order) born fine lawful = absurd fine
-    pays rows seat Crash born fine lawful = absurd fine
-    pays rows seat (Drop mail) born fine lawful = absurd fine
-    pays rows seat (Again mail) born fine lawful = absurd fine
+        omega (arith, paid, actors, mail, count)
+    pays rows seat Tick born fine paid = absurd fine
+    pays rows seat (Told order) born fine paid = absurd fine
+    pays rows seat Crash born fine paid = absurd fine
+    pays rows seat (Drop mail) born fine paid = absurd fine
+    pays rows seat (Again mail) born fine paid = absurd fine
+
+  module _ (owing : Owing A M) (lines : List (Line O)) (plain : Each IsPlainLine lines) (lowers : Lowers s owing lines) where
+    all_paid : (rows : List (Row M O)) (seat : Seat A) (event : Event O) → find (λ other. eqb other.who seat.who) s.births ≡ Some seat → IsLawful s lines (rows ++ row_of s.table seat rows event ∷ []) → IsPaid owing rows seat event
+    all_paid rows seat (Deliver number) born lawful = λ mail sent. lowers.delivery rows seat number mail born sent lawful
+    all_paid rows seat Go born lawful = lowers.go rows seat born lawful
+    all_paid rows seat Tick born lawful = tt
+    all_paid rows seat (Told order) born lawful = tt
+    all_paid rows seat Crash born lawful = tt
+    all_paid rows seat (Drop mail) born lawful = tt
+    all_paid rows seat (Again mail) born lawful = tt
 
     -- the deliveries made, and what is owed still, are no more than was owed at birth
     pub deliveries_are_owed : (journal : List (Row M O)) → IsLawful s lines journal → deliveries journal + owed s owing journal ≤ owed_at_birth s owing
@@ -98,7 +118,7 @@ module _ {A M O : Type 0} (s : System A M O) (apart : are_apart s.births ≡ tru
         by_rows s lines (λ rows. deliveries rows + owed s owing rows ≤ owed_at_birth s owing) (omega arith)
         (λ rows row l le.
         let o = orderly s lines rows row plain l in
-        let pay = pays rows o.seat o.event o.born o.in_order (subst (λ r. IsLawful s lines (rows ++ r ∷ [])) o.row_is l) in
+        let pay = pays owing rows o.seat o.event o.born o.in_order (all_paid rows o.seat o.event o.born (subst (λ r. IsLawful s lines (rows ++ r ∷ [])) o.row_is l)) in
         let same = ap (λ r. deliveries (rows ++ r ∷ []) + owed s owing (rows ++ r ∷ [])) o.row_is in
         omega (arith, pay, same, le))
         journal lawful

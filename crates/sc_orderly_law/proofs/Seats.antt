@@ -1,8 +1,9 @@
 -- Sums over seats of which one changes.
-use Rattle.std.proofs.Common.{◌≡◌, ℕ, ◌+◌, List, [], ◌∷◌, Bool, true, false, true≢false, cond, eqb, eq-eqb, not, find, refl, sym, ◌∙◌, ap, arith, Some, sum_by}
+use Rattle.std.proofs.Common.{◌≡◌, ℕ, ◌+◌, List, [], ◌∷◌, Bool, true, false, true≢false, cond, eqb, eq-eqb, not, find, refl, sym, ◌∙◌, ap, arith, Some, inl, inr, sum_by}
 use Rattle.std.specs.List.{list_any}
 use Rattle.std.proofs.lemmas.Bool.{eqb-true, and_parts, or_parts, not-true}
 use Rattle.std.proofs.lemmas.List.Sums.{sum_by-cons}
+use Rattle.sc_base.specs.Among.{Among}
 use Rattle.sc_actor.specs.declared.actors.Seat.{Seat}
 use Rattle.sc_actor.specs.System.{are_apart}
 
@@ -46,3 +47,19 @@ module _ {A : Type 0} (f g : Seat A → ℕ) (who : ℕ) (others : (seat : Seat 
           let a = sum_by-cons f s seats in
           let b = sum_by-cons g s seats in
           omega (arith, rec, here, a, b)
+
+-- a seat among seats that are apart is found by its number
+pub seat_found : {A : Type 0} (seats : List (Seat A)) (seat : Seat A) → are_apart seats ≡ true → Among seat seats → find (λ other. eqb other.who seat.who) seats ≡ Some seat
+seat_found [] seat apart a = absurd a
+seat_found {A} (s ∷ seats) seat apart (inl same) = ap (λ b. cond b (Some s) (find (λ other. eqb other.who seat.who) seats)) (eq-eqb s.who seat.who (ap (λ (x : Seat A). x.who) same)) ∙ ap Some same
+seat_found {A} (s ∷ seats) seat apart (inr a) = by (eqb s.who seat.who) refl (seat_found seats seat (and_parts (not (list_any (λ other. eqb other.who s.who) seats)) (are_apart seats) apart).1 a)
+  where
+    none_there : (seats : List (Seat A)) → Among seat seats → list_any (λ other. eqb other.who s.who) seats ≡ false → s.who ≡ seat.who → ⊥
+    none_there [] a none e = a
+    none_there (x ∷ seats) (inl same) none e = true≢false (sym (eq-eqb x.who s.who (ap (λ (y : Seat A). y.who) same ∙ sym e)) ∙ (or_parts (eqb x.who s.who) (list_any (λ other. eqb other.who s.who) seats) none).0)
+    none_there (x ∷ seats) (inr b) none e = none_there seats b (or_parts (eqb x.who s.who) (list_any (λ other. eqb other.who s.who) seats) none).1 e
+
+    by : (b : Bool) → eqb s.who seat.who ≡ b → find (λ other. eqb other.who seat.who) seats ≡ Some seat → cond b (Some s) (find (λ other. eqb other.who seat.who) seats) ≡ Some seat
+    by false e more = more
+    by true e more =
+        absurd (none_there seats a (not-true (list_any (λ other. eqb other.who s.who) seats) (and_parts (not (list_any (λ other. eqb other.who s.who) seats)) (are_apart seats) apart).0) (eqb-true s.who seat.who e))

@@ -17,7 +17,7 @@ use Rattle.sc_actor.specs.Walk.{Task, Once, Settles, Frees, Storms, WalkPlace, A
 use Rattle.sc_actor.proofs.PendingLemmas.{waiting_any}
 use Rattle.sc_actor.proofs.WalkLemmas.{lawful-last, place_after-rows}
 use Rattle.sc_orderly_law.specs.Orderly.{IsPlainLine, is_born, deliveries}
-use Rattle.sc_orderly_law.specs.Owing.{Owing, Lowers, HasRoom, owed_at_birth}
+use Rattle.sc_orderly_law.specs.Owing.{Owing, Lowers, HasRoom, owed, owed_at_birth}
 use Rattle.sc_orderly_law.proofs.Ordering.{Each-append, by_rows}
 use Rattle.sc_orderly_law.proofs.Resting.{tidy, may-born}
 use Rattle.sc_orderly_law.proofs.Paying.{delivered, count_push, deliveries_are_owed}
@@ -115,7 +115,8 @@ module _ {A M O : Type 0} (s : System A M O) where
         by true over more = subst (λ c. IsRoomy total rows (onward s rows tasks (skipped + skips task) c)) (sym (not_cut task all.0 over)) more
         by false open_ more = (all, refl)
 
-  module _ (apart : are_apart s.births ≡ true) (owing : Owing A M) (lines : List (Line O)) (plain : Each IsPlainLine lines) (lowers : Lowers s owing lines) where
+  module _ (owing : Owing A M) (lines : List (Line O)) (plain : Each IsPlainLine lines) (bounded : (rows : List (Row M O)) → IsLawful s lines rows → deliveries rows + owed s owing rows ≤ owed_at_birth s owing)
+      (owes : (rows : List (Row M O)) → IsLawful s lines rows → Each (λ mail. 1 ≤ owing.mail mail) (mails rows)) where
     -- where something is pending, something is owed
     pending_owes : (rows : List (Row M O)) → IsLawful s lines rows → is_quiet s rows ≡ false → deliveries rows < owed_at_birth s owing
     pending_owes rows lawful q = by (kth (waiting s rows None) 1) refl
@@ -127,8 +128,8 @@ module _ {A M O : Type 0} (s : System A M O) where
             let u = waiting_any s rows 1 (suc place) e in
             let born : is_born s (s.receiver u.0) ≡ true = sym (may-born s rows (s.receiver u.0) (tidy s lines rows plain lawful)) ∙ u.1.may in
             let took = delivered s owing.mail rows (suc place) u.0 born u.1 in
-            let one : 1 ≤ owing.mail u.0 = Each-at (λ mail. 1 ≤ owing.mail mail) (mails rows) place u.0 (lowers.mail rows lawful) u.1.sent in
-            let all = deliveries_are_owed s apart owing lines plain lowers rows lawful in
+            let one : 1 ≤ owing.mail u.0 = Each-at (λ mail. 1 ≤ owing.mail mail) (mails rows) place u.0 (owes rows lawful) u.1.sent in
+            let all = bounded rows lawful in
             omega (arith, took, one, all)
 
     module _ (room : Each (HasRoom (owed_at_birth s owing)) lines) where
@@ -144,9 +145,13 @@ module _ {A M O : Type 0} (s : System A M O) where
           ap (λ xs. onward s (xs ++ row ∷ []) (rest_of_all place.tasks) place.skipped place.unsettled) there ∙ ap (λ c. onward s (rows ++ row ∷ []) (rest_of_all place.tasks) place.skipped c) now.1 in
           subst (λ p. IsRoomy total (rows ++ row ∷ []) p) (sym (step ∙ same)) next
 
-      -- no line of a lawful journal is cut off
-      pub never_cut : (journal : List (Row M O)) → IsLawful s lines journal → unsettled s lines journal ≡ false
-      never_cut journal lawful =
+      -- no line of a lawful journal is cut off, where what is owed bounds the deliveries
+      pub never_cut_by : (journal : List (Row M O)) → IsLawful s lines journal → unsettled s lines journal ≡ false
+      never_cut_by journal lawful =
           let total = owed_at_birth s owing in
           let none : IsRoomy total [] (place_after s lines []) = onward_roomy total [] (pending_owes [] tt) (flat_map (tasks_of s.words) lines) 0 (lines_room s.words total lines plain room) in
           (by_rows s lines (λ rows. IsRoomy total rows (place_after s lines rows)) none roomy_row journal lawful).1
+
+  -- no line of a lawful journal is cut off, where each row pays
+  pub never_cut : are_apart s.births ≡ true → (owing : Owing A M) (lines : List (Line O)) → Each IsPlainLine lines → Lowers s owing lines → Each (HasRoom (owed_at_birth s owing)) lines → (journal : List (Row M O)) → IsLawful s lines journal → unsettled s lines journal ≡ false
+  never_cut apart owing lines plain lowers room journal lawful = never_cut_by owing lines plain (deliveries_are_owed s apart owing lines plain lowers) (λ rows l. lowers.mail rows l) room journal lawful

@@ -3,6 +3,7 @@ pub mod Made
 mod Records
 mod Results
 mod Rosters
+mod Short
 mod Spelled
 mod Starts
 pub mod Texts

@@ -6,17 +6,19 @@ use Rattle.std.proofs.lemmas.List.{length_push}
 use Rattle.std.proofs.lemmas.List.Elements.{All-nil, All-cons, All-push}
 use Rattle.std.proofs.lemmas.List.Folds.{list_any-append}
 use Rattle.std.proofs.lemmas.List.Quantifiers.{all_pairs_push}
+use Rattle.sc_base.specs.Among.{Each}
 use Rattle.sc_base.specs.Limits.{most_requests}
 use Rattle.sc_chance.specs.Words.{two_words}
 use Rattle.sc_member.specs.Roster.{IsRoster}
 use Rattle.sc_scenario.specs.Schedules.{is_client}
 use Rattle.sc_scenario.specs.Made.{made_op, made_ops, made_clients, made_groups, made_goes, made_scenario}
-use Rattle.sc_scenario.specs.Valid.{IsUpTo, IsBounded, IsBoundedGroup, IsBoundedClient, IsBoundedLine}
+use Rattle.sc_scenario.specs.Valid.{IsUpTo, IsBounded, IsBoundedGroup, IsShortOp, IsBoundedClient, IsBoundedLine}
 use Rattle.sc_scenario.specs.declared.drafts.GroupLine.{GroupLine}
 use Rattle.sc_scenario.specs.declared.scenarios.Asks.{Asks}
 use Rattle.sc_scenario.specs.declared.scenarios.SchedLine.{SchedLine}
 use Rattle.sc_scenario.specs.declared.scenarios.SchedLine.TheVariants.{Go, Settle}
 use Rattle.sc_scenario.proofs.Clients.{Below}
+use Rattle.sc_scenario.proofs.Short.{Each-push, op_short}
 use Rattle.sc_scenario.proofs.Starts.{Lower}
 
 -- ---- clients
@@ -66,9 +68,17 @@ each_client P seed n (suc k) each =
     subst (All P) (sym (clients_more seed n k))
     (All-push P (made_clients seed n k) (next_client seed n k) (each_client P seed n k (λ j lt. each j (omega (arith, lt)))) (each k (omega arith)))
 
+-- each request of a made client is short
+ops_short : (seed n before k : ℕ) → before < 16 → k ≤ most_requests → Each IsShortOp (made_ops seed n before k)
+ops_short seed n before zero lt few = subst (Each IsShortOp) (sym (no_ops seed n before)) tt
+ops_short seed n before (suc k) lt few =
+    subst (Each IsShortOp) (sym (ops_more seed n before k))
+    (Each-push IsShortOp (made_ops seed n before k) (made_op (two_words seed (before * n + k)) (before + 1) (k + 1)) (ops_short seed n before k lt (omega (arith, few)))
+      (op_short (two_words seed (before * n + k)) (before + 1) (k + 1) (omega (arith, lt)) (omega (arith, few))))
+
 clients_bounded : (seed n : ℕ) → n ≤ most_requests → All IsBoundedClient (made_clients seed n 16)
 clients_bounded seed n few =
-    each_client IsBoundedClient seed n 16 (λ j lt. let counted = ops_counted seed n j n in ((omega arith, omega (arith, lt)), omega (arith, counted, few)))
+    each_client IsBoundedClient seed n 16 (λ j lt. let counted = ops_counted seed n j n in ((omega arith, omega (arith, lt)), omega (arith, counted, few), ops_short seed n j n lt few))
 
 clients_rise : (seed n k : ℕ) → AllPairs Below (made_clients seed n k)
 clients_rise seed n zero = subst (AllPairs Below) (sym (no_clients seed n)) (λ i j d lt within. absurd (omega arith))

@@ -24,7 +24,7 @@ use Rattle.sc_scenario.specs.Statements.{group_in, statement_in}
 use Rattle.sc_scenario.specs.Places.{phase_so_far, may_follow, is_in_place}
 use Rattle.sc_scenario.specs.Taking.{is_order_known, is_line_known, is_above, most_groups, most_members, with_group_line, has_stranger, group_taken, client_place, with_client, with_op, client_taken, request_taken, with_sched_line, telling_of, with_order, line_taken, telling_taken, taken_outside, taken_within}
 use Rattle.sc_scenario.specs.Grammar.{begun, are_two, header_read, said, words_read, is_fresh, line_read, scenario_by, reading_ended, text_ended, going_on, lines_read, verdict_of}
-use Rattle.sc_scenario.specs.Valid.{IsWritten, IsBounded, IsBoundedGroup, IsBoundedClient, IsBoundedLine, IsUpTo, ValidScenariosAreBounded}
+use Rattle.sc_scenario.specs.Valid.{IsWritten, IsBounded, IsBoundedGroup, IsShortOp, IsBoundedClient, IsBoundedLine, IsUpTo, ValidScenariosAreBounded}
 use Rattle.sc_lines.specs.declared.reasons.Reason.{Reason}
 use Rattle.sc_lines.specs.declared.reasons.Reason.TheVariants.{MissingHeader, BadByte, UnknownWord, OutOfPlace, WrongCount, BadNumber, UnknownName, Repeated, BadBoundary, TooMany}
 use Rattle.sc_lines.specs.declared.kinds.Kind.{Kind}
@@ -43,6 +43,7 @@ use Rattle.sc_scenario.specs.declared.scenarios.SchedLine.{SchedLine}
 use Rattle.sc_lines.proofs.Choices.{chosen, is_up_to, counted}
 use Rattle.sc_scenario.proofs.Results.{err_ok, same_Ok, or_reason_ok, after_ok, passed, met}
 use Rattle.sc_scenario.proofs.Rosters.{roster_one}
+use Rattle.sc_scenario.proofs.Short.{Each-push, request_short}
 use Rattle.sc_scenario.proofs.Clients.{Below, all_inserted, rising_with}
 use Rattle.sc_scenario.proofs.Made.{made_bounded}
 use Rattle.sc_scenario.proofs.Spelled.{joined_is, joined_all, nodes_up, no_stranger, node_is, Played, line_is, Ordered, order_is}
@@ -193,7 +194,7 @@ group_is draft words statement more is e t =
 client_is : (draft : Draft) (client : ℕ) (more : Reading) → IsUpTo most_clients client → length draft.lines ≡ 0 → IsDraft draft → client_taken draft client ≡ Ok more → IsReading more
 client_is draft client more up none is e =
     let p = passed (is_client draft.clients client) Repeated (Ok (Within draft (record { client = client; ops = [] }))) more e in
-    subst IsReading (same_Ok _ more p.1) (is, none, p.0, (up, omega arith))
+    subst IsReading (same_Ok _ more p.1) (is, none, p.0, (up, omega arith, tt))
 
 played_is : (draft : Draft) (line : SchedLine) (more : Reading) → Played draft.nodes draft.clients line → IsDraft draft → line_taken draft line ≡ Ok more → IsReading more
 played_is draft line more good is e =
@@ -250,14 +251,14 @@ section_ended draft asks is = record {
   lines = none_of (IsBoundedLine draft.nodes (with_client draft asks).clients) draft.lines is.1;
 }
 
-requested : (draft : Draft) (asks : Asks) (op : Op) → length asks.ops < most_requests → IsReading (Within draft asks) → IsReading (Within draft (with_op asks op))
-requested draft asks op few is = (is.0, is.1, is.2, (is.3.0, omega (arith, few, length_push asks.ops op)))
+requested : (draft : Draft) (asks : Asks) (op : Op) → length asks.ops < most_requests → IsShortOp op → IsReading (Within draft asks) → IsReading (Within draft (with_op asks op))
+requested draft asks op few short is = (is.0, is.1, is.2, (is.3.0, omega (arith, few, length_push asks.ops op), Each-push IsShortOp asks.ops op is.3.2 short))
 
-request_is : (draft : Draft) (asks : Asks) (op : Op) (more : Reading) → IsReading (Within draft asks) → request_taken draft asks op ≡ Ok more → IsReading more
-request_is draft asks op more is e =
+request_is : (draft : Draft) (asks : Asks) (op : Op) (more : Reading) → IsShortOp op → IsReading (Within draft asks) → request_taken draft asks op ≡ Ok more → IsReading more
+request_is draft asks op more short is e =
     let p = passed (leb most_requests (length asks.ops)) TooMany (Ok (Within draft (with_op asks op))) more e in
     let few : length asks.ops < most_requests = leb-false most_requests (length asks.ops) p.0 in
-    subst IsReading (same_Ok _ more p.1) (requested draft asks op few is)
+    subst IsReading (same_Ok _ more p.1) (requested draft asks op few short is)
 
 within_is : (draft : Draft) (asks : Asks) (k : Kind) (words : List (List ℕ)) (statement : Statement) (more : Reading) → IsReading (Within draft asks) → is_inner k ≡ true
     → statement_in k words ≡ Ok statement → taken_within draft asks statement ≡ Ok more → IsReading more
@@ -271,7 +272,7 @@ within_is draft asks End words statement more is inner e t =
     subst IsReading (same_Ok _ more taken) (section_ended draft asks is)
 within_is draft asks (Asking k) words statement more is inner e t =
     let a = after_ok (request_in k words) (λ op. Ok (Ask op)) statement e in
-    request_is draft asks a.0 more is (subst (λ s. taken_within draft asks s ≡ Ok more) (sym (same_Ok (Ask a.0) statement a.2)) t)
+    request_is draft asks a.0 more (request_short k words a.0 a.1) is (subst (λ s. taken_within draft asks s ≡ Ok more) (sym (same_Ok (Ask a.0) statement a.2)) t)
 within_is draft asks (Playing k) words statement more is inner e t = absurd (true≢false (sym inner))
 within_is draft asks (Telling k) words statement more is inner e t = absurd (true≢false (sym inner))
 

@@ -5,7 +5,10 @@ use Rattle.sc_member.specs.Roster.{IsRoster}
 use Rattle.sc_cmd.specs.declared.orders.Order.{Order}
 use Rattle.sc_cmd.specs.declared.orders.Order.TheVariants.{Join, Leave, Split, Merge, Repart, Migrate}
 use Rattle.sc_scenario.specs.Groups.{bases_of}
-use Rattle.sc_base.specs.Limits.{most_nodes, most_clients, most_requests, client_actor}
+use Rattle.sc_base.specs.Among.{Each}
+use Rattle.sc_base.specs.Limits.{longest_key, longest_value, most_nodes, most_clients, most_requests, client_actor}
+use Rattle.sc_base.specs.declared.ops.Op.{Op}
+use Rattle.sc_base.specs.declared.ops.Op.TheVariants.{Get, Put, Del, Add, Cas}
 use Rattle.sc_scenario.specs.Schedules.{is_client, most_mails, most_deliveries, most_workers, last_storm}
 use Rattle.sc_lines.specs.Lines.{most_bytes}
 use Rattle.sc_scenario.specs.Taking.{most_groups}
@@ -56,9 +59,17 @@ IsBoundedLine nodes clients (Settle most) = IsUpTo most_deliveries most
 IsBoundedLine nodes clients (Free most workers) = IsUpTo most_deliveries most × IsUpTo most_workers workers
 IsBoundedLine nodes clients (Storm number most) = (number ≤ last_storm) × IsUpTo most_deliveries most
 
--- a client's number and how many requests it has
+-- the key and each value of an operation are no longer than they may be
+abbrev pub IsShortOp : Op → Type 0
+IsShortOp (Get key) = length key ≤ longest_key
+IsShortOp (Put key value) = (length key ≤ longest_key) × (length value ≤ longest_value)
+IsShortOp (Del key) = length key ≤ longest_key
+IsShortOp (Add key value) = (length key ≤ longest_key) × (length value ≤ longest_value)
+IsShortOp (Cas key expect value) = (length key ≤ longest_key) × (length expect ≤ longest_value) × (length value ≤ longest_value)
+
+-- a client's number, how many requests it has, and that each is short
 abbrev pub IsBoundedClient : Asks → Type 0
-IsBoundedClient asks = IsUpTo most_clients asks.client × (length asks.ops ≤ most_requests)
+IsBoundedClient asks = IsUpTo most_clients asks.client × (length asks.ops ≤ most_requests) × Each IsShortOp asks.ops
 
 -- a group begins at a position of the ring, and has one to nine nodes that there are
 pub record IsBoundedGroup (nodes : ℕ) (line : GroupLine) : Type 0 where

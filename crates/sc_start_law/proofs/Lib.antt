@@ -1,4 +1,5 @@
 pub mod Requests
 pub mod Round
+pub mod Seats
 pub mod Starts
 pub mod Valid

@@ -5,4 +5,3 @@ mod Names
 mod Numbers
 mod OrderWords
 mod Places
-mod Seats

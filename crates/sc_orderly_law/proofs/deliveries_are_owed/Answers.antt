@@ -14,7 +14,7 @@ returns-clause-settled g c = λ words births lines owing journal apart plain low
 
 pub returns-clause-mails : goal.returns-clause-mails
 returns-clause-mails g c = λ words births lines owing journal apart plain lowers to_actors lawful.
-    mails_are_owed (system g.A.Actor.table g.A.Mail.Parcel.receiver words births) apart lines plain to_actors owing lowers journal lawful
+    mails_are_owed (system g.A.Actor.table g.A.Mail.Parcel.receiver words births) apart lines plain to_actors owing journal (lowers.mail journal lawful) lawful
 
 pub returns-clause-rows : goal.returns-clause-rows
 returns-clause-rows g c = λ words births lines journal apart plain lawful.

@@ -1,0 +1,190 @@
+-- One row of a plain journal: what it leaves as it is, and what it makes of the player that acts.
+use Rattle.std.proofs.Common.{◌≡◌, ℕ, zero, suc, ◌+◌, ◌-◌, ◌<◌, ◌≤◌, eqb, leb, ◌&&◌, ◌||◌, Bool, true, false, true≢false, cond, List, [], ◌∷◌, ◌++◌, length, map, drop, find, Option, Some, None, ◌⊎◌, inl, inr, refl, sym, ◌∙◌, ap, subst, arith, sum_by}
+use Rattle.std.specs.Prelude.{slice_get}
+use Rattle.std.proofs.Math.Bool.{or-false}
+use Rattle.std.proofs.lemmas.Bool.{cases_eq, cases_lt, ne_eqb, eq-eqb, and_left, and_from, le-leb, lt-leb, and_right, cond-true}
+use Rattle.std.proofs.lemmas.List.Folds.{list_any-append}
+use Rattle.std.proofs.lemmas.List.Sums.{sum_by-cons}
+use Rattle.sc_base.specs.Among.{Among, Each}
+use Rattle.sc_base.specs.Limits.{client_actor, most_nodes}
+use Rattle.sc_base.specs.Same.{same_draw}
+use Rattle.sc_base.specs.declared.ops.Op.{Op}
+use Rattle.sc_cmd.specs.declared.cores.Base.{Base}
+use Rattle.sc_cmd.specs.declared.orders.OrderLine.{OrderLine}
+use Rattle.sc_mail.specs.declared.bodies.Mail.{Mail}
+use Rattle.sc_actor.specs.declared.actors.Seat.{Seat}
+use Rattle.sc_actor.specs.declared.rows.Row.{Row}
+use Rattle.sc_actor.specs.declared.rows.Event.{Event}
+use Rattle.sc_actor.specs.Mail.{mails, numbered, is_delivery}
+use Rattle.sc_actor.specs.Replay.{value, acted, input_of}
+use Rattle.sc_actor.specs.System.{System, row_of, has_gone, is_go}
+use Rattle.sc_actor.proofs.ReplayLemmas.{value-snoc, mails-snoc}
+use Rattle.sc_paxos_words.proofs.ListLemmas.{Each-append, Each-weaker, find_found}
+use Rattle.sc_member.specs.Roster.{is_member}
+use Rattle.sc_node_table.specs.Node.{NodeState, replica_of, is_node}
+use Rattle.sc_node_table.specs.Replica.{ReplicaState, name_of, next, last_slot}
+use Rattle.sc_node_table.specs.Slots.{numbers_from, slots_ahead}
+use Rattle.sc_scenario.specs.declared.scenarios.Asks.{Asks}
+use Rattle.sc_scenario.specs.declared.scenarios.Scenario.{Scenario}
+use Rattle.sc_sound.specs.Players.{Player, player_table, node_seat, client_seat, route_of, births, system_of, as_nodes}
+use Rattle.sc_sound.specs.declared.roles.Role.TheVariants.{Node, Client}
+use Rattle.sc_orderly_law.specs.Orderly.{deliveries}
+use Rattle.sc_orderly_law.specs.Owing.{owed, owed_at_birth}
+use Rattle.sc_budget_law.specs.BetweenJournal.{replica_at, next_in}
+use Rattle.sc_budget_law.specs.Frames.{Frame, IsFrame}
+use Rattle.sc_budget_law.specs.Owed.{replica_owes, node_owes, player_owes}
+use Rattle.sc_budget_law.specs.PlainClient.{begun_of, IsBegun, IsPlainClient}
+use Rattle.sc_budget_law.specs.PlainMail.{Requests, IsPlainMail}
+use Rattle.sc_budget_law.specs.PlainNode.{IsPlainNode, IsSettled}
+use Rattle.sc_budget_law.proofs.BetweenAll.{owing_of, IsNodeAt, IsClientAt, IsPlainJournal}
+use Rattle.sc_budget_law.proofs.BetweenBegun.{IsMore, mail_more, node_more}
+use Rattle.sc_budget_law.proofs.BetweenGroups.{IsGroupAt}
+use Rattle.sc_budget_law.proofs.BetweenLists.{among-left, among-right}
+use Rattle.sc_budget_law.proofs.BetweenStage.{frames_of, IsStage, to_mapped}
+use Rattle.sc_budget_law.proofs.BetweenViews.{Journal, replica_is}
+use Rattle.sc_budget_law.proofs.NodeRows.{of_frame}
+
+-- ---- lists
+
+pub in_numbers : (from count n : ℕ) → Among n (numbers_from from count) → (from ≤ n) × (n < from + count)
+in_numbers from zero n a = absurd a
+in_numbers from (suc count) n (inl e) = (omega (arith, e), omega (arith, e))
+in_numbers from (suc count) n (inr a) = let r = in_numbers (from + 1) count n a in let low = r.0 in let high = r.1 in (omega (arith, low), omega (arith, high))
+
+pub to_numbers : (from count n : ℕ) → from ≤ n → n < from + count → Among n (numbers_from from count)
+to_numbers from zero n low high = absurd (omega (arith, low, high))
+to_numbers from (suc count) n low high = elim (cases_eq from n) [
+  | inl is ↦ inl is
+  | inr ne ↦ inr (to_numbers (from + 1) count n (elim (cases_lt from n) [ inl lt ↦ omega (arith, lt) | inr ge ↦ absurd (ne (omega (arith, low, ge))) ]) (omega (arith, high)))
+]
+
+-- one of a list owes no more than all
+pub one_of_sum : {X : Type 0} (f : X → ℕ) (xs : List X) (x : X) → Among x xs → f x ≤ sum_by f xs
+one_of_sum f [] x a = absurd a
+one_of_sum f (y ∷ xs) x (inl same) = (let s = sum_by-cons f y xs in let e = ap f same in omega (arith, s, e))
+one_of_sum f (y ∷ xs) x (inr a) = (let s = sum_by-cons f y xs in let more = one_of_sum f xs x a in omega (arith, s, more))
+
+pub each_numbered : (P : Mail → Type 0) (sent : List Mail) (number : ℕ) (mail : Mail) → Each P sent → numbered sent number ≡ Some mail → P mail
+each_numbered P sent zero mail all e = cc
+each_numbered P sent (suc place) mail all e = at sent place all e
+  where
+    at : (sent : List Mail) (place : ℕ) → Each P sent → slice_get sent place ≡ Some mail → P mail
+    at [] place all e = cc
+    at (m ∷ sent) zero all e = (let same : m ≡ mail = cc in subst P same all.0)
+    at (m ∷ sent) (suc place) all e = at sent place all.1 e
+
+module _ (words : ℕ → ℕ → ℕ × ℕ) (scenario : Scenario) (stage : IsStage scenario) where
+  abbrev nseat : ℕ → Seat Player
+  nseat me = node_seat as_nodes scenario.groups scenario.policy me
+
+  abbrev cseat : Asks → Seat Player
+  cseat asks = client_seat (route_of stage.first) asks
+
+  abbrev sys : System Player Mail OrderLine
+  sys = system_of as_nodes words scenario
+
+  -- a node that there is has its seat
+  pub node_born : (me : ℕ) → 1 ≤ me → me ≤ scenario.nodes → Among (nseat me) (births as_nodes scenario)
+  node_born me one most =
+      subst (Among (nseat me)) (sym stage.seats)
+      (among-left (nseat me) (map nseat (numbers_from 1 scenario.nodes)) (map cseat scenario.clients) (to_mapped nseat (numbers_from 1 scenario.nodes) me (to_numbers 1 scenario.nodes me one (omega (arith, most)))))
+
+  pub node_number : (me : ℕ) → 1 ≤ me → me ≤ scenario.nodes → is_node me ≡ true
+  node_number me one most = (let all = stage.nodes in and_from (leb 1 me) (leb me most_nodes) (le-leb 1 me one) (le-leb me most_nodes (omega (arith, most, all))))
+
+  -- .. and a client's number is that of no node
+  pub client_number : (asks : Asks) → Among asks scenario.clients → is_node (client_actor asks.client) ≡ false
+  client_number asks a = (let one = stage.numbered asks a in and_right (leb 1 (client_actor asks.client)) (leb (client_actor asks.client) most_nodes) (lt-leb (client_actor asks.client) most_nodes (omega (arith, one))))
+
+  module _ (rows : Journal) (j : IsPlainJournal words scenario stage rows) where
+    lead_fits : (frame : Frame) → Among frame (frames_of scenario) → (1 ≤ frame.lead) × (frame.lead ≤ scenario.nodes)
+    lead_fits frame a =
+        let is = stage.are frame a in
+        stage.fit frame a (frame.from + slots_ahead) frame.lead (ap (λ ms. is_member ms frame.lead) (is.later (frame.from + slots_ahead) (omega arith)) ∙ is.leads)
+
+    -- a leader has executed no more than is owed
+    pub lead_owes : (frame : Frame) (a : Among frame (frames_of scenario)) → next (j.groups frame a).r ≤ owed sys (owing_of scenario) rows + 1
+    lead_owes frame a =
+        let g = j.groups frame a in
+        let fits = lead_fits frame a in
+        let n = j.nodes frame.lead fits.0 fits.1 in
+        let here : replica_of frame.core.id n.node.replicas ≡ Some g.r = sym (replica_is words scenario rows frame.core.id frame.lead (Node n.node) (node_number frame.lead fits.0 fits.1) n.is) ∙ g.there in
+        let k = of_frame (IsBegun scenario rows) (frames_of scenario) stage.are stage.apart n.node frame g.r n.plain a here in
+        let runs = leading n.node.me g.r frame n.me_is k.1 in
+        let found = find_found (λ (r : ReplicaState). same_draw (name_of r) frame.core.id) n.node.replicas g.r here in
+        let one = one_of_sum replica_owes n.node.replicas g.r found.0 in
+        let all = one_of_sum (λ (seat : Seat Player). player_owes (length (frames_of scenario)) (value player_table seat rows)) (births as_nodes scenario) (nseat frame.lead) (node_born frame.lead fits.0 fits.1) in
+        let is = ap (player_owes (length (frames_of scenario))) n.is in
+        let mine = cond-true g.r.running (next g.r - 1) 0 runs in
+        omega (arith, one, all, is, mine)
+      where
+        leading : (me : ℕ) (r : ReplicaState) (frame : Frame) → me ≡ frame.lead → IsSettled (IsBegun scenario rows) frame me r → r.running ≡ true
+        leading me r frame e (inl l) = l.1.leader.running
+        leading me r frame e (inr f) = absurd (f.0 e)
+
+    -- .. and so no replica is near the last slot
+    pub has_room_at : owed_at_birth sys (owing_of scenario) + 16 ≤ last_slot → (frame : Frame) → Among frame (frames_of scenario) → (me : ℕ) → next_in (replica_at scenario rows frame.core.id me) + slots_ahead ≤ last_slot
+    has_room_at few frame a me =
+        let g = j.groups frame a in
+        let low = g.between.low me in
+        let lead = lead_owes frame a in
+        let most = g.slots.most in
+        let owes = j.owes in
+        let there = ap next_in g.there in
+        omega (arith, few, low, lead, most, owes, there)
+
+    -- ---- what a row leaves as it is
+
+    module _ (row : Row Mail OrderLine) where
+      pub value_others : (seat : Seat Player) → (seat.who ≡ row.who → ⊥) → value player_table seat (rows ++ row ∷ []) ≡ value player_table seat rows
+      value_others seat ne =
+          value-snoc player_table seat rows row
+          ∙ ap (λ b. cond b (acted player_table (value player_table seat rows) (input_of (mails rows) row.event)).0 (value player_table seat rows)) (ne_eqb row.who seat.who (λ e. ne (sym e)))
+
+      pub gone_others : (who : ℕ) → (who ≡ row.who → ⊥) → has_gone (rows ++ row ∷ []) who ≡ has_gone rows who
+      gone_others who ne =
+          list_any-append (λ (r : Row Mail OrderLine). eqb r.who who && is_go r.event) rows (row ∷ [])
+          ∙ (ap (λ b. has_gone rows who || ((b && is_go row.event) || false)) (ne_eqb row.who who (λ e. ne (sym e))) ∙ or-false (has_gone rows who))
+
+      -- a row that is no Go leaves who has gone
+      pub gone_still : (who : ℕ) → is_go row.event ≡ false → has_gone (rows ++ row ∷ []) who ≡ has_gone rows who
+      gone_still who none =
+          list_any-append (λ (r : Row Mail OrderLine). eqb r.who who && is_go r.event) rows (row ∷ [])
+          ∙ (ap (λ b. has_gone rows who || (b || false)) (and_right (eqb row.who who) (is_go row.event) none) ∙ or-false (has_gone rows who))
+
+      pub node_stays : IsMore (IsBegun scenario rows) (IsBegun scenario (rows ++ row ∷ [])) → (me : ℕ) → (me ≡ row.who → ⊥) → IsNodeAt words scenario stage rows me → IsNodeAt words scenario stage (rows ++ row ∷ []) me
+      node_stays more me ne n = record {
+        node = n.node;
+        is = value_others (nseat me) ne ∙ n.is;
+        me_is = n.me_is;
+        plain = node_more (IsBegun scenario rows) (IsBegun scenario (rows ++ row ∷ [])) more (frames_of scenario) n.node n.plain;
+      }
+
+      pub client_stays : (asks : Asks) → (client_actor asks.client ≡ row.who → ⊥) → IsClientAt words scenario stage rows asks → IsClientAt words scenario stage (rows ++ row ∷ []) asks
+      client_stays asks ne c = record {
+        client = c.client;
+        is = value_others (cseat asks) ne ∙ c.is;
+        plain = subst (λ b. IsPlainClient (frames_of scenario) asks b c.client) (sym (gone_others (client_actor asks.client) ne)) c.plain;
+      }
+
+      -- the mail of a row comes behind that of all
+      pub sent_more : IsMore (IsBegun scenario rows) (IsBegun scenario (rows ++ row ∷ [])) → Each (IsPlainMail (IsBegun scenario (rows ++ row ∷ [])) (frames_of scenario)) row.sent → Each (IsPlainMail (IsBegun scenario (rows ++ row ∷ [])) (frames_of scenario)) (mails (rows ++ row ∷ []))
+      sent_more more new =
+          subst (Each (IsPlainMail (IsBegun scenario (rows ++ row ∷ [])) (frames_of scenario))) (sym (mails-snoc rows row))
+          (Each-append (IsPlainMail (IsBegun scenario (rows ++ row ∷ [])) (frames_of scenario)) (mails rows) row.sent
+            (Each-weaker (IsPlainMail (IsBegun scenario rows) (frames_of scenario)) (IsPlainMail (IsBegun scenario (rows ++ row ∷ [])) (frames_of scenario))
+              (mail_more (IsBegun scenario rows) (IsBegun scenario (rows ++ row ∷ [])) more (frames_of scenario)) (mails rows) j.sent) new)
+
+      -- where no client has fewer begun, whatever was begun is begun
+      pub begun_more : ((asks : Asks) → Among asks scenario.clients → begun_of (value player_table (cseat asks) rows) ≤ begun_of (value player_table (cseat asks) (rows ++ row ∷ []))) → IsMore (IsBegun scenario rows) (IsBegun scenario (rows ++ row ∷ []))
+      begun_more grows client seq op b =
+          let first : b.first ≡ stage.first = (let e : b.first ∷ b.others ≡ stage.first ∷ stage.others = sym b.groups_are ∙ stage.groups_are in cc) in
+          let low = b.low in
+          let up = grows b.asks b.is_asks in
+          let was = ap (λ (f : Base). begun_of (value player_table (client_seat (route_of f) b.asks) rows)) first in
+          let now = ap (λ (f : Base). begun_of (value player_table (client_seat (route_of f) b.asks) (rows ++ row ∷ []))) first in
+          record { first = b.first; others = b.others; groups_are = b.groups_are; asks = b.asks; is_asks = b.is_asks; client_is = b.client_is; from_one = b.from_one; op_is = b.op_is; low = omega (arith, low, up, was, now) }
+
+      -- .. as where none of them acts
+      pub begun_still : ((asks : Asks) → Among asks scenario.clients → client_actor asks.client ≡ row.who → ⊥) → IsMore (IsBegun scenario rows) (IsBegun scenario (rows ++ row ∷ []))
+      begun_still away = begun_more (λ asks a. (let same = ap begun_of (value_others (cseat asks) (away asks a)) in omega (arith, same)))

@@ -1,0 +1,82 @@
+-- What one row makes of the marks that are under way, and of the view of a group.
+use Rattle.std.proofs.Common.{◌≡◌, ℕ, ◌+◌, eqb, ◌&&◌, Bool, true, false, true≢false, cond, List, [], ◌∷◌, ◌++◌, map, drop, Option, Some, None, ◌⊎◌, inl, inr, refl, sym, ◌∙◌, ap, subst}
+use Rattle.std.specs.List.{filter}
+use Rattle.std.proofs.lemmas.Bool.{cases_Bool, cond-true, cond-false, ne_eqb, eq-eqb, eqb-true}
+use Rattle.std.proofs.lemmas.List.{map-append, drop-map}
+use Rattle.sc_base.specs.Among.{Among, Each}
+use Rattle.sc_base.specs.declared.names.Draw.{Draw}
+use Rattle.sc_cmd.specs.declared.orders.OrderLine.{OrderLine}
+use Rattle.sc_mail.specs.declared.bodies.Mail.{Mail}
+use Rattle.sc_actor.specs.declared.rows.Row.{Row}
+use Rattle.sc_actor.specs.declared.rows.Event.{Event}
+use Rattle.sc_actor.specs.Mail.{mails, is_delivery}
+use Rattle.sc_actor.specs.Replay.{value, acted, input_of}
+use Rattle.sc_actor.proofs.ReplayLemmas.{value-snoc}
+use Rattle.sc_node_table.specs.Node.{NodeState, replica_of, is_node}
+use Rattle.sc_node_table.specs.Replica.{ReplicaState, next}
+use Rattle.sc_scenario.specs.declared.scenarios.Scenario.{Scenario}
+use Rattle.sc_sound.specs.Players.{Player, player_table, node_seat, system_of, as_nodes}
+use Rattle.sc_orderly_law.specs.Orderly.{rest, mail_for, taken}
+use Rattle.sc_budget_law.specs.Frames.{Frame}
+use Rattle.sc_budget_law.specs.Between.{Mark, Other, mark, View, IsBetween}
+use Rattle.sc_budget_law.specs.BetweenJournal.{marks_for, replicas_of, replica_at, next_in, votes_in, view_at, marks_at}
+use Rattle.sc_budget_law.specs.BetweenRows.{Moves, IsTaken}
+use Rattle.sc_budget_law.proofs.BetweenMoves.{between-row}
+
+-- rows of the system
+abbrev pub Journal : Type 0
+Journal = List (Row Mail OrderLine)
+
+module _ (words : ℕ → ℕ → ℕ × ℕ) (scenario : Scenario) where
+  -- ---- marks
+
+  at_zero : {X : Type 0} (xs : List X) → drop 0 xs ≡ xs
+  at_zero [] = refl
+  at_zero (x ∷ xs) = refl
+
+  module _ (rows : Journal) (row : Row Mail OrderLine) (after : (who : ℕ) → rest (system_of as_nodes words scenario) (rows ++ row ∷ []) who ≡ drop (taken who row) (rest (system_of as_nodes words scenario) rows who) ++ mail_for (system_of as_nodes words scenario) who row.sent) where
+    marks_after : (name : Draw) (who : ℕ) → marks_at words scenario (rows ++ row ∷ []) name who ≡ drop (taken who row) (marks_at words scenario rows name who) ++ marks_for name who row.sent
+    marks_after name who =
+        ap (map (mark name)) (after who)
+        ∙ (map-append (mark name) (drop (taken who row) (rest (system_of as_nodes words scenario) rows who)) (mail_for (system_of as_nodes words scenario) who row.sent)
+        ∙ ap (λ l. l ++ marks_for name who row.sent) (sym (drop-map (mark name) (taken who row) (rest (system_of as_nodes words scenario) rows who))))
+
+    -- the marks of who does not act
+    pub marks_others : (name : Draw) (who : ℕ) → (who ≡ row.who → ⊥) → marks_at words scenario (rows ++ row ∷ []) name who ≡ marks_at words scenario rows name who ++ marks_for name who row.sent
+    marks_others name who ne =
+        marks_after name who
+        ∙ ap (λ l. l ++ marks_for name who row.sent)
+        (ap (λ b. drop (cond (b && is_delivery row.event) 1 0) (marks_at words scenario rows name who)) (ne_eqb row.who who (λ e. ne (sym e))) ∙ at_zero (marks_at words scenario rows name who))
+
+    -- the marks of who acts
+    pub marks_own : (name : Draw) → marks_at words scenario (rows ++ row ∷ []) name row.who ≡ drop (cond (is_delivery row.event) 1 0) (marks_at words scenario rows name row.who) ++ marks_for name row.who row.sent
+    marks_own name =
+        marks_after name row.who
+        ∙ ap (λ b. drop (cond (b && is_delivery row.event) 1 0) (marks_at words scenario rows name row.who) ++ marks_for name row.who row.sent) (eq-eqb row.who row.who refl)
+
+    -- what stands between is kept by a row, by what it does in the group
+    pub between_after : (frame : Frame) (now next : ℕ) (taken_mark : Mark) → IsTaken taken_mark (marks_at words scenario rows frame.core.id row.who) (drop (cond (is_delivery row.event) 1 0) (marks_at words scenario rows frame.core.id row.who))
+        → IsBetween frame (view_at scenario rows frame now) (marks_at words scenario rows frame.core.id)
+        → Moves frame (view_at scenario rows frame now) (view_at scenario (rows ++ row ∷ []) frame next) row.who taken_mark (λ who. marks_for frame.core.id who row.sent)
+        → IsBetween frame (view_at scenario (rows ++ row ∷ []) frame next) (marks_at words scenario (rows ++ row ∷ []) frame.core.id)
+    between_after frame now next taken_mark takes was moves =
+        between-row frame (view_at scenario rows frame now) (view_at scenario (rows ++ row ∷ []) frame next) row.who taken_mark (λ who. marks_for frame.core.id who row.sent) (marks_at words scenario rows frame.core.id) (marks_at words scenario (rows ++ row ∷ []) frame.core.id)
+        (drop (cond (is_delivery row.event) 1 0) (marks_at words scenario rows frame.core.id row.who)) was takes (marks_own frame.core.id) (λ who ne. marks_others frame.core.id who ne) moves
+
+  -- ---- replicas
+
+  -- the replicas of a node that does not act stay
+  pub replica_others : (rows : Journal) (row : Row Mail OrderLine) (name : Draw) (node : ℕ) → (node ≡ row.who → ⊥) → replica_at scenario (rows ++ row ∷ []) name node ≡ replica_at scenario rows name node
+  replica_others rows row name node ne =
+      ap (λ (p : Player). cond (is_node node) (replica_of name (replicas_of p)) None)
+      (value-snoc player_table (node_seat as_nodes scenario.groups scenario.policy node) rows row
+      ∙ ap (λ b. cond b (acted player_table (value player_table (node_seat as_nodes scenario.groups scenario.policy node) rows) (input_of (mails rows) row.event)).0 (value player_table (node_seat as_nodes scenario.groups scenario.policy node) rows)) (ne_eqb row.who node (λ e. ne (sym e))))
+
+  -- who is no node has none
+  pub replica_none : (rows : Journal) (name : Draw) (who : ℕ) → is_node who ≡ false → replica_at scenario rows name who ≡ None
+  replica_none rows name who e = cond-false (is_node who) (replica_of name (replicas_of (value player_table (node_seat as_nodes scenario.groups scenario.policy who) rows))) None e
+
+  -- the replica of a node is that of its value
+  pub replica_is : (rows : Journal) (name : Draw) (node : ℕ) (player : Player) → is_node node ≡ true → value player_table (node_seat as_nodes scenario.groups scenario.policy node) rows ≡ player → replica_at scenario rows name node ≡ replica_of name (replicas_of player)
+  replica_is rows name node player e v =
+      cond-true (is_node node) (replica_of name (replicas_of (value player_table (node_seat as_nodes scenario.groups scenario.policy node) rows))) None e ∙ ap (λ (p : Player). replica_of name (replicas_of p)) v

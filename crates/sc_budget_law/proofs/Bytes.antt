@@ -1,0 +1,138 @@
+-- How many bytes a plain journal counts: few enough, so that it is never full.
+use Rattle.std.proofs.Common.{◌≡◌, ℕ, zero, suc, ◌+◌, ◌-◌, ◌*◌, ◌^◌, ◌≤◌, eqb, Bool, true, false, cond, List, [], ◌∷◌, ◌++◌, length, map, fold, Option, Some, None, ◌⊎◌, inl, inr, refl, sym, ◌∙◌, ap, subst, arith, length-append}
+use Rattle.std.specs.Prelude.{slice_get, find}
+use Rattle.std.specs.List.{sum_by, flat_map, list_any}
+use Rattle.std.specs.Option.{option_map}
+use Rattle.std.proofs.lemmas.Bool.{cond_both, or_left, or_right, eq-eqb}
+use Rattle.std.proofs.lemmas.List.{length-map, length_push}
+use Rattle.std.proofs.lemmas.List.Sums.{sum_by-cons}
+use Rattle.sc_base.specs.Among.{Among, Each}
+use Rattle.sc_base.specs.Limits.{client_actor}
+use Rattle.sc_base.specs.declared.ops.Op.{Op}
+use Rattle.sc_base.specs.declared.ops.Op.TheVariants.{Get, Put, Del, Add, Cas}
+use Rattle.sc_base.proofs.CommonLemmas.{map-some}
+use Rattle.sc_cmd.specs.Weight.{op_weight, value_weight, command_weight}
+use Rattle.sc_cmd.specs.declared.commands.Command.{Command}
+use Rattle.sc_cmd.specs.declared.commands.Command.TheVariants.{Call, Noop, Join, Leave, Split, Begin, Prepared, RecordVote, GiveUp, Finish, Watched, RecordWatch}
+use Rattle.sc_cmd.specs.declared.orders.OrderLine.{OrderLine}
+use Rattle.sc_mail.specs.Weight.{body_weight}
+use Rattle.sc_mail.specs.declared.bodies.AnswerBody.{AnswerBody}
+use Rattle.sc_mail.specs.declared.bodies.AnswerBody.TheVariants.{Value, NotLeader, NotMine, Gone, Stale}
+use Rattle.sc_mail.specs.declared.bodies.Mail.{Mail}
+use Rattle.sc_mail.specs.declared.bodies.MailBody.{MailBody}
+use Rattle.sc_mail.specs.declared.bodies.MailBody.TheVariants.{Request, Answer, Prepare, Promise, Accept, Accepted, Nack, Learn, Ask, Install, TxPrepare, TxVote, TxOutcome, TxElsewhere, TxWatch, TxWatched, Told as ToldMail}
+use Rattle.sc_actor.specs.Counted.{mail_bytes, row_bytes, journal_bytes}
+use Rattle.sc_actor.specs.declared.rows.Row.{Row}
+use Rattle.sc_actor.specs.Mail.{mails}
+use Rattle.sc_scenario.specs.Valid.{IsShortOp, IsBounded, IsBoundedClient}
+use Rattle.sc_scenario.specs.declared.scenarios.Asks.{Asks}
+use Rattle.sc_scenario.specs.declared.scenarios.Scenario.{Scenario}
+use Rattle.sc_paxos_words.proofs.ListLemmas.{Each-among, Each-from_All}
+use Rattle.sc_budget_law.specs.Frames.{Frame}
+use Rattle.sc_budget_law.specs.PlainClient.{IsBegun}
+use Rattle.sc_budget_law.specs.PlainMail.{Requests, written_by, IsWrittenValue, IsPlainAnswer, IsPlainCommand, IsPlainBody, IsPlainMail}
+
+-- ---- what a mail weighs
+
+op_light : (op : Op) → IsShortOp op → op_weight op ≤ 576
+op_light (Get key) s = omega arith
+op_light (Put key value) s = (let a = s.0 in let b = s.1 in omega (arith, a, b))
+op_light (Del key) s = omega arith
+op_light (Add key value) s = (let a = s.0 in let b = s.1 in omega (arith, a, b))
+op_light (Cas key expect value) s = (let a = s.0 in let b = s.1 in let c = s.2 in omega (arith, a, b, c))
+
+some_is : {A : Type 0} {x y : A} → Some x ≡ Some y → x ≡ y
+some_is e = cc
+
+value_light : (op : Op) (value : List ℕ) → IsShortOp op → written_by op ≡ Some value → length value ≤ 256
+value_light (Get key) value s e = cc
+value_light (Put key v) value s e = (let low = s.1 in let same = ap length (some_is e) in omega (arith, low, same))
+value_light (Del key) value s e = cc
+value_light (Add key v) value s e = (let low = s.1 in let same = ap length (some_is e) in omega (arith, low, same))
+value_light (Cas key expect v) value s e = (let low = s.2 in let same = ap length (some_is e) in omega (arith, low, same))
+
+module _ (begun : Requests) (short : (client seq : ℕ) (op : Op) → begun client seq op → IsShortOp op) where
+  command_light : (frame : Frame) (command : Command) → IsPlainCommand begun frame command → command_weight command ≤ 576
+  command_light frame (Call client seq op) p = op_light op (short client seq op p.is_begun)
+  command_light frame Noop p = absurd p
+  command_light frame (Join node order) p = absurd p
+  command_light frame (Leave node order) p = absurd p
+  command_light frame (Split at child order) p = absurd p
+  command_light frame (Begin tx body order) p = absurd p
+  command_light frame (Prepared tx offer) p = absurd p
+  command_light frame (RecordVote tx vote by) p = absurd p
+  command_light frame (GiveUp tx) p = absurd p
+  command_light frame (Finish tx outcome) p = absurd p
+  command_light frame (Watched tx watch) p = absurd p
+  command_light frame (RecordWatch tx vote by) p = absurd p
+
+  reply_light : (o : Option (List ℕ)) → ((value : List ℕ) → o ≡ Some value → IsWrittenValue begun value) → value_weight o ≤ 576
+  reply_light None p = omega arith
+  reply_light (Some value) p = (let w = p value refl in let low = value_light w.op value (short w.client w.seq w.op w.is_begun) w.writes in omega (arith, low))
+
+  body_light : (frame : Frame) (from to : ℕ) (body : MailBody) → IsPlainBody begun frame from to body → body_weight body ≤ 576
+  body_light frame from to (Request group client seq op) b = op_light op (short client seq op b.1.is_begun)
+  body_light frame from to (Answer group seq (Value reply)) b = reply_light reply.old b.1.says
+  body_light frame from to (Answer group seq (NotMine arc succ)) b = omega arith
+  body_light frame from to (Answer group seq (Stale last)) b = omega arith
+  body_light frame from to (Answer group seq (NotLeader hint)) b = omega arith
+  body_light frame from to (Answer group seq (Gone into)) b = omega arith
+  body_light frame from to (Accept group ballot slot command) b = command_light frame command b.2.is_call
+  body_light frame from to (Accepted group ballot slot) b = omega arith
+  body_light frame from to (Learn group slot command) b = command_light frame command b.1.is_call
+  body_light frame from to (Prepare group ballot from_slot) b = absurd b
+  body_light frame from to (Promise group ballot reports) b = absurd b
+  body_light frame from to (Nack group promised) b = absurd b
+  body_light frame from to (Ask group from_slot) b = absurd b
+  body_light frame from to (Install group slot base sets) b = absurd b
+  body_light frame from to (TxPrepare tx offer) b = absurd b
+  body_light frame from to (TxVote tx coord part vote) b = absurd b
+  body_light frame from to (TxOutcome tx part outcome) b = absurd b
+  body_light frame from to (TxElsewhere tx coord hint) b = absurd b
+  body_light frame from to (TxWatch tx watch) b = absurd b
+  body_light frame from to (TxWatched tx coord part vote) b = absurd b
+  body_light frame from to (ToldMail order result) b = absurd b
+
+  -- each plain mail weighs no more than an operation may
+  pub mail_light : (frames : List Frame) (mail : Mail) → IsPlainMail begun frames mail → body_weight mail.body ≤ 576
+  mail_light frames mail m = body_light m.frame mail.from mail.to mail.body m.says
+
+-- ---- what rows count
+
+weigh : Mail → ℕ
+weigh mail = body_weight mail.body
+
+mails_low : (sent : List Mail) → Each (λ mail. body_weight mail.body ≤ 576) sent → sum_by (mail_bytes (λ mail. body_weight mail.body)) sent ≤ 832 * length sent
+mails_low [] e = omega arith
+mails_low (mail ∷ sent) e =
+    let sum = sum_by-cons (mail_bytes (λ m. body_weight m.body)) mail sent in
+    let here = e.0 in
+    let rest = mails_low sent e.1 in
+    omega (arith, sum, here, rest)
+
+each_first : {X : Type 0} (P : X → Type 0) (xs ys : List X) → Each P (xs ++ ys) → Each P xs × Each P ys
+each_first P [] ys e = (tt, e)
+each_first P (x ∷ xs) ys e = (let rest = each_first P xs ys e.1 in ((e.0, rest.0), rest.1))
+
+-- 64 for each row, and 832 at most for each mail
+pub bytes_low : (rows : List (Row Mail OrderLine)) → Each (λ mail. body_weight mail.body ≤ 576) (mails rows) → journal_bytes (λ mail. body_weight mail.body) rows ≤ 64 * length rows + 832 * length (mails rows)
+bytes_low [] e = omega arith
+bytes_low (row ∷ rows) e =
+    let parts = each_first (λ mail. body_weight mail.body ≤ 576) row.sent (mails rows) e in
+    let sum = sum_by-cons (row_bytes (λ mail. body_weight mail.body)) row rows in
+    let here = mails_low row.sent parts.0 in
+    let rest = bytes_low rows parts.1 in
+    let count = length-append row.sent (mails rows) in
+    omega (arith, sum, here, rest, count)
+
+-- ---- the requests of valid scenarios are short
+
+at_among : {X : Type 0} (xs : List X) (k : ℕ) (x : X) → slice_get xs k ≡ Some x → Among x xs
+at_among [] k x e = cc
+at_among (y ∷ xs) zero x e = (let same : y ≡ x = cc in inl same)
+at_among (y ∷ xs) (suc k) x e = inr (at_among xs k x e)
+
+pub begun_short : (scenario : Scenario) (bounded : IsBounded scenario) (rows : List (Row Mail OrderLine)) (client seq : ℕ) (op : Op) → IsBegun scenario rows client seq op → IsShortOp op
+begun_short scenario bounded rows client seq op b =
+    let asks = Each-among IsBoundedClient scenario.clients b.asks (Each-from_All IsBoundedClient scenario.clients bounded.clients) b.is_asks in
+    Each-among IsShortOp b.asks.ops op asks.2 (at_among b.asks.ops (seq - 1) op b.op_is)

@@ -1,0 +1,241 @@
+-- What a replica of a plain group does with each mail, that it stays plain, and that less is owed after it.
+use Rattle.std.proofs.Common.{◌≡◌, ℕ, ◌+◌, ◌≤◌, ◌&&◌, true, false, List, [], ◌∷◌, sum_by, ◌⊎◌, inl, inr, refl, sym, ◌∙◌, ap, subst, arith}
+use Rattle.std.proofs.lemmas.Bool.{cases_Bool, and_left, and_right}
+use Rattle.sc_base.specs.Among.{Each}
+use Rattle.sc_base.specs.Limits.{client_actor}
+use Rattle.sc_base.specs.declared.names.Ballot.{Ballot}
+use Rattle.sc_base.specs.declared.names.Draw.{Draw}
+use Rattle.sc_base.specs.declared.ops.Op.{Op}
+use Rattle.sc_ideal.specs.IdealStore.{key_of, holds_key}
+use Rattle.sc_cmd.specs.declared.commands.Command.{Command}
+use Rattle.sc_cmd.specs.declared.commands.Command.TheVariants.{Call}
+use Rattle.sc_mail.specs.declared.bodies.AnswerBody.TheVariants as Says
+use Rattle.sc_mail.specs.declared.bodies.Mail.{Mail}
+use Rattle.sc_mail.specs.declared.bodies.MailBody.{MailBody}
+use Rattle.sc_mail.specs.declared.bodies.MailBody.TheVariants.{Request, Answer, Prepare, Promise, Accept, Accepted, Nack, Learn, Ask, Install, TxPrepare, TxVote, TxOutcome, TxElsewhere, TxWatch, TxWatched, Told}
+use Rattle.sc_member.specs.Roster.{is_member}
+use Rattle.sc_paxos_words.specs.Ballots.{below}
+use Rattle.sc_paxos_words.proofs.BallotLemmas.{at_least_itself}
+use Rattle.sc_paxos_words.proofs.ListLemmas.{Each-weaker}
+use Rattle.sc_node_table.specs.Births.{mailed_children}
+use Rattle.sc_node_table.specs.Replica.{ReplicaState, Place, next, last_slot}
+use Rattle.sc_node_table.specs.Rows.{mailed}
+use Rattle.sc_node_table.specs.Slots.{slots_ahead}
+use Rattle.sc_budget_law.specs.Frames.{Frame, IsFrame}
+use Rattle.sc_budget_law.specs.Owed.{body_owes, mail_owes, replica_owes}
+use Rattle.sc_budget_law.specs.PlainMail.{Requests, IsPlainCall, IsPlainCommand, IsPlainBody}
+use Rattle.sc_budget_law.specs.PlainNode.{AreTaken, IsPlainLeader, IsPlainFollower, IsPlainReplica, HasOffered, IsLeading, IsSettled}
+use Rattle.sc_budget_law.proofs.Asking.{request_refused, request_run}
+use Rattle.sc_budget_law.proofs.Leading.{IsHeld, IsSaid}
+use Rattle.sc_budget_law.proofs.Pumping.{call_is}
+use Rattle.sc_budget_law.proofs.Running.{IsRun}
+use Rattle.sc_budget_law.proofs.Sends.{mail_of}
+use Rattle.sc_budget_law.proofs.Voting.{accepted_state, accept_is, accepted_plain, accepted_owes, accepted_next, accepted_flights, accepted_held, accepted_slots, accepted_follower, accepted_leader, accepted_done, learnt_state, learn_is, learnt_none, learnt_plain, learnt_follower, learnt_next, follower_owes, IsCounted, accepted_counted, accepted_none}
+
+-- ---- when a mail comes
+
+-- what is asked for is not executed here yet, and what is told is the next entry
+abbrev pub IsDue : ReplicaState → MailBody → Type 0
+IsDue r (Accept group ballot slot command) = next r ≤ slot
+IsDue r (Learn group slot command) = slot ≡ next r
+IsDue r _ = Unit {0}
+
+module _ (begun : Requests) (frame : Frame) (is : IsFrame frame) where
+  -- ---- what is done with it
+
+  -- the client of a request is sent on
+  pub record DidRefuse (r : ReplicaState) (client seq : ℕ) (op : Op) (place : Place) : Type 0 where
+    pub lacks : holds_key frame.core.arc (key_of op) ≡ false
+    pub place_is : place ≡ (r, mail_of frame.lead (client_actor client) (Answer frame.core.id seq (Says.NotMine frame.core.arc frame.core.succ)) ∷ [])
+
+  -- a request waits, and calls are offered
+  pub record DidQueue (r : ReplicaState) (client seq : ℕ) (op : Op) (place : Place) : Type 0 where
+    pub taken : ℕ
+    pub plain : IsPlainReplica begun frame frame.lead r
+    pub leader : IsPlainLeader begun frame taken r
+    pub done : HasOffered taken r
+    pub run : IsRun begun frame is (next r) (next r + taken) r.leader.flights (replica_owes r + 28) (λ c n. IsHeld r c n ⊎ ((c ≡ client) × (n ≤ seq))) place
+
+  -- a vote is counted, and what it decides is executed
+  pub record DidCount (r : ReplicaState) (from slot : ℕ) (place : Place) : Type 0 where
+    pub taken : ℕ
+    pub plain : IsPlainReplica begun frame frame.lead r
+    pub leader : IsPlainLeader begun frame taken r
+    pub done : HasOffered taken r
+    pub room : next r + taken ≤ last_slot
+    pub counted : IsCounted begun frame is taken r plain leader done room from slot place
+
+  -- a command is accepted
+  pub record DidAccept (me from slot : ℕ) (r : ReplicaState) (place : Place) : Type 0 where
+    pub sends : place.1 ≡ mail_of me from (Accepted frame.core.id frame.ballot slot) ∷ []
+    pub next_is : next place.0 ≡ next r
+    pub flights_are : place.0.leader.flights ≡ r.leader.flights
+    pub held : (c n : ℕ) → IsHeld r c n → IsHeld place.0 c n
+    pub slots : (taken : ℕ) → AreTaken r taken → AreTaken place.0 taken
+
+  -- a command is executed by one that does not lead
+  pub record DidLearn (me slot : ℕ) (r : ReplicaState) (place : Place) : Type 0 where
+    pub follows : me ≡ frame.lead → ⊥
+    pub follower : IsPlainFollower r
+    pub sends : place.1 ≡ []
+    pub next_is : next place.0 ≡ next r + 1
+    pub flights_are : place.0.leader.flights ≡ []
+
+  abbrev pub Does : ℕ → ReplicaState → ℕ → MailBody → Place → Type 0
+  Does me r from (Request group client seq op) place = (me ≡ frame.lead) × (DidRefuse r client seq op place ⊎ DidQueue r client seq op place)
+  Does me r from (Accept group ballot slot command) place = DidAccept me from slot r place
+  Does me r from (Accepted group ballot slot) place = (me ≡ frame.lead) × DidCount r from slot place
+  Does me r from (Learn group slot command) place = DidLearn me slot r place
+  Does me r from _ place = ⊥
+
+  -- the replica stays plain, sends plain mail, makes no child, and owes less than before together with the mail
+  pub record ReplicaRow (me : ℕ) (r : ReplicaState) (from : ℕ) (body : MailBody) (place : Place) : Type 0 where
+    pub plain : IsPlainReplica begun frame me place.0
+    pub settled : IsSettled begun frame me place.0
+    pub said : Each (λ mail. IsPlainBody begun frame mail.from mail.to mail.body) place.1
+    pub owed : 1 + (replica_owes place.0 + sum_by mail_owes place.1) ≤ replica_owes r + body_owes body
+    pub does : Does me r from body place
+
+  abbrev Row : ℕ → ReplicaState → ℕ → MailBody → Type 0
+  Row me r from body = ReplicaRow me r from body (mailed from body (r, [])) × (mailed_children from body (r, []) [] ≡ [])
+
+  module _ (r : ReplicaState) (from : ℕ) (room : next r + slots_ahead ≤ last_slot) where
+    -- ---- a request
+
+    said_plain : (first free next_ end : ℕ) (mails : List Mail) → Each (IsSaid begun frame first free next_ end) mails → Each (λ mail. IsPlainBody begun frame mail.from mail.to mail.body) mails
+    said_plain first free next_ end mails e = Each-weaker (IsSaid begun frame first free next_ end) (λ (mail : Mail). IsPlainBody begun frame mail.from mail.to mail.body) (λ mail s. s.plain) mails e
+
+    open_room : (taken : ℕ) → IsPlainLeader begun frame taken r → next r + taken ≤ last_slot
+    open_room taken l = (let most = l.slots.most in omega (arith, most, room))
+
+    request_leading : (group : Draw) (client seq : ℕ) (op : Op) → IsPlainReplica begun frame frame.lead r → IsLeading begun frame r → begun client seq op → Row frame.lead r from (Request group client seq op)
+    unfolding mailed mailed_children
+    request_leading group client seq op p k b =
+        elim (cases_Bool (holds_key frame.core.arc (key_of op))) [
+          | inl h ↦ (
+              let run = request_run begun frame is k.taken r p k.leader k.done (open_room k.taken k.leader) client seq op (record { is_begun = b; held = h }) in
+              let owed = run.leads.owed in (
+                record {
+                  plain = run.leads.plain;
+                  settled = inl (refl, record { taken = run.taken; leader = run.leads.leader; done = run.done });
+                  said = said_plain _ _ _ _ _ run.leads.said;
+                  owed = omega (arith, owed);
+                  does = (refl, inr (record { taken = k.taken; plain = p; leader = k.leader; done = k.done; run = run }));
+                },
+                refl,
+              ))
+          | inr f ↦ (
+              let place_is = request_refused begun frame is k.taken r p k.leader client seq op f in
+              let after : Place = (r, mail_of frame.lead (client_actor client) (Answer frame.core.id seq (Says.NotMine frame.core.arc frame.core.succ)) ∷ []) in (
+                subst (ReplicaRow frame.lead r from (Request group client seq op)) (sym place_is) (record {
+                  plain = p;
+                  settled = inl (refl, k);
+                  said = ((refl, record { client = client; op = op; from_is = refl; to_is = refl; is_begun = b; says = (f, refl, refl) }), tt);
+                  owed = omega arith;
+                  does = (refl, inl (record { lacks = f; place_is = refl }));
+                }),
+                refl,
+              ))
+        ]
+
+    -- ---- a vote
+
+    vote_leading : (group : Draw) (slot : ℕ) → IsPlainReplica begun frame frame.lead r → IsLeading begun frame r → is_member (frame.at slot) from ≡ true → Row frame.lead r from (Accepted group frame.ballot slot)
+    unfolding mailed mailed_children
+    vote_leading group slot p k m =
+        let counted = accepted_counted begun frame is k.taken r p k.leader k.done (open_room k.taken k.leader) from slot m in
+        let run = counted.run in
+        let owed = run.leads.owed in (
+          record {
+            plain = run.leads.plain;
+            settled = inl (refl, record { taken = run.taken; leader = run.leads.leader; done = run.done });
+            said = said_plain _ _ _ _ _ run.leads.said;
+            owed = omega (arith, owed);
+            does = (refl, record { taken = k.taken; plain = p; leader = k.leader; done = k.done; room = open_room k.taken k.leader; counted = counted });
+          },
+          accepted_none begun frame is k.taken r p k.leader k.done (open_room k.taken k.leader) from slot m [],
+        )
+
+    -- ---- an accept
+
+    stays : (me : ℕ) → IsSettled begun frame me r → (r.running && below r.leader.ballot frame.ballot) ≡ false
+    stays me (inl k) = and_right r.running (below r.leader.ballot frame.ballot) (ap (λ (b : Ballot). below b frame.ballot) k.1.leader.ballot_is ∙ at_least_itself frame.ballot)
+    stays me (inr k) = and_left r.running (below r.leader.ballot frame.ballot) k.1.stopped
+
+    settled_still : (me slot : ℕ) (command : Command) (p : IsPlainReplica begun frame me r) → IsSettled begun frame me r → IsSettled begun frame me (accepted_state begun frame is me r p slot command)
+    settled_still me slot command p (inl k) =
+        inl (k.0, record { taken = k.1.taken; leader = accepted_leader begun frame is me r p slot k.1.taken command k.1.leader; done = accepted_done begun frame is me r p slot k.1.taken command k.1.done })
+    settled_still me slot command p (inr k) = inr (k.0, accepted_follower begun frame is me r p slot command k.1)
+
+    accept_any : (me : ℕ) (group : Draw) (slot : ℕ) (command : Command) → IsPlainReplica begun frame me r → IsSettled begun frame me r → from ≡ frame.lead → is_member (frame.at slot) me ≡ true → next r ≤ slot
+        → Row me r from (Accept group frame.ballot slot command)
+    unfolding mailed mailed_children
+    accept_any me group slot command p k f m low =
+        let place_is = accept_is begun frame is me r p from slot command low (stays me k) in
+        let owes = accepted_owes begun frame is me r p slot command in (
+          subst (ReplicaRow me r from (Accept group frame.ballot slot command)) (sym place_is) (record {
+            plain = accepted_plain begun frame is me r p slot command;
+            settled = settled_still me slot command p k;
+            said = ((refl, refl, f, m), tt);
+            owed = omega (arith, owes);
+            does = record { sends = refl; next_is = accepted_next begun frame is me r p slot command; flights_are = accepted_flights begun frame is me r p slot command; held = accepted_held begun frame is me r p slot command; slots = accepted_slots begun frame is me r p slot command };
+          }),
+          refl,
+        )
+
+    -- ---- a decided command
+
+    learn_follower : (me : ℕ) (group : Draw) (slot client seq : ℕ) (op : Op) → IsPlainReplica begun frame me r → IsPlainFollower r → (me ≡ frame.lead → ⊥) → IsPlainCall begun frame client seq op → slot ≡ next r
+        → Row me r from (Learn group slot (Call client seq op))
+    unfolding mailed mailed_children
+    learn_follower me group slot client seq op p f ne c at =
+        let low : next r ≤ last_slot = omega (arith, room) in
+        let place_is = learn_is begun frame is me r p f is.leads client seq op c low from slot at in
+        let after = learnt_follower begun frame is me r p f is.leads client seq op c low in
+        let owes = follower_owes (learnt_state begun frame is me r p f is.leads client seq op c low) after in (
+          subst (ReplicaRow me r from (Learn group slot (Call client seq op))) (sym place_is) (record {
+            plain = learnt_plain begun frame is me r p f is.leads client seq op c low;
+            settled = inr (ne, after);
+            said = tt;
+            owed = omega (arith, owes);
+            does = record { follows = ne; follower = f; sends = refl; next_is = learnt_next begun frame is me r p f is.leads client seq op c low; flights_are = after.flights };
+          }),
+          learnt_none begun frame is me r p f is.leads client seq op c low slot [] at,
+        )
+
+    -- ---- each mail
+
+    leading : (me : ℕ) → me ≡ frame.lead → IsSettled begun frame me r → IsLeading begun frame r
+    leading me e (inl k) = k.1
+    leading me e (inr k) = absurd (k.0 e)
+
+    following : (me : ℕ) → (me ≡ frame.lead → ⊥) → IsSettled begun frame me r → IsPlainFollower r
+    following me ne (inl k) = absurd (ne k.0)
+    following me ne (inr k) = k.1
+
+    pub replica_row : (me : ℕ) (body : MailBody) → IsPlainReplica begun frame me r → IsSettled begun frame me r → IsPlainBody begun frame from me body → IsDue r body → ((client seq : ℕ) (op : Op) → begun client seq op → me ≡ client_actor client → ⊥) → Row me r from body
+    replica_row me (Request group client seq op) p k b due not_client =
+        let e = b.1.to_is in
+        subst (λ m. Row m r from (Request group client seq op)) (sym e) (request_leading group client seq op (subst (λ m. IsPlainReplica begun frame m r) e p) (leading me e k) b.1.is_begun)
+    replica_row me (Accepted group ballot slot) p k b due not_client =
+        let e = b.2 in
+        subst (λ (x : Ballot). Row me r from (Accepted group x slot)) (sym b.1)
+        (subst (λ m. Row m r from (Accepted group frame.ballot slot)) (sym e) (vote_leading group slot (subst (λ m. IsPlainReplica begun frame m r) e p) (leading me e k) b.3))
+    replica_row me (Accept group ballot slot command) p k b due not_client = subst (λ (x : Ballot). Row me r from (Accept group x slot command)) (sym b.1) (accept_any me group slot command p k b.2.from_is b.2.to_in due)
+    replica_row me (Learn group slot command) p k b due not_client =
+        let c = call_is begun frame is 0 0 [] 0 (λ x y. ⊥) command b.1.is_call in
+        let plain : IsPlainCall begun frame c.0 c.1 c.2 = subst (IsPlainCommand begun frame) c.3 b.1.is_call in
+        subst (λ (x : Command). Row me r from (Learn group slot x)) (sym c.3) (learn_follower me group slot c.0 c.1 c.2 p (following me b.1.other k) b.1.other plain due)
+    replica_row me (Answer group seq answer) p k b due not_client = absurd (not_client b.1.client seq b.1.op b.1.is_begun b.1.to_is)
+    replica_row me (Prepare group ballot from_slot) p k b due not_client = absurd b
+    replica_row me (Promise group ballot reports) p k b due not_client = absurd b
+    replica_row me (Nack group promised) p k b due not_client = absurd b
+    replica_row me (Ask group from_slot) p k b due not_client = absurd b
+    replica_row me (Install group slot base sets) p k b due not_client = absurd b
+    replica_row me (TxPrepare tx offer) p k b due not_client = absurd b
+    replica_row me (TxVote tx coord part vote) p k b due not_client = absurd b
+    replica_row me (TxOutcome tx part outcome) p k b due not_client = absurd b
+    replica_row me (TxElsewhere tx coord hint) p k b due not_client = absurd b
+    replica_row me (TxWatch tx watch) p k b due not_client = absurd b
+    replica_row me (TxWatched tx coord part vote) p k b due not_client = absurd b
+    replica_row me (Told order result) p k b due not_client = absurd b

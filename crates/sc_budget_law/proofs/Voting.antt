@@ -1,0 +1,581 @@
+-- Accept, Accepted and Learn at the replicas of a plain group.
+use Rattle.std.proofs.Common.{◌≡◌, ℕ, ◌+◌, ◌-◌, ◌<◌, ◌≤◌, ◌&&◌, ◌||◌, not, eqb, true, false, cond, List, [], ◌∷◌, length, Option, Some, None, ◌⊎◌, inl, inr, refl, sym, ◌∙◌, ap, subst, arith, append-nil}
+use Rattle.std.specs.Prelude.{nat_le, nat_lt, slice_get}
+use Rattle.std.specs.Option.{option_map}
+use Rattle.std.proofs.lemmas.Bool.{cond_both, cond-true, cond-false, cases_lt, cases_eq, eqb-true, eq-eqb, ne_eqb, lt-leb, le-ltb, lt-ltb, and_from, and_left, and_parts, both_ways}
+use Rattle.sc_base.specs.Among.{Among, Each}
+use Rattle.sc_base.specs.Same.{same_ballot}
+use Rattle.sc_base.specs.declared.names.Ballot.{Ballot}
+use Rattle.sc_base.specs.declared.ops.Op.{Op}
+use Rattle.sc_base.proofs.NameLemmas.{ballot_itself}
+use Rattle.sc_cmd.specs.declared.commands.Command.{Command}
+use Rattle.sc_cmd.specs.declared.commands.Command.TheVariants.{Call}
+use Rattle.sc_cmd.specs.declared.cores.Base.{Base}
+use Rattle.sc_cmd.specs.declared.cores.Core.{Core}
+use Rattle.sc_mail.specs.declared.bodies.Mail.{Mail}
+use Rattle.sc_mail.specs.declared.bodies.MailBody.TheVariants.{Accepted}
+use Rattle.sc_member.specs.Majority.{votes_of, is_majority}
+use Rattle.sc_member.specs.Roster.{is_member}
+use Rattle.sc_paxos_words.specs.declared.answers.AcceptAnswer.{AcceptAnswer}
+use Rattle.sc_paxos_words.specs.declared.answers.AcceptAnswer.TheVariants as Asked
+use Rattle.sc_paxos_words.specs.declared.answers.Counted.{Counted}
+use Rattle.sc_paxos_words.specs.declared.answers.Counted.TheVariants.{Chosen, NotYet}
+use Rattle.sc_paxos_words.specs.declared.flights.Flight.{Flight}
+use Rattle.sc_paxos_words.specs.declared.reports.Report.{Report}
+use Rattle.sc_paxos_words.specs.Accepting.{accepted as accepted_by}
+use Rattle.sc_paxos_words.specs.Acceptors.{AcceptorState, may_accept, after_accept}
+use Rattle.sc_paxos_words.specs.Ballots.{below}
+use Rattle.sc_paxos_words.specs.Leaders.{LeaderState, flight_at, without_flight, without_flight_at}
+use Rattle.sc_paxos_words.specs.Votes.{kept_voters, voters_after, with_voters, vote_at}
+use Rattle.sc_paxos_words.proofs.BallotLemmas.{at_least_itself}
+use Rattle.sc_paxos_words.proofs.ListLemmas.{find_found, Each-among}
+use Rattle.sc_machine_table.specs.Machine.{applied}
+use Rattle.sc_node_table.specs.Births.{ready_children, executed_children, learnt_children, readied_children, tallied_children, voted_children, accepted_children}
+use Rattle.sc_node_table.specs.Election.{stopped, saw}
+use Rattle.sc_node_table.specs.Execute.{entered, is_among, executed_one, has_room, executed_ready, all_ready, executed}
+use Rattle.sc_node_table.specs.Install.{install_to}
+use Rattle.sc_node_table.specs.Pump.{pumped_from, pumped}
+use Rattle.sc_node_table.specs.Replica.{ReplicaState, Place, name_of, next, members, set_at, settled, flying, forgotten, last_slot}
+use Rattle.sc_node_table.specs.Rows.{learn_row}
+use Rattle.sc_node_table.specs.Slots.{at_slot, with_slot, without_slot, numbers_from, slots_ahead}
+use Rattle.sc_node_table.specs.Voting.{hinted, accepted_to, took, accept_row, leads, readied, vote_tallied, voted, accepted_row}
+use Rattle.sc_law_lemmas.proofs.Places.{cleared}
+use Rattle.sc_budget_law.specs.Frames.{Frame, IsFrame}
+use Rattle.sc_budget_law.specs.Owed.{replica_owes}
+use Rattle.sc_budget_law.specs.PlainMail.{Requests, IsPlainCommand, IsPlainCall}
+use Rattle.sc_budget_law.specs.PlainNode.{takers, AreTaken, IsPlainFlight, IsPlainLeader, IsPlainFollower, IsPlainReplica, HasOffered}
+use Rattle.sc_budget_law.proofs.Asking.{begins}
+use Rattle.sc_budget_law.proofs.Counts.{found_one, one_if, one_if_most, one_yes, one_no, entries_at, with_length, with_count, with_each, with_among, with_it, with_at, out_length, out_here, out_other, out_each, out_among}
+use Rattle.sc_budget_law.proofs.Entry.{entered_next, entered_plain, learnt_call}
+use Rattle.sc_budget_law.proofs.Flights.{others_out, voted_length, voted_count, voted_each, voted_value, voted_others, voted_here, only_flight, no_flight_at, HasVoted, vote_kept, numbered_get, numbered_past}
+use Rattle.sc_budget_law.proofs.Leading.{in_range, range_before, range_behind, early_taken, flights_at, IsHeld, Leads}
+use Rattle.sc_budget_law.proofs.Pumping.{call_is}
+use Rattle.sc_budget_law.proofs.Running.{IsRun, executed_none, executed_run, some_taken}
+use Rattle.sc_budget_law.proofs.Sends.{mail_of}
+use Rattle.sc_budget_law.proofs.Served.{IsServed, call_plain}
+
+some_is : {A : Type 0} {x y : A} → Some x ≡ Some y → x ≡ y
+some_is e = cc
+
+-- ---- Accept
+
+module _ (begun : Requests) (frame : Frame) (is : IsFrame frame) (me : ℕ) (r : ReplicaState) (p : IsPlainReplica begun frame me r) where
+  -- a ballot that is not above the greatest seen, and that stops no leader
+  saw_same : (mails : List Mail) → (r.running && below r.leader.ballot frame.ballot) ≡ false → saw frame.ballot (r, mails) ≡ (r, mails)
+  unfolding saw
+  saw_same mails stays =
+      let same : below r.top frame.ballot ≡ false = ap (λ (b : Ballot). below b frame.ballot) p.top_is ∙ at_least_itself frame.ballot in
+      let seen : ReplicaState = cond (below r.top frame.ballot) (record r { top = frame.ballot }) r in
+      cond-false (r.running && below r.leader.ballot frame.ballot) (stopped (Some frame.ballot.node) (seen, mails)) (seen, mails) stays
+      ∙ ap (λ (x : ReplicaState). (x, mails)) (cond-false (below r.top frame.ballot) (record r { top = frame.ballot }) r same)
+
+  -- what is accepted, and the vote for it
+  pub accepted_state : ℕ → Command → ReplicaState
+  accepted_state slot command = record r { hint = Some frame.lead; acceptor = after_accept (record { slot = slot; ballot = frame.ballot; value = command }) r.acceptor }
+
+  hinted_is : (slot : ℕ) (command : Command) → hinted frame.ballot (record r { acceptor = after_accept (record { slot = slot; ballot = frame.ballot; value = command }) r.acceptor }) ≡ accepted_state slot command
+  unfolding accepted_state
+  hinted_is slot command =
+      let acceptor : AcceptorState Command = after_accept (record { slot = slot; ballot = frame.ballot; value = command }) r.acceptor in
+      let after : ReplicaState = record r { acceptor = acceptor } in
+      cond_both r.running after (record after { hint = Some frame.ballot.node }) (λ x. x ≡ record r { hint = Some frame.lead; acceptor = acceptor })
+      (λ _. ap (λ hint. record after { hint = hint }) p.hint_is) (λ _. ap (λ node. record after { hint = Some node }) is.own)
+
+  pub accept_is : (from slot : ℕ) (command : Command) → next r ≤ slot → (r.running && below r.leader.ballot frame.ballot) ≡ false
+      → accept_row from frame.ballot slot command (r, []) ≡ (accepted_state slot command, mail_of me from (Accepted frame.core.id frame.ballot slot) ∷ [])
+  unfolding accept_row took
+  accept_is from slot command high stays =
+      let report : Report Command = record { slot = slot; ballot = frame.ballot; value = command } in
+      let low = p.floor_low in
+      let may : may_accept r.acceptor frame.ballot ≡ true = ap (λ (b : Ballot). not (below frame.ballot b)) p.promised_is ∙ ap not (at_least_itself frame.ballot) in
+      ap (took from report) (saw_same [] stays)
+      ∙ cond-false (nat_le slot r.acceptor.floor) (install_to from (r, [])) (accepted_to from frame.ballot slot (accepted_by report r.acceptor) (r, [])) (lt-leb slot r.acceptor.floor (omega (arith, low, high)))
+      ∙ ap (λ (a : AcceptAnswer × AcceptorState Command). accepted_to from frame.ballot slot a (r, [])) (cond-true (may_accept r.acceptor frame.ballot) (Asked.Accepted, after_accept report r.acceptor) (Asked.Ignored r.acceptor.promised, r.acceptor) may)
+      ∙ ap (λ (x : ReplicaState). (x, mail_of r.me from (Accepted (name_of r) frame.ballot slot) ∷ [])) (hinted_is slot command)
+      ∙ ap (λ (core : Core). (accepted_state slot command, mail_of r.me from (Accepted core.id frame.ballot slot) ∷ [])) p.group.core_is
+      ∙ ap (λ who. (accepted_state slot command, mail_of who from (Accepted frame.core.id frame.ballot slot) ∷ [])) p.me_is
+
+  pub accepted_plain : (slot : ℕ) (command : Command) → IsPlainReplica begun frame me (accepted_state slot command)
+  unfolding accepted_state
+  accepted_plain slot command = record {
+    me_is = p.me_is;
+    group = p.group;
+    hint_is = refl;
+    top_is = p.top_is;
+    promised_is = refl;
+    floor_low = p.floor_low;
+    begins = p.begins;
+    sets_are = p.sets_are;
+    acts = p.acts;
+    waits = p.waits;
+  }
+
+  pub accepted_owes : (slot : ℕ) (command : Command) → replica_owes (accepted_state slot command) ≡ replica_owes r
+  unfolding accepted_state
+  accepted_owes slot command = refl
+
+  pub accepted_next : (slot : ℕ) (command : Command) → next (accepted_state slot command) ≡ next r
+  unfolding accepted_state
+  accepted_next slot command = refl
+
+  pub accepted_flights : (slot : ℕ) (command : Command) → (accepted_state slot command).leader.flights ≡ r.leader.flights
+  unfolding accepted_state
+  accepted_flights slot command = refl
+
+  pub accepted_held : (slot : ℕ) (command : Command) (c n : ℕ) → IsHeld r c n → IsHeld (accepted_state slot command) c n
+  unfolding accepted_state
+  accepted_held slot command c n h = record { number = h.number; op = h.op; later = h.later; where_ = h.where_ }
+
+  pub accepted_slots : (slot : ℕ) (command : Command) (taken : ℕ) → AreTaken r taken → AreTaken (accepted_state slot command) taken
+  unfolding accepted_state
+  accepted_slots slot command taken a = record { most = a.most; once = a.once }
+
+  pub accepted_follower : (slot : ℕ) (command : Command) → IsPlainFollower r → IsPlainFollower (accepted_state slot command)
+  unfolding accepted_state
+  accepted_follower slot command f = record { stopped = f.stopped; calls = f.calls; flights = f.flights; ready = f.ready }
+
+  pub accepted_leader : (slot taken : ℕ) (command : Command) → IsPlainLeader begun frame taken r → IsPlainLeader begun frame taken (accepted_state slot command)
+  unfolding accepted_state
+  accepted_leader slot taken command l = record {
+    running = l.running;
+    ballot_is = l.ballot_is;
+    may = λ s. ap (λ (b : Ballot). not (below r.leader.ballot b) && (r.leader.is_first || is_majority (frame.at s) r.leader.promisers)) (sym p.promised_is) ∙ l.may s;
+    open_ = l.open_;
+    calls = l.calls;
+    flights = l.flights;
+    ready = l.ready;
+    slots = record { most = l.slots.most; once = l.slots.once };
+  }
+
+  pub accepted_done : (slot taken : ℕ) (command : Command) → HasOffered taken r → HasOffered taken (accepted_state slot command)
+  unfolding accepted_state
+  accepted_done slot taken command d = record { executed = d.executed; offered = d.offered }
+
+  -- ---- Learn
+
+  module _ (f : IsPlainFollower r) (member : is_member frame.core.members frame.lead ≡ true) (client seq : ℕ) (op : Op) (call : IsPlainCall begun frame client seq op) (room : next r ≤ last_slot) where
+    serves : IsServed begun frame client seq op (applied r.group (Call client seq op))
+    serves = call_plain begun frame is client seq op r.group call p.group
+
+    pub learnt_state : ReplicaState
+    learnt_state = (cleared (next r) (entered (Call client seq op) r, [])).0
+
+    core_after : (entered (Call client seq op) r).group.core ≡ frame.core
+    unfolding entered forgotten
+    core_after = serves.group.core_is
+
+    stopped_after : (entered (Call client seq op) r).running ≡ false
+    unfolding entered forgotten
+    stopped_after = f.stopped
+
+    knows_after : is_among (members (entered (Call client seq op) r)) (entered (Call client seq op) r).hint ≡ true
+    unfolding entered forgotten
+    knows_after = ap (is_among (members (entered (Call client seq op) r))) p.hint_is ∙ ap (λ (core : Core). is_member core.members frame.lead) core_after ∙ member
+
+    flies_none : flying (entered (Call client seq op) r) (next r) ≡ None
+    unfolding entered forgotten
+    flies_none = ap (λ (fs : List (Flight Command)). option_map (λ (flight : Flight Command). flight.value) (flight_at (next r) fs)) f.flights
+
+    ready_none : learnt_state.ready ≡ []
+    unfolding learnt_state entered forgotten
+    ready_none = ap (λ (es : List (ℕ × Command)). without_slot es (next r)) f.ready
+
+    settled_not : settled learnt_state ≡ false
+    unfolding learnt_state entered forgotten
+    settled_not = and_left r.running _ f.stopped
+
+    one_is : executed_one false (Call client seq op) (r, []) ≡ (learnt_state, [])
+    unfolding learnt_state
+    one_is = learnt_call client seq op r [] (ap (λ (core : Core). core.members) (core_after ∙ sym p.group.core_is)) stopped_after (ap (λ (core : Core). core.gone) core_after ∙ is.stands) knows_after flies_none
+
+    rest_is : pumped (all_ready (learnt_state, [])) ≡ (learnt_state, [])
+    unfolding executed_ready pumped
+    rest_is =
+        ap (λ (es : List (ℕ × Command)). pumped (executed_ready es (learnt_state, []))) ready_none
+        ∙ cond-false (settled learnt_state && nat_le (next learnt_state) last_slot) (pumped_from (next learnt_state) learnt_state.sets (learnt_state, [])) (learnt_state, []) (and_left (settled learnt_state) _ settled_not)
+
+    pub learn_is : (from slot : ℕ) → slot ≡ next r → learn_row from slot (Call client seq op) (r, []) ≡ (learnt_state, [])
+    unfolding learn_row executed
+    learn_is from slot e =
+        cond-false (nat_lt last_slot slot) (r, []) _ (le-ltb last_slot slot (omega (arith, e, room)))
+        ∙ cond-true (eqb slot (next r)) (executed false (Call client seq op) (r, [])) _ (eq-eqb slot (next r) e)
+        ∙ ap (λ (q : Place). pumped (all_ready q)) one_is
+        ∙ rest_is
+
+    -- it makes no child
+    pub learnt_none : (slot : ℕ) (made : List Base) → slot ≡ next r → learnt_children slot (Call client seq op) (r, []) made ≡ made
+    unfolding learnt_children executed_children ready_children
+    learnt_none slot made e =
+        cond-false (nat_lt last_slot slot) made _ (le-ltb last_slot slot (omega (arith, e, room)))
+        ∙ cond-true (eqb slot (next r)) (executed_children false (Call client seq op) (r, []) made) made (eq-eqb slot (next r) e)
+        ∙ ap (λ (q : Place). ready_children q.0.ready q made) one_is
+        ∙ ap (λ (es : List (ℕ × Command)). ready_children es (learnt_state, []) made) ready_none
+
+    pub learnt_plain : IsPlainReplica begun frame me learnt_state
+    unfolding learnt_state entered forgotten
+    learnt_plain = (let q = entered_plain begun frame is me (Call client seq op) r serves.group p in record {
+      me_is = q.me_is;
+      group = q.group;
+      hint_is = q.hint_is;
+      top_is = q.top_is;
+      promised_is = q.promised_is;
+      floor_low = q.floor_low;
+      begins = q.begins;
+      sets_are = q.sets_are;
+      acts = q.acts;
+      waits = q.waits;
+    })
+
+    pub learnt_follower : IsPlainFollower learnt_state
+    unfolding learnt_state entered forgotten
+    learnt_follower = record { stopped = f.stopped; calls = f.calls; flights = ap (without_flight (next r)) f.flights; ready = ap (λ (es : List (ℕ × Command)). without_slot es (next r)) f.ready }
+
+    pub learnt_next : next learnt_state ≡ next r + 1
+    unfolding learnt_state
+    learnt_next = entered_next (Call client seq op) r
+
+-- one that does not lead owes nothing
+pub follower_owes : (r : ReplicaState) → IsPlainFollower r → replica_owes r ≡ 0
+follower_owes r f =
+    let calls = ap length f.calls in
+    let flights = ap length f.flights in
+    let ready = ap length f.ready in
+    let runs = cond-false r.running (next r - 1) 0 f.stopped in
+    omega (arith, calls, flights, ready, runs)
+
+-- ---- Accepted
+
+-- the vote of a node at a slot is counted
+pub record IsVoted (from slot : ℕ) (before after : List (Flight Command)) : Type 0 where
+  pub others : (other : ℕ) → (other ≡ slot → ⊥) → flight_at other after ≡ flight_at other before
+  pub here : (flight : Flight Command) → flight_at slot after ≡ Some flight
+      → (was : Flight Command) × (flight_at slot before ≡ Some was) × ((who : ℕ) → is_member (kept_voters was.voters) who ≡ true → is_member (kept_voters flight.voters) who ≡ true) × (is_member (kept_voters flight.voters) from ≡ true)
+
+module _ (begun : Requests) (frame : Frame) (is : IsFrame frame) (taken : ℕ) (r : ReplicaState) (p : IsPlainReplica begun frame frame.lead r) (l : IsPlainLeader begun frame taken r) (d : HasOffered taken r) (room : next r + taken ≤ last_slot) where
+  abbrev pub Keeps : ℕ → ℕ → Type 0
+  Keeps c n = IsHeld r c n
+
+  -- what the row leaves, which makes no child
+  pub record IsCounted (from slot : ℕ) (place : Place) : Type 0 where
+    pub held : List (Flight Command)
+    pub votes : IsVoted from slot r.leader.flights held
+    pub run : IsRun begun frame is (next r) (next r + taken) held (replica_owes r) Keeps place
+
+  abbrev changed : List (Flight Command) → List (ℕ × Command) → ReplicaState
+  changed fs es = record r { leader = record r.leader { flights = fs }; ready = es }
+
+  -- other flights, and other commands that are ready, at the same slots
+  changed_leads : (fs : List (Flight Command)) (es : List (ℕ × Command)) → Each (IsPlainFlight begun frame) fs → Each (λ (e : ℕ × Command). IsPlainCommand begun frame e.1) es
+      → ((s : ℕ) → flights_at s fs + entries_at s es ≡ takers r s) → length fs + length es ≤ length r.leader.flights + length r.ready → ((c n : ℕ) → Keeps c n → IsHeld (changed fs es) c n)
+      → Leads begun frame (next r) (next r + taken) fs (replica_owes r) Keeps taken (changed fs es, [])
+  changed_leads fs es fe ee same few holds =
+      let none : 0 ≡ next r - next r = omega arith in
+      record {
+        plain = record {
+          me_is = p.me_is;
+          group = p.group;
+          hint_is = p.hint_is;
+          top_is = p.top_is;
+          promised_is = p.promised_is;
+          floor_low = p.floor_low;
+          begins = p.begins;
+          sets_are = p.sets_are;
+          acts = p.acts;
+          waits = p.waits;
+        };
+        leader = record {
+          running = l.running;
+          ballot_is = l.ballot_is;
+          may = l.may;
+          open_ = l.open_;
+          calls = l.calls;
+          flights = fe;
+          ready = ee;
+          slots = record { most = l.slots.most; once = λ s. same s ∙ l.slots.once s };
+        };
+        low = omega arith;
+        reached = omega arith;
+        more = omega arith;
+        begins = [];
+        flights_are = sym (append-nil fs);
+        new = tt;
+        early = early_taken (changed fs es) taken (record { most = l.slots.most; once = λ s. same s ∙ l.slots.once s });
+        said = tt;
+        learns = λ who m ne. ap (numbers_from (next r)) none;
+        offers = λ slot who least high a. absurd (omega (arith, least, high));
+        owed = omega (arith, few);
+        calls = λ c n w. inl (holds c n w);
+      }
+
+  -- nothing changes
+  same_counted : (from slot : ℕ) → ((f : Flight Command) → flight_at slot r.leader.flights ≡ Some f → ⊥) → IsCounted from slot (r, [])
+  same_counted from slot none = record {
+    held = r.leader.flights;
+    votes = record { others = λ other ne. refl; here = λ flight e. absurd (none flight e) };
+    run = record { taken = taken; leads = begins begun frame is taken r p l (replica_owes r) Keeps (omega arith) (λ c n h. h); done = d };
+  }
+
+  -- a slot that is not open has no flight
+  closed : (slot : ℕ) → (slot < next r) ⊎ (next r + slots_ahead ≤ slot) → (f : Flight Command) → flight_at slot r.leader.flights ≡ Some f → ⊥
+  closed slot out f e =
+      let once = l.slots.once slot in
+      let most = l.slots.most in
+      let none : one_if (in_range (next r) taken slot) ≡ 0 = elim out [
+        | inl low ↦ one_no (in_range (next r) taken slot) (range_before (next r) taken slot low)
+        | inr high ↦ one_no (in_range (next r) taken slot) (range_behind (next r) taken slot (omega (arith, high, most)))
+      ] in
+      no_flight_at slot r.leader.flights f (omega (arith, once, none)) e
+
+  module _ (from slot : ℕ) (member : is_member (frame.at slot) from ≡ true) where
+    abbrev R : Place → Type 0
+    R place = IsCounted from slot place
+
+    module _ (flight : Flight Command) (e : flight_at slot r.leader.flights ≡ Some flight) where
+      found : Among flight r.leader.flights × (eqb flight.slot slot ≡ true)
+      found = find_found (λ (f : Flight Command). eqb f.slot slot) r.leader.flights flight e
+
+      at : flight.slot ≡ slot
+      at = eqb-true flight.slot slot found.1
+
+      flies : IsPlainFlight begun frame flight
+      flies = Each-among (IsPlainFlight begun frame) r.leader.flights flight l.flights found.0
+
+      one_flight : flights_at slot r.leader.flights ≡ 1
+      one_flight =
+          let once = l.slots.once slot in
+          let some = found_one (λ (f : Flight Command). eqb f.slot slot) r.leader.flights flight e in
+          let most = one_if_most (in_range (next r) taken slot) in
+          omega (arith, once, some, most)
+
+      no_entry : entries_at slot r.ready ≡ 0
+      no_entry =
+          let once = l.slots.once slot in
+          let one = one_flight in
+          let most = one_if_most (in_range (next r) taken slot) in
+          omega (arith, once, one, most)
+
+      voters : Option (List ℕ)
+      voters = voters_after (frame.at slot) from flight.voters
+
+      has_voted : HasVoted (frame.at slot) from flight.voters voters
+      unfolding voters
+      has_voted =
+          let same : frame.at flight.slot ≡ frame.at slot = ap frame.at at in
+          vote_kept (frame.at slot) from flight.voters (is.rosters slot) member (subst (λ (ms : List ℕ). length (kept_voters flight.voters) ≤ votes_of ms (kept_voters flight.voters)) same flies.voters_are)
+          (ap (λ (ms : List ℕ). is_majority ms (kept_voters flight.voters)) (sym same) ∙ flies.undecided)
+
+      -- the vote decides nothing yet
+      not_yet : is_majority (frame.at slot) (kept_voters voters) ≡ false → R (changed (with_voters slot voters r.leader.flights) r.ready, [])
+      not_yet undecided = record {
+        held = with_voters slot voters r.leader.flights;
+        votes = record {
+          others = λ other ne. voted_others slot voters other r.leader.flights ne;
+          here = λ g k. (
+              let same : record flight { voters = voters } ≡ g = some_is (sym (voted_here slot voters r.leader.flights flight e) ∙ k) in
+              subst (λ (x : Flight Command). (was : Flight Command) × (flight_at slot r.leader.flights ≡ Some was) × ((who : ℕ) → is_member (kept_voters was.voters) who ≡ true → is_member (kept_voters x.voters) who ≡ true) × (is_member (kept_voters x.voters) from ≡ true))
+              same (flight, e, has_voted.kept, has_voted.own));
+        };
+        run = record {
+          taken = taken;
+          leads = changed_leads (with_voters slot voters r.leader.flights) r.ready
+              (voted_each slot voters (IsPlainFlight begun frame) r.leader.flights l.flights (λ g k q. record {
+                is_call = q.is_call;
+                voters_are = (let same : flight ≡ g = some_is (sym e ∙ k) in
+                    let here : g.slot ≡ slot = ap (λ (x : Flight Command). x.slot) (sym same) ∙ at in
+                    subst (λ s. length (kept_voters voters) ≤ votes_of (frame.at s) (kept_voters voters)) (sym here) has_voted.members_still);
+                undecided = (let same : flight ≡ g = some_is (sym e ∙ k) in
+                    let here : g.slot ≡ slot = ap (λ (x : Flight Command). x.slot) (sym same) ∙ at in ap (λ s. is_majority (frame.at s) (kept_voters voters)) here ∙ undecided);
+              }))
+              l.ready (λ s. (let c = voted_count slot voters s r.leader.flights in omega (arith, c))) (let long = voted_length slot voters r.leader.flights in omega (arith, long))
+              (λ c n h. record {
+                number = h.number;
+                op = h.op;
+                later = h.later;
+                where_ = elim (h.where_) [
+                  | inl a ↦ inl a
+                  | inr o ↦ elim o [
+                    | inl f ↦ (let g = voted_value slot voters r.leader.flights f.0 f.1 in inr (inl (g.0, g.1, g.2 ∙ f.2)))
+                    | inr entry ↦ inr (inr entry)
+                  ]
+                ];
+              });
+          done = record { executed = d.executed; offered = d.offered };
+        };
+      }
+
+      -- the vote decides
+      fs : List (Flight Command)
+      fs = without_flight slot r.leader.flights
+
+      es : List (ℕ × Command)
+      es = with_slot r.ready slot flight.value
+
+      ready_leads : Leads begun frame (next r) (next r + taken) fs (replica_owes r) Keeps taken (changed fs es, [])
+      unfolding fs es
+      ready_leads =
+          let one = one_flight in
+          let none = no_entry in
+          let shorter = out_length (λ (f : Flight Command). f.slot) (λ s xs. without_flight s xs) (λ s. refl) (λ s x xs. refl) slot r.leader.flights (omega (arith, one)) in
+          let longer = with_length slot flight.value r.ready no_entry in
+          changed_leads (without_flight slot r.leader.flights) (with_slot r.ready slot flight.value)
+          (out_each (λ (f : Flight Command). f.slot) (λ s xs. without_flight s xs) (λ s. refl) (λ s x xs. refl) (IsPlainFlight begun frame) slot r.leader.flights l.flights)
+          (with_each slot flight.value (λ (x : ℕ × Command). IsPlainCommand begun frame x.1) r.ready flies.is_call l.ready)
+          (λ s. elim (cases_eq slot s) [
+            | inl here ↦ (
+                let out = out_here (λ (f : Flight Command). f.slot) (λ m xs. without_flight m xs) (λ m. refl) (λ m x xs. refl) slot r.leader.flights (omega (arith, one)) in
+                let more = with_count slot flight.value r.ready slot no_entry in
+                let yes_ = one_yes (eqb slot slot) (eq-eqb slot slot refl) in
+                let at_slot_ : flights_at slot (without_flight slot r.leader.flights) + entries_at slot (with_slot r.ready slot flight.value) ≡ takers r slot = omega (arith, out, more, yes_) in
+                subst (λ m. flights_at m (without_flight slot r.leader.flights) + entries_at m (with_slot r.ready slot flight.value) ≡ takers r m) here at_slot_)
+            | inr past ↦ (
+                let out = out_other (λ (f : Flight Command). f.slot) (λ m xs. without_flight m xs) (λ m. refl) (λ m x xs. refl) slot s r.leader.flights past in
+                let more = with_count slot flight.value r.ready s no_entry in
+                let no_ = one_no (eqb slot s) (ne_eqb slot s past) in
+                omega (arith, out, more, no_))
+          ])
+          (omega (arith, shorter, longer))
+          (λ c n h. record {
+            number = h.number;
+            op = h.op;
+            later = h.later;
+            where_ = elim (h.where_) [
+              | inl a ↦ inl a
+              | inr o ↦ elim o [
+                | inl f ↦ elim (cases_eq f.0.slot slot) [
+                  | inl here ↦ (
+                      let same : flight ≡ f.0 = only_flight slot r.leader.flights flight f.0 one_flight e f.1 here in
+                      let what : flight.value ≡ Call c h.number h.op = ap (λ (x : Flight Command). x.value) same ∙ f.2 in
+                      inr (inr (slot, subst (λ (x : Command). Among (slot, x) (with_slot r.ready slot flight.value)) what (with_it slot flight.value r.ready))))
+                  | inr past ↦ inr (inl (f.0, out_among (λ (x : Flight Command). x.slot) (λ m xs. without_flight m xs) (λ m. refl) (λ m x xs. refl) slot r.leader.flights f.0 f.1 past, f.2))
+                ]
+                | inr entry ↦ inr (inr (entry.0, with_among slot flight.value r.ready (entry.0, Call c h.number h.op) no_entry entry.1))
+              ]
+            ];
+          })
+
+      flies_no_more : (g : Flight Command) → flight_at slot fs ≡ Some g → ⊥
+      unfolding fs
+      flies_no_more g k =
+          let one = one_flight in
+          let out = out_here (λ (f : Flight Command). f.slot) (λ m xs. without_flight m xs) (λ m. refl) (λ m x xs. refl) slot r.leader.flights (omega (arith, one)) in
+          no_flight_at slot (without_flight slot r.leader.flights) g (omega (arith, one, out)) k
+
+      decided_by : (place : Place) → IsRun begun frame is (next r) (next r + taken) fs (replica_owes r) Keeps place → R place
+      unfolding fs
+      decided_by place run = record {
+        held = without_flight slot r.leader.flights;
+        votes = record { others = λ other ne. others_out slot other r.leader.flights ne; here = λ g k. absurd (flies_no_more g k) };
+        run = run;
+      }
+
+      chosen : R (readied slot flight.value (changed fs r.ready, []))
+      unfolding readied es
+      chosen =
+          let after : ReplicaState = changed fs es in
+          let sets = ap length p.sets_are in
+          cond_both (eqb slot (next r) && has_room after) (executed true flight.value (after, [])) (after, []) R
+          (λ t. (
+          let here = eqb-true slot (next r) (and_parts (eqb slot (next r)) (has_room after) t).0 in
+          let c = call_is begun frame is (next r) (next r + taken) fs (replica_owes r) Keeps flight.value flies.is_call in
+          let ready : at_slot es (next r) ≡ Some flight.value = ap (at_slot es) (sym here) ∙ with_at slot flight.value r.ready in
+          let less = some_taken begun frame is (next r) (next r + taken) fs (replica_owes r) Keeps taken after [] flight.value ready ready_leads in
+          let now = subst (λ t_. Leads begun frame (next r) (next r + taken) fs (replica_owes r) Keeps t_ (after, [])) less.1 ready_leads in
+          let up : next r + (less.0 + 1) ≡ next r + taken = ap (λ t_. next r + t_) (sym less.1) in
+          decided_by (executed true flight.value (after, []))
+          (subst (λ (x : Command). IsRun begun frame is (next r) (next r + taken) fs (replica_owes r) Keeps (executed true x (after, []))) (sym c.3)
+          (executed_run begun frame is (next r) (next r + taken) fs (replica_owes r) Keeps room less.0 after [] c.0 c.1 c.2 up (ready ∙ ap Some c.3) now))))
+          (λ n. (
+          let past : slot ≡ next r → ⊥ = λ here. both_ways (eqb slot (next r) && has_room after) n
+          (and_from (eqb slot (next r)) (has_room after) (eq-eqb slot (next r) here) (lt-ltb (next r) (last_slot + length r.sets) (omega (arith, room, sets)))) in
+          let was = d.executed in
+          let more = with_count slot flight.value r.ready (next r) no_entry in
+          let no_ = one_no (eqb slot (next r)) (ne_eqb slot (next r) past) in
+          decided_by (after, []) (record { taken = taken; leads = ready_leads; done = record { executed = omega (arith, was, more, no_); offered = d.offered } })))
+
+      -- .. and makes no child
+      chosen_none : (made : List Base) → readied_children slot flight.value (changed fs r.ready, []) made ≡ made
+      unfolding readied_children es
+      chosen_none made =
+          let after : ReplicaState = changed fs es in
+          cond_both (eqb slot (next r) && has_room after) (executed_children true flight.value (after, []) made) made (λ (l_ : List Base). l_ ≡ made)
+          (λ t. (
+          let here = eqb-true slot (next r) (and_parts (eqb slot (next r)) (has_room after) t).0 in
+          let c = call_is begun frame is (next r) (next r + taken) fs (replica_owes r) Keeps flight.value flies.is_call in
+          let ready : at_slot es (next r) ≡ Some flight.value = ap (at_slot es) (sym here) ∙ with_at slot flight.value r.ready in
+          let less = some_taken begun frame is (next r) (next r + taken) fs (replica_owes r) Keeps taken after [] flight.value ready ready_leads in
+          let now = subst (λ t_. Leads begun frame (next r) (next r + taken) fs (replica_owes r) Keeps t_ (after, [])) less.1 ready_leads in
+          let up : next r + (less.0 + 1) ≡ next r + taken = ap (λ t_. next r + t_) (sym less.1) in
+          subst (λ (x : Command). executed_children true x (after, []) made ≡ made) (sym c.3)
+          (executed_none begun frame is (next r) (next r + taken) fs (replica_owes r) Keeps room less.0 after [] c.0 c.1 c.2 made up (ready ∙ ap Some c.3) now)))
+          (λ n. refl)
+
+    vote_none : (o : Option (Flight Command)) (made : List Base) → flight_at slot r.leader.flights ≡ o → tallied_children slot (vote_at from slot (frame.at slot) o r.leader) (r, []) made ≡ made
+    unfolding fs
+    vote_none None made e = refl
+    vote_none (Some flight) made e =
+        let set : List ℕ = frame.at slot in
+        let v : Option (List ℕ) = voters_after set from flight.voters in
+        cond_both (is_majority set (kept_voters v)) (Chosen flight.value, without_flight_at slot r.leader) (NotYet (length (kept_voters v)), record r.leader { flights = with_voters slot v r.leader.flights })
+        (λ (x : Counted Command × LeaderState Command). tallied_children slot x (r, []) made ≡ made) (λ t. chosen_none flight e made) (λ f. refl)
+
+    vote_run : (o : Option (Flight Command)) → flight_at slot r.leader.flights ≡ o → R (vote_tallied slot (vote_at from slot (frame.at slot) o r.leader) (r, []))
+    unfolding voters fs
+    vote_run None e = same_counted from slot (λ f k. (let no_ : None ≡ Some f = sym e ∙ k in cc))
+    vote_run (Some flight) e =
+        let set : List ℕ = frame.at slot in
+        let v : Option (List ℕ) = voters_after set from flight.voters in
+        cond_both (is_majority set (kept_voters v)) (Chosen flight.value, without_flight_at slot r.leader) (NotYet (length (kept_voters v)), record r.leader { flights = with_voters slot v r.leader.flights })
+        (λ (x : Counted Command × LeaderState Command). R (vote_tallied slot x (r, []))) (λ t. chosen flight e) (λ f. not_yet flight e f)
+
+    voted_open : next r ≤ slot → slot < next r + slots_ahead → set_at slot r ≡ Some (frame.at slot)
+    voted_open low high =
+        let k : next r + (slot - next r) ≡ slot = omega (arith, low) in
+        cond-false (nat_lt slot (next r)) None (slice_get r.sets (slot - next r)) (le-ltb slot (next r) low)
+        ∙ ap (λ (l_ : List (List ℕ)). slice_get l_ (slot - next r)) p.sets_are ∙ numbered_get frame.at slots_ahead (next r) (slot - next r) (omega (arith, low, high)) ∙ ap (λ s. Some (frame.at s)) k
+
+    voted_closed : (slot < next r) ⊎ (next r + slots_ahead ≤ slot) → set_at slot r ≡ None
+    voted_closed (inl low) = cond-true (nat_lt slot (next r)) None (slice_get r.sets (slot - next r)) (lt-ltb slot (next r) low)
+    voted_closed (inr high) =
+        cond-false (nat_lt slot (next r)) None (slice_get r.sets (slot - next r)) (le-ltb slot (next r) (omega (arith, high)))
+        ∙ ap (λ (l_ : List (List ℕ)). slice_get l_ (slot - next r)) p.sets_are ∙ numbered_past frame.at slots_ahead (next r) (slot - next r) (omega (arith, high))
+
+    ballots : same_ballot frame.ballot r.leader.ballot ≡ true
+    ballots = ap (same_ballot frame.ballot) l.ballot_is ∙ ballot_itself frame.ballot
+
+    -- a vote at a slot that is not open counts for nothing
+    counted_out : (slot < next r) ⊎ (next r + slots_ahead ≤ slot) → R (voted from frame.ballot slot (set_at slot r) (r, []))
+    counted_out out = subst (λ (o : Option (List ℕ)). R (voted from frame.ballot slot o (r, []))) (sym (voted_closed out)) (same_counted from slot (closed slot out))
+
+    counted_in : next r ≤ slot → slot < next r + slots_ahead → R (voted from frame.ballot slot (set_at slot r) (r, []))
+    counted_in low high =
+        subst (λ (o : Option (List ℕ)). R (voted from frame.ballot slot o (r, []))) (sym (voted_open low high))
+        (subst (λ (x : Counted Command × LeaderState Command). R (vote_tallied slot x (r, [])))
+        (sym (cond-true (same_ballot frame.ballot r.leader.ballot) (vote_at from slot (frame.at slot) (flight_at slot r.leader.flights) r.leader) (NotYet 0, r.leader) ballots))
+        (vote_run (flight_at slot r.leader.flights) refl))
+
+    none_out : (made : List Base) → (slot < next r) ⊎ (next r + slots_ahead ≤ slot) → voted_children from frame.ballot slot (set_at slot r) (r, []) made ≡ made
+    none_out made out = ap (λ (o : Option (List ℕ)). voted_children from frame.ballot slot o (r, []) made) (voted_closed out)
+
+    none_in : (made : List Base) → next r ≤ slot → slot < next r + slots_ahead → voted_children from frame.ballot slot (set_at slot r) (r, []) made ≡ made
+    none_in made low high =
+        ap (λ (o : Option (List ℕ)). voted_children from frame.ballot slot o (r, []) made) (voted_open low high)
+        ∙ ap (λ (x : Counted Command × LeaderState Command). tallied_children slot x (r, []) made) (cond-true (same_ballot frame.ballot r.leader.ballot) (vote_at from slot (frame.at slot) (flight_at slot r.leader.flights) r.leader) (NotYet 0, r.leader) ballots)
+        ∙ vote_none (flight_at slot r.leader.flights) made refl
+
+    pub accepted_none : (made : List Base) → accepted_children from frame.ballot slot (r, []) made ≡ made
+    unfolding accepted_children
+    accepted_none made =
+        cond-true (leads frame.ballot r) (voted_children from frame.ballot slot (set_at slot r) (r, []) made) made (and_from r.running (same_ballot frame.ballot r.leader.ballot) l.running ballots)
+        ∙ elim (cases_lt slot (next r)) [
+          | inl low ↦ none_out made (inl low)
+          | inr on ↦ elim (cases_lt slot (next r + slots_ahead)) [ inl high ↦ none_in made on high | inr past ↦ none_out made (inr past) ]
+        ]
+
+    pub accepted_counted : R (accepted_row from frame.ballot slot (r, []))
+    unfolding accepted_row
+    accepted_counted =
+        subst R (sym (cond-true (leads frame.ballot r) (voted from frame.ballot slot (set_at slot r) (r, [])) (r, []) (and_from r.running (same_ballot frame.ballot r.leader.ballot) l.running ballots)))
+        (elim (cases_lt slot (next r)) [
+          | inl low ↦ counted_out (inl low)
+          | inr on ↦ elim (cases_lt slot (next r + slots_ahead)) [ inl high ↦ counted_in on high | inr past ↦ counted_out (inr past) ]
+        ])

@@ -1,0 +1,91 @@
+-- What stands between the leader of a group and its nodes: which mail of Paxos is under way to whom, and in which order it comes.
+use Rattle.std.specs.Prelude.{◌≡◌, ℕ, suc, ◌+◌, ◌<◌, ◌≤◌, max, true, List, [], ◌∷◌, Option, Some, if◌then◌else◌, ◌⊎◌}
+use Rattle.sc_base.specs.Among.{Among, Each}
+use Rattle.sc_base.specs.Same.{same_draw}
+use Rattle.sc_base.specs.declared.names.Draw.{Draw}
+use Rattle.sc_mail.specs.declared.bodies.Mail.{Mail}
+use Rattle.sc_mail.specs.declared.bodies.MailBody.{MailBody}
+use Rattle.sc_mail.specs.declared.bodies.MailBody.TheVariants.{Request, Answer, Prepare, Promise, Accept, Accepted, Nack, Learn, Ask, Install, TxPrepare, TxVote, TxOutcome, TxElsewhere, TxWatch, TxWatched, Told}
+use Rattle.sc_member.specs.Roster.{is_member}
+use Rattle.sc_node_table.specs.Slots.{numbers_from}
+use Rattle.sc_budget_law.specs.Frames.{Frame}
+
+-- What a mail is to a group: it asks to accept something at a slot, it is the vote of a node at a slot, it tells what was decided at a slot, or it is none of these.
+pub data Mark : Type 0 where
+  Asks : (slot : ℕ) → Mark
+  Votes : (node slot : ℕ) → Mark
+  Tells : (slot : ℕ) → Mark
+  Other : Mark
+
+-- the mark of a body from a node, for the group of this name
+abbrev pub mark_of : Draw → ℕ → MailBody → Mark
+mark_of name from (Accept group ballot slot command) = if same_draw group name then Asks slot else Other
+mark_of name from (Accepted group ballot slot) = if same_draw group name then Votes from slot else Other
+mark_of name from (Learn group slot command) = if same_draw group name then Tells slot else Other
+mark_of name from (Request group client seq op) = Other
+mark_of name from (Answer group seq answer) = Other
+mark_of name from (Prepare group ballot from_slot) = Other
+mark_of name from (Promise group ballot reports) = Other
+mark_of name from (Nack group promised) = Other
+mark_of name from (Ask group from_slot) = Other
+mark_of name from (Install group slot base sets) = Other
+mark_of name from (TxPrepare tx offer) = Other
+mark_of name from (TxVote tx coord part vote) = Other
+mark_of name from (TxOutcome tx part outcome) = Other
+mark_of name from (TxElsewhere tx coord hint) = Other
+mark_of name from (TxWatch tx watch) = Other
+mark_of name from (TxWatched tx coord part vote) = Other
+mark_of name from (Told order result) = Other
+
+-- .. of a mail
+abbrev pub mark : Draw → Mail → Mark
+mark name mail = mark_of name mail.from mail.body
+
+-- Each slot that is asked for is at least this one, and above each that was voted for or told before.
+abbrev pub AreInOrder : ℕ → List Mark → Type 0
+AreInOrder low [] = Unit {0}
+AreInOrder low (Asks slot ∷ marks) = (low ≤ slot) × AreInOrder low marks
+AreInOrder low (Votes node slot ∷ marks) = AreInOrder (max low (suc slot)) marks
+AreInOrder low (Tells slot ∷ marks) = AreInOrder (max low (suc slot)) marks
+AreInOrder low (Other ∷ marks) = AreInOrder low marks
+
+-- a mark of a slot below this one
+abbrev pub IsBelow : ℕ → Mark → Type 0
+IsBelow bound (Asks slot) = slot < bound
+IsBelow bound (Votes node slot) = slot < bound
+IsBelow bound (Tells slot) = slot < bound
+IsBelow bound Other = Unit {0}
+
+-- the slots that are told
+abbrev pub told : List Mark → List ℕ
+told [] = []
+told (Tells slot ∷ marks) = slot ∷ told marks
+told (Asks slot ∷ marks) = told marks
+told (Votes node slot ∷ marks) = told marks
+told (Other ∷ marks) = told marks
+
+-- Of a group: the next slot of each node, the first slot at which nothing was offered yet, and who voted for what is in flight at a slot.
+pub record View : Type 0 where
+  pub next : ℕ → ℕ
+  pub bound : ℕ
+  pub voters : ℕ → Option (List ℕ)
+
+-- so many slots are still to be told to a node, from its next one to the leader's, in this order
+pub record IsLearning (from to : ℕ) (marks : List Mark) : Type 0 where
+  pub left : ℕ
+  pub reaches : from + left ≡ to
+  pub tells : told marks ≡ numbers_from from left
+
+-- a member's vote for what is in flight was counted, or it is under way, or the member is still asked
+abbrev pub IsVoting : ℕ → ℕ → List ℕ → List Mark → List Mark → Type 0
+IsVoting node slot voters to_node to_lead = (is_member voters node ≡ true) ⊎ (Among (Asks slot) to_node ⊎ Among (Votes node slot) to_lead)
+
+-- What stands between the leader of a group and its nodes, where `marks` is the mail that each has not taken.
+pub record IsBetween (frame : Frame) (view : View) (marks : ℕ → List Mark) : Type 0 where
+  pub learners : (node : ℕ) → is_member frame.core.members node ≡ true → (node ≡ frame.lead → ⊥) → IsLearning (view.next node) (view.next frame.lead) (marks node)
+  pub order : (node : ℕ) → AreInOrder (view.next node) (marks node)
+  pub below : (node : ℕ) → Each (IsBelow view.bound) (marks node)
+  pub low : (node : ℕ) → view.next node ≤ view.bound
+  pub undone : (slot : ℕ) → Among (Asks slot) (marks frame.lead) → view.voters slot ≡ Some []
+  pub flying : (slot : ℕ) (voters : List ℕ) → view.voters slot ≡ Some voters → view.next frame.lead ≤ slot
+  pub votes : (slot : ℕ) (voters : List ℕ) → view.voters slot ≡ Some voters → (node : ℕ) → is_member (frame.at slot) node ≡ true → IsVoting node slot voters (marks node) (marks frame.lead)

@@ -1,0 +1,63 @@
+-- What stands between the leader of a group and its nodes after some rows.
+use Rattle.std.specs.Prelude.{◌≡◌, ℕ, ◌+◌, ◌==◌, ◌≤◌, true, List, [], map, filter, Option, Some, None, if◌then◌else◌}
+use Rattle.std.specs.Option.{option_map}
+use Rattle.sc_base.specs.Among.{Among, Each}
+use Rattle.sc_base.specs.declared.names.Draw.{Draw}
+use Rattle.sc_cmd.specs.declared.commands.Command.{Command}
+use Rattle.sc_cmd.specs.declared.orders.OrderLine.{OrderLine}
+use Rattle.sc_mail.specs.declared.bodies.Mail.{Mail}
+use Rattle.sc_actor.specs.declared.rows.Row.{Row}
+use Rattle.sc_actor.specs.Replay.{value}
+use Rattle.sc_paxos_words.specs.declared.flights.Flight.{Flight}
+use Rattle.sc_paxos_words.specs.Leaders.{flight_at}
+use Rattle.sc_paxos_words.specs.Votes.{kept_voters}
+use Rattle.sc_node_table.specs.Node.{NodeState, replica_of, is_node}
+use Rattle.sc_node_table.specs.Replica.{ReplicaState, next}
+use Rattle.sc_scenario.specs.declared.scenarios.Scenario.{Scenario}
+use Rattle.sc_sound.specs.Players.{Player, player_table, node_seat, system_of, as_nodes}
+use Rattle.sc_sound.specs.declared.roles.Role.TheVariants.{Node, Client}
+use Rattle.sc_orderly_law.specs.Orderly.{rest}
+use Rattle.sc_budget_law.specs.Frames.{Frame}
+use Rattle.sc_budget_law.specs.Between.{Mark, mark, View}
+
+-- who voted for what is in flight at a slot
+abbrev pub voters_in : List (Flight Command) → ℕ → Option (List ℕ)
+voters_in flights slot = option_map (λ (flight : Flight Command). kept_voters flight.voters) (flight_at slot flights)
+
+-- the marks, for a group, of the mail for an actor
+abbrev pub marks_for : Draw → ℕ → List Mail → List Mark
+marks_for name who mails = map (mark name) (filter (λ mail. mail.to == who) mails)
+
+-- the replicas of a player: a client has none
+abbrev pub replicas_of : Player → List ReplicaState
+replicas_of (Node node) = node.replicas
+replicas_of (Client client) = []
+
+-- the replica of a group at a node after some rows
+abbrev pub replica_at : Scenario → List (Row Mail OrderLine) → Draw → ℕ → Option ReplicaState
+replica_at scenario rows name node =
+    if is_node node
+    then replica_of name (replicas_of (value player_table (node_seat as_nodes scenario.groups scenario.policy node) rows))
+    else None
+
+-- its next slot
+abbrev pub next_in : Option ReplicaState → ℕ
+next_in None = 0
+next_in (Some r) = next r
+
+-- its votes
+abbrev pub votes_in : Option ReplicaState → ℕ → Option (List ℕ)
+votes_in None slot = None
+votes_in (Some r) slot = voters_in r.leader.flights slot
+
+-- a group after some rows, where so many slots are taken
+abbrev pub view_at : Scenario → List (Row Mail OrderLine) → Frame → ℕ → View
+view_at scenario rows frame taken = record {
+  next = λ node. next_in (replica_at scenario rows frame.core.id node);
+  bound = next_in (replica_at scenario rows frame.core.id frame.lead) + taken;
+  voters = λ slot. votes_in (replica_at scenario rows frame.core.id frame.lead) slot;
+}
+
+-- the marks of the mail that an actor has not taken
+abbrev pub marks_at : (ℕ → ℕ → ℕ × ℕ) → Scenario → List (Row Mail OrderLine) → Draw → ℕ → List Mark
+marks_at words scenario rows name who = map (mark name) (rest (system_of as_nodes words scenario) rows who)

@@ -1,0 +1,66 @@
+-- The budget of a plain scenario, and what it buys: every request is answered.
+use Rattle.std.specs.Prelude.{◌≡◌, ℕ, ◌+◌, ◌*◌, ◌≤◌, Bool, true, false, List, ◌∷◌, ◌++◌, length, sum_by}
+use Rattle.std.specs.List.{list_any}
+use Rattle.sc_base.specs.Among.{Among, Each}
+use Rattle.sc_cmd.specs.declared.cores.Base.{Base}
+use Rattle.sc_cmd.specs.declared.orders.OrderLine.{OrderLine}
+use Rattle.sc_mail.specs.declared.bodies.Mail.{Mail}
+use Rattle.sc_actor.specs.declared.rows.Row.{Row}
+use Rattle.sc_scenario.specs.declared.scenarios.Asks.{Asks}
+use Rattle.sc_scenario.specs.declared.scenarios.Scenario.{Scenario}
+use Rattle.sc_scenario.specs.declared.scenarios.SchedLine.{SchedLine}
+use Rattle.sc_scenario.specs.declared.scenarios.SchedLine.TheVariants.{Go, Deliver, Drop, Again, Tick, Crash, Told, Settle, Free, Storm}
+use Rattle.sc_sound.specs.Players.{route_of}
+use Rattle.sc_sound.specs.Requests.{kept_replies}
+
+-- how many requests the clients have together
+abbrev pub requests_of : Scenario → ℕ
+requests_of scenario = sum_by (λ asks. length asks.ops) scenario.clients
+
+-- the deliveries that suffice: for each request 32, and 4 for each group
+abbrev pub budget_of : Scenario → ℕ
+budget_of scenario = requests_of scenario * (32 + 4 * length scenario.groups)
+
+-- a line that tells a client to go, or that delivers at least so often
+abbrev pub AllowsDeliveries : ℕ → SchedLine → Type 0
+AllowsDeliveries budget (Go client) = Unit {0}
+AllowsDeliveries budget (Settle most) = budget ≤ most
+AllowsDeliveries budget (Free most workers) = budget ≤ most
+AllowsDeliveries budget (Deliver who k) = ⊥
+AllowsDeliveries budget (Drop who k) = ⊥
+AllowsDeliveries budget (Again mail) = ⊥
+AllowsDeliveries budget (Tick who) = ⊥
+AllowsDeliveries budget (Crash node) = ⊥
+AllowsDeliveries budget (Told node order) = ⊥
+AllowsDeliveries budget (Storm number most) = ⊥
+
+-- a plain scenario at its budget: clients go, and mail is delivered, in each line at least so often as the budget says
+abbrev pub IsAtBudget : Scenario → Type 0
+IsAtBudget scenario = Each (AllowsDeliveries (budget_of scenario)) scenario.lines
+
+-- whether a line delivers pending mail of all actors
+abbrev pub delivers : SchedLine → Bool
+delivers (Settle most) = true
+delivers (Free most workers) = true
+delivers (Go client) = false
+delivers (Deliver who k) = false
+delivers (Drop who k) = false
+delivers (Again mail) = false
+delivers (Tick who) = false
+delivers (Crash node) = false
+delivers (Told node order) = false
+delivers (Storm number most) = false
+
+-- a client goes, and mail is delivered in a later line
+pub record IsServed (scenario : Scenario) (client : ℕ) : Type 0 where
+  pub before : List SchedLine
+  pub after : List SchedLine
+  pub lines_are : scenario.lines ≡ before ++ Go client ∷ after
+  pub delivered : list_any delivers after ≡ true
+
+-- each such client kept a reply to each of its requests
+abbrev pub AreAnswered : Scenario → List (Row Mail OrderLine) → Type 0
+AreAnswered scenario journal =
+    (first : Base) (others : List Base) → scenario.groups ≡ first ∷ others
+    → (asks : Asks) → Among asks scenario.clients → IsServed scenario asks.client
+    → length (kept_replies (route_of first) asks journal) ≡ length asks.ops

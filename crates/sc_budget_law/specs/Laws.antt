@@ -1,0 +1,33 @@
+-- What is proved of plain scenarios at their budget.
+use Rattle.std.specs.Prelude.{◌≡◌, ℕ, ◌^◌, ◌≤◌, false, List}
+use Rattle.sc_cmd.specs.declared.orders.OrderLine.{OrderLine}
+use Rattle.sc_mail.specs.declared.bodies.Mail.{Mail}
+use Rattle.sc_mail.specs.Weight.{body_weight}
+use Rattle.sc_actor.specs.Counted.{journal_bytes}
+use Rattle.sc_actor.specs.declared.rows.Row.{Row}
+use Rattle.sc_actor.specs.Walk.{unsettled}
+use Rattle.sc_scenario.specs.declared.scenarios.Scenario.{Scenario}
+use Rattle.sc_scenario.specs.Valid.{IsValid}
+use Rattle.sc_sound.specs.Players.{Lawful, Whole, as_nodes, schedule, system_of}
+use Rattle.sc_budget_law.specs.Budget.{IsAtBudget, AreAnswered}
+
+-- in each lawful journal of a valid plain scenario at its budget no line is cut off with mail pending
+abbrev pub PlainLinesEndQuiet : Type 0
+PlainLinesEndQuiet =
+    (words : ℕ → ℕ → ℕ × ℕ) (scenario : Scenario) (journal : List (Row Mail OrderLine))
+    → IsValid scenario → IsAtBudget scenario → Lawful as_nodes words scenario journal
+    → unsettled (system_of as_nodes words scenario) (schedule scenario) journal ≡ false
+
+-- in each whole journal of one every request of a client that goes before a line of deliveries is answered
+abbrev pub PlainRequestsAreAnswered : Type 0
+PlainRequestsAreAnswered =
+    (words : ℕ → ℕ → ℕ × ℕ) (scenario : Scenario) (journal : List (Row Mail OrderLine))
+    → IsValid scenario → IsAtBudget scenario → Lawful as_nodes words scenario journal → Whole as_nodes words scenario journal
+    → AreAnswered scenario journal
+
+-- no lawful journal of one counts more bytes than a journal may
+abbrev pub PlainJournalsAreLight : Type 0
+PlainJournalsAreLight =
+    (words : ℕ → ℕ → ℕ × ℕ) (scenario : Scenario) (journal : List (Row Mail OrderLine))
+    → IsValid scenario → IsAtBudget scenario → Lawful as_nodes words scenario journal
+    → journal_bytes (λ mail. body_weight mail.body) journal ≤ 2 ^ 30

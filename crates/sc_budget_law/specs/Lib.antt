@@ -1,0 +1,10 @@
+pub mod Between
+pub mod BetweenJournal
+pub mod BetweenRows
+pub mod Budget
+pub mod Frames
+pub mod Laws
+pub mod Owed
+pub mod PlainClient
+pub mod PlainMail
+pub mod PlainNode

@@ -1,0 +1,72 @@
+-- How many deliveries are still owed, at most: for each mail under way, and for what each player still has to do.
+use Rattle.std.specs.Prelude.{ℕ, ◌+◌, ◌-◌, ◌*◌, nat_lt, length, sum_by, Option, Some, None, if◌then◌else◌}
+use Rattle.sc_mail.specs.declared.bodies.AnswerBody.{AnswerBody}
+use Rattle.sc_mail.specs.declared.bodies.AnswerBody.TheVariants.{Value, NotLeader, NotMine, Gone, Stale}
+use Rattle.sc_mail.specs.declared.bodies.Mail.{Mail}
+use Rattle.sc_mail.specs.declared.bodies.MailBody.{MailBody}
+use Rattle.sc_mail.specs.declared.bodies.MailBody.TheVariants.{Request, Answer, Prepare, Promise, Accept, Accepted, Nack, Learn, Ask, Install, TxPrepare, TxVote, TxOutcome, TxElsewhere, TxWatch, TxWatched, Told}
+use Rattle.sc_client_table.specs.Client.{Client as ClientState}
+use Rattle.sc_node_table.specs.Node.{NodeState}
+use Rattle.sc_node_table.specs.Replica.{ReplicaState, next}
+use Rattle.sc_sound.specs.Players.{Player}
+use Rattle.sc_sound.specs.declared.roles.Role.TheVariants.{Node, Client}
+
+-- an answer is one delivery; where it sends the client on, its request comes again
+abbrev pub answer_owes : AnswerBody → ℕ
+answer_owes (NotMine arc succ) = 28
+answer_owes (Value reply) = 1
+answer_owes (NotLeader hint) = 1
+answer_owes (Gone into) = 1
+answer_owes (Stale last) = 1
+
+-- a request becomes a waiting call, and an accept a vote; all other mail is one delivery
+abbrev pub body_owes : MailBody → ℕ
+body_owes (Request group client seq op) = 29
+body_owes (Answer group seq answer) = answer_owes answer
+body_owes (Accept group ballot slot command) = 2
+body_owes (Accepted group ballot slot) = 1
+body_owes (Learn group slot command) = 1
+body_owes (Prepare group ballot from_slot) = 1
+body_owes (Promise group ballot reports) = 1
+body_owes (Nack group promised) = 1
+body_owes (Ask group from_slot) = 1
+body_owes (Install group slot base sets) = 1
+body_owes (TxPrepare tx offer) = 1
+body_owes (TxVote tx coord part vote) = 1
+body_owes (TxOutcome tx part outcome) = 1
+body_owes (TxElsewhere tx coord hint) = 1
+body_owes (TxWatch tx watch) = 1
+body_owes (TxWatched tx coord part vote) = 1
+body_owes (Told order result) = 1
+
+-- what is owed for a mail
+abbrev pub mail_owes : Mail → ℕ
+mail_owes mail = body_owes mail.body
+
+-- a waiting call is offered, to nine nodes at most; what is in flight or ready is answered, and learnt by eight others at most; an executed slot stays counted, so that slots are bounded too
+abbrev pub replica_owes : ReplicaState → ℕ
+replica_owes r = 28 * length r.calls + 10 * (length r.leader.flights + length r.ready) + (if r.running then next r - 1 else 0)
+
+-- what the replicas of a node owe
+abbrev pub node_owes : NodeState → ℕ
+node_owes node = sum_by replica_owes node.replicas
+
+-- how many requests wait: one or none
+abbrev pub waiting_ones : Option ℕ → ℕ
+waiting_ones None = 0
+waiting_ones (Some seq) = 1
+
+-- how many requests a client has begun: those that are answered, and the one that waits
+abbrev pub begun_ones : ClientState → ℕ
+begun_ones client = length client.replies + waiting_ones client.waiting
+
+-- each request that is not begun is a mail to come; and while a reply is missing, of so many groups each that the client does not know may be asked in vain
+abbrev pub client_owes : ℕ → ClientState → ℕ
+client_owes groups client =
+    29 * (length client.requests - begun_ones client)
+    + (if nat_lt (length client.replies) (length client.requests) then 2 * (groups - length client.known) else 0)
+
+-- what a player owes, where there are so many groups
+abbrev pub player_owes : ℕ → Player → ℕ
+player_owes groups (Node node) = node_owes node
+player_owes groups (Client client) = client_owes groups client
