@@ -49,7 +49,7 @@ fn lines_of(
     ensures lines { IfOk result (λ lines. lines ≡ scan_lines sight.most (length rows.now)
         (scan_of (world_at as_nodes scenario.now.groups rows.now)
         (entries_in (entries_at as_nodes scenario.now.groups rows.now)) sight.arc)) }
-    ensures arc { IsArc sight.arc × (sight.arc.lo < 2 ^ 32) }
+    ensures arc { IfOk result (λ _. IsArc sight.arc × (sight.arc.lo < 2 ^ 32)) }
 {
     let shown = scan(alloc, scenario.groups.as_slice(), rows, &sight.arc)?;
     scan_lines(alloc, sight.most, rows.len() as u64, shown.as_slice())
