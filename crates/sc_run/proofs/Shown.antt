@@ -27,7 +27,7 @@ module _ (tell : ScansTell) (count : EntriesCountLogs) (logs : ValidEntriesAreLo
       let first : List (Row Mail OrderLine) = take sight.rows journal in
       let parts = take-append-drop sight.rows journal in
       let lawful_first : Lawful as_nodes two_words scenario first =
-        lawful-prefix (system_of as_nodes two_words scenario) (schedule scenario) first (drop sight.rows journal) (subst (IsLawful (system_of as_nodes two_words scenario) (schedule scenario)) (sym parts) lawful) in
+      lawful-prefix (system_of as_nodes two_words scenario) (schedule scenario) first (drop sight.rows journal) (subst (IsLawful (system_of as_nodes two_words scenario) (schedule scenario)) (sym parts) lawful) in
       let entries = logs as_nodes refl two_words scenario valid first lawful_first in
       record {
         text = lines_are

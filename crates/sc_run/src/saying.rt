@@ -51,7 +51,7 @@ fn tell_usage(alloc: Global) -> Result<(Said, Text), OutOfMemory>
     let text = tells(
         alloc,
         b"usage: scatter run | scatter make N S | scatter journal | scatter audit \
-         | scatter scan LO LEN R MOST | scatter pool",
+        | scatter scan LO LEN R MOST | scatter pool",
     )?;
     Ok((Said::Usage, text))
 }
@@ -107,9 +107,10 @@ fn show_input<S: Source, G: Gate, R: Threads + Wait + Sync>(
 ) -> Result<(Said, Text), OutOfMemory>
     requires { 1 ≤ sight.most }
     ensures says { IfOk result (λ begun. Scans sight (record {
-        left = S.left input.old;
-        faults_before = S.faults input.old;
-        faults_after = S.faults input.new }) begun.0 begun.1) }
+      left = S.left input.old;
+      faults_before = S.faults input.old;
+      faults_after = S.faults input.new;
+    }) begun.0 begun.1) }
     ensures takes { S.calls input.new ≤ S.calls input.old + (most_bytes + 2) }
 {
     match scenario_in(alloc, input) {

@@ -22,6 +22,7 @@ use sc_scenario::Scenario;
 use sc_statuses::{Said, said_by};
 use sc_whole_law::valid_entries_are_logs;
 use sc_words::Sight;
+use sc_workers::Way;
 use std::alloc::Global;
 use std::sync::Wait;
 use std::thread::Threads;
@@ -48,7 +49,7 @@ fn lines_of(
     ensures lines { IfOk result (λ lines. lines ≡ scan_lines sight.most (length rows.now)
         (scan_of (world_at as_nodes scenario.now.groups rows.now)
         (entries_in (entries_at as_nodes scenario.now.groups rows.now)) sight.arc)) }
-    ensures arc { IsArc sight.arc × (sight.arc.lo < 2 ^ 32) }
+    ensures arc { IfOk result (λ _. IsArc sight.arc × (sight.arc.lo < 2 ^ 32)) }
 {
     let shown = scan(alloc, scenario.groups.as_slice(), rows, &sight.arc)?;
     scan_lines(alloc, sight.most, rows.len() as u64, shown.as_slice())
@@ -71,7 +72,7 @@ pub fn show<G: Gate, R: Threads + Wait + Sync>(
     scans_tell();
     entries_count_logs();
     valid_entries_are_logs();
-    let left = play_whole(rt, alloc, scenario, 1 << 30, gate)?;
+    let left = play_whole(rt, alloc, Way::Runs, scenario, 1 << 30, gate)?;
     let Some(said) = said_by(left.played) else {
         return Err(OutOfMemory);
     };

@@ -73,11 +73,14 @@ fn scan_of(
     entries: &[LogEntry],
     arc: &RingArc,
 ) -> Result<Vec<Shown>, OutOfMemory>
-    ensures { IfOk result (λ scan. scan.items ≡ scan_of world.now (entries_in entries.now) arc.now) }
+    ensures scan { IfOk result
+        (λ scan. scan.items ≡ scan_of world.now (entries_in entries.now) arc.now) }
+    ensures arc { IsArc arc.now × (arc.now.lo < 2 ^ 32) }
 {
-    let parts = parts(alloc, world.ring(), arc)?;
+    let found = parts(alloc, world.ring(), arc)?;
+    let list = found.as_slice();
     let mut scan = Vec::new(alloc);
-    for part in parts.as_slice() {
+    for part in list {
         scan.push(show(alloc, world, entries, *part)?)?;
     }
     Ok(scan)
@@ -94,7 +97,7 @@ pub fn scan(
 ) -> Result<Vec<Shown>, OutOfMemory>
     ensures scan { IfOk result (λ scan. scan.items ≡ scan_of (world_at as_nodes bases.now rows.now)
         (entries_in (entries_at as_nodes bases.now rows.now)) arc.now) }
-    ensures arc { IsArc arc.now × (arc.now.lo < 2 ^ 32) }
+    ensures arc { IfOk result (λ _. IsArc arc.now × (arc.now.lo < 2 ^ 32)) }
 {
     let entries = entries_of(alloc, bases, rows)?;
     let world = world_of(alloc, bases, entries.as_slice())?;

@@ -1,7 +1,7 @@
 //! The parts of an arc, in the cuts of a ring.
-ghost use Rattle.std.specs.Prelude.{◌≡◌, ◌≤◌, ◌^◌, IsTrue, find, IfOk};
+ghost use Rattle.std.specs.Prelude.{◌≡◌, ◌<◌, ◌≤◌, ◌^◌, IsTrue, find, IfOk};
 ghost use Rattle.std.specs.Option.{option_copied};
-ghost use Rattle.sc_base.specs.Arc.{holds};
+ghost use Rattle.sc_base.specs.Arc.{holds, IsArc};
 ghost use Rattle.sc_scan.specs.Walk.{first_part, parts_in, reach};
 
 use sc_base::{Draw, OutOfMemory, RingArc};
@@ -55,7 +55,8 @@ fn cut_at(ring: &[Cut], lo: u32) -> Option<&Cut>
 /// holds its start, and ends with that cut or with the arc. Where no cut holds a start, no more
 /// parts come.
 pub fn parts(alloc: Global, ring: &[Cut], arc: &RingArc) -> Result<Vec<Part>, OutOfMemory>
-    ensures { IfOk result (λ parts. parts.items ≡ parts_in ring.now arc.now) }
+    ensures parts { IfOk result (λ parts. parts.items ≡ parts_in ring.now arc.now) }
+    ensures arc { IsArc arc.now × (arc.now.lo < 2 ^ 32) }
 {
     let mut parts = Vec::new(alloc);
     let mut lo = arc.lo();

@@ -183,10 +183,16 @@ sighted (Some l) (Some n) (Some r) (Some m) asked e = (l, n, r, m, same_Some (Sc
 -- what words ask for, by which they are
 abbrev chosen : Bool → Bool → Bool → Bool → Bool → Bool → Option Subcommand → Option Subcommand → Option Subcommand
 chosen run journal audit pool make scan made seen =
-    if run then Some Run else if journal then Some Journal else if audit then Some Audit else if pool then Some Pool else if make then made else if scan then seen else None
+    if run then Some Run
+    else if journal then Some Journal
+    else if audit then Some Audit
+    else if pool then Some Pool
+    else if make then made
+    else if scan then seen
+    else None
 
--- they ask for one thing or nothing
-record Chosen (run journal audit pool make scan : Bool) (made seen : Option Subcommand) (P : Subcommand → Type 0) : Type 0 where
+-- what is asked of each thing that words may ask for
+record Chosen (run journal audit pool : Bool) (made seen : Option Subcommand) (P : Subcommand → Type 0) : Type 0 where
   of_run : run ≡ true → P Run
   of_journal : journal ≡ true → P Journal
   of_audit : audit ≡ true → P Audit
@@ -194,7 +200,7 @@ record Chosen (run journal audit pool make scan : Bool) (made seen : Option Subc
   of_made : (asked : Subcommand) → made ≡ Some asked → P asked
   of_seen : (asked : Subcommand) → seen ≡ Some asked → P asked
 
-chosen_case : (run journal audit pool make scan : Bool) (made seen : Option Subcommand) (P : Subcommand → Type 0) → Chosen run journal audit pool make scan made seen P
+chosen_case : (run journal audit pool make scan : Bool) (made seen : Option Subcommand) (P : Subcommand → Type 0) → Chosen run journal audit pool made seen P
     → (asked : Subcommand) → chosen run journal audit pool make scan made seen ≡ Some asked → P asked
 chosen_case true journal audit pool make scan made seen P each asked e = subst P (same_Some Run asked e) (each.of_run refl)
 chosen_case false true audit pool make scan made seen P each asked e = subst P (same_Some Journal asked e) (each.of_journal refl)
@@ -206,7 +212,7 @@ chosen_case false false false false false false made seen P each asked e = absur
 
 -- what is asked has what each thing that words may ask for has
 of_asked : (P : Subcommand → Type 0) (words : List (List ℕ))
-    → Chosen (is_run words) (is_journal words) (is_audit words) (is_pool words) (is_make words) (is_scan words) (make_of (nth words 1) (nth words 2)) (scan_of (nth words 1) (nth words 2) (nth words 3) (nth words 4)) P
+    → Chosen (is_run words) (is_journal words) (is_audit words) (is_pool words) (make_of (nth words 1) (nth words 2)) (scan_of (nth words 1) (nth words 2) (nth words 3) (nth words 4)) P
     → (asked : Subcommand) → subcommand_by words ≡ Some asked → P asked
 of_asked P words each asked e =
     chosen_case (is_run words) (is_journal words) (is_audit words) (is_pool words) (is_make words) (is_scan words) (make_of (nth words 1) (nth words 2)) (scan_of (nth words 1) (nth words 2) (nth words 3) (nth words 4)) P each asked e

@@ -270,8 +270,8 @@ fn parsed(alloc: Global, words: &[String]) -> Result<Option<Subcommand>, OutOfMe
     }
 }
 
-/// What the words behind a program's name ask for: `run`, `journal`, `audit`, `pool`, `make N S`
-/// with N from 1 to 1,000 and S from 0 to 2^64 - 1, or `scan LO LEN R MOST` with LO and R from 0 to
+/// What the words behind a program's name ask for: `run`, `journal`, `audit`, `pool`, `make N S` with
+/// N from 1 to 1,000 and S from 0 to 2^64 - 1, or `scan LO LEN R MOST` with LO and R from 0 to
 /// 2^32 - 1, LEN from 1 to 2^32 and MOST from 1 to 1,000,000. None where they are none of these.
 ///
 /// Words of which the first is none of the six, or of which one begins with a dash, are refused

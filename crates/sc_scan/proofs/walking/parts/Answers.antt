@@ -3,8 +3,8 @@ use Rattle.sc_base.specs.Arc.{Arc}
 use Rattle.sc_scan.proofs.Walks.{found_holds, parts_end, parts_over, parts_push}
 use Rattle.sc_scan.proofs.walking.parts.Goals as goal
 
-pub returns-in_default : goal.returns-in_default
-returns-in_default c =
+pub returns-in_default-clause-parts : goal.returns-in_default-clause-parts
+returns-in_default-clause-parts c =
     let rest : Arc = record { lo = c.loop-left.lo; len = c.loop-left.left } in
     parts_end c.args.ring.now c.args.arc.now rest c.loop-left.parts.items c.loop-left-test.true (sym c.in_default.ensures) c.loop-left.invariant.1
 
@@ -21,8 +21,8 @@ loop-left-preserved c =
           c.loop-left-test.true (sym c.in-Some.ensures) c.loop-left.invariant.1 c.first_part-part.ensures c.in_ok-push.ensures.items c.end-lo.ensures (ap (λ n. c.loop-left.left - n) c.len-left-in-loop-left.ensures.same),
     )
 
-pub returns : goal.returns
-returns c =
+pub returns-clause-parts : goal.returns-clause-parts
+returns-clause-parts c =
     let rest : Arc = record { lo = c.loop-left.lo; len = c.loop-left.left } in
     let over : c.loop-left.left ≡ 0 = omega (arith, c.loop-left-test.false) in
     parts_over c.args.ring.now c.args.arc.now rest c.loop-left.parts.items over c.loop-left.invariant.1

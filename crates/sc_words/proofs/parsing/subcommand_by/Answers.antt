@@ -16,11 +16,11 @@ returns-clause-run c = IfOk-weaker c.parsed.result _ _ (λ asked h. λ run. run_
 pub returns-clause-journal : goal.returns-clause-journal
 returns-clause-journal c = IfOk-weaker c.parsed.result _ _ (λ asked h. λ journal. journal_asked (map string_bytes c.args.words.now) (sym h ∙ journal)) c.parsed.ensures
 
-pub returns-clause-pool : goal.returns-clause-pool
-returns-clause-pool c = IfOk-weaker c.parsed.result _ _ (λ asked h. λ pool. pool_asked (map string_bytes c.args.words.now) (sym h ∙ pool)) c.parsed.ensures
-
 pub returns-clause-audit : goal.returns-clause-audit
 returns-clause-audit c = IfOk-weaker c.parsed.result _ _ (λ asked h. λ audit. audit_asked (map string_bytes c.args.words.now) (sym h ∙ audit)) c.parsed.ensures
+
+pub returns-clause-pool : goal.returns-clause-pool
+returns-clause-pool c = IfOk-weaker c.parsed.result _ _ (λ asked h. λ pool. pool_asked (map string_bytes c.args.words.now) (sym h ∙ pool)) c.parsed.ensures
 
 pub returns-clause-reads : goal.returns-clause-reads
 returns-clause-reads c = IfOk-weaker c.parsed.result _ _ (λ asked h. if_reads (map string_bytes c.args.words.now) asked h) c.parsed.ensures
