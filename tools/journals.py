@@ -1,14 +1,17 @@
 """Reads stored journals: a scenario's lines, the line `journal`, and one JSON row a line.
 
 It is for the tools beside it, which are not proved and say so. It takes a journal as it stands and
-does not ask whether it is lawful.
+does not ask whether it is lawful. `Journal.decided` reckons, once for all tools, what the journal
+decided: the groups' logs, the groups, and the ring (`decided.py`, `groups.py`).
 """
 
+import gc
 import json
 import sys
 
+import decided
+
 NODES = 32  # actors above are clients, and 0 is the desk, which gets what orders came to
-RING = 2**32
 
 
 class BadJournal(Exception):
@@ -40,6 +43,16 @@ class Row:
 class Journal:
     def __init__(self, scenario, rows, mails):
         self.scenario, self.rows, self.mails = scenario, rows, mails
+        self.reckoned = None
+
+    def decided(self):
+        """The logs, groups and ring that the journal decided, reckoned once."""
+        if self.reckoned is None:
+            try:
+                self.reckoned = decided.Decided(self)
+            except (ValueError, KeyError, TypeError, AttributeError, IndexError) as fault:
+                raise BadJournal(f"a mail lacks what such mail says: {fault!r}") from None
+        return self.reckoned
 
     def mail(self, number):
         """The mail with this number, if it was sent."""
@@ -62,6 +75,7 @@ def read(name):
     if "journal" not in lines:
         raise BadJournal(f"{name}: no line `journal` ends the scenario")
     end = lines.index("journal")
+    gc.disable()  # all of it lives to the end, so to look for garbage in it takes half the time
     rows, mails = [], []
     for place, line in enumerate(lines[end + 1 :], end + 2):
         try:
@@ -186,3 +200,56 @@ def words(mail):
     if kind == "Told":
         return f"Told order {said['order']}: {phrase(said['result'])}"
     return f"{start}{slot}{ballot}" + (f" {said['tx']}" if "tx" in said else "")
+
+
+def order(said):
+    """An order, as the scenario spells it."""
+    ((kind, fields),) = said.items()
+    names = ("node", "group") if kind in ("Join", "Leave") else ("group", "at", "node")
+    return " ".join([kind.lower(), *(str(fields[name]) for name in names if name in fields)])
+
+
+def event(journal, row):
+    """What happened to the actor of a row."""
+    if row.event in ("Deliver", "Drop"):
+        mail = journal.mail(row.of)
+        if mail is None:
+            return f"{row.event.lower()} {row.of}, which nobody sent"
+        verb = "gets" if row.event == "Deliver" else "never gets"
+        return f"{verb} {row.of} from {actor(mail.sender)}: {words(mail)}"
+    if row.event == "Again":
+        return f"mail {row.of} comes again"
+    if row.event == "Told":
+        return f"is told order {row.of['number']}: {order(row.of['order'])}"
+    return {"Go": "goes", "Tick": "ticks", "Crash": "crashes"}.get(row.event, row.event)
+
+
+def doer(row):
+    """Whose row it is: an actor's, or the network's."""
+    return "network" if row.who == 0 else actor(row.who)
+
+
+def effect(said):
+    """What a decided command came to, in a few words."""
+    word, of = said
+    if word in ("Done", "Again"):
+        done = "none" if of is None else f"value {of}"
+        return done if word == "Done" else f"{done}, once more"
+    if word == "Voted":
+        return f"votes {vote(of)}"
+    if word == "Decided":
+        return outcome(of)
+    if word == "Refused":
+        return f"refused, {of}"
+    if word == "NotMine":
+        return f"not mine, next is {of}"
+    if word == "Gone":
+        return f"gone into {of['group']}"
+    if word == "NoEffect":
+        return "no effect" if of is None else f"no effect, by {of}"
+    return f"stale, last is {of}" if word == "Stale" else {"Changed": "taken"}.get(word, word.lower())
+
+
+def decision(entry):
+    """A decided place of a log: the command, and what it came to."""
+    return f"{entry.group} slot {entry.slot}: {command(entry.command)} ({effect(entry.effect)})"

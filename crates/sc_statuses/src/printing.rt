@@ -32,14 +32,15 @@ fn put_all<K: Sink>(sink: &mut K, lines: &[ReportLine]) -> Result<(), Failed>
 /// to, or 5 after a fault of the sink.
 pub fn print<K: Sink>(sink: &mut K, said: Said, lines: &[ReportLine]) -> u8
     ensures prints { Prints (record {
-        held_before = K.held sink.old;
-        held_after = K.held sink.new;
-        pieces_before = K.pieces sink.old;
-        pieces_after = K.pieces sink.new;
-        faults_before = K.faults sink.old;
-        faults_after = K.faults sink.new;
-        calls_before = K.calls sink.old;
-        calls_after = K.calls sink.new })
+      held_before = K.held sink.old;
+      held_after = K.held sink.new;
+      pieces_before = K.pieces sink.old;
+      pieces_after = K.pieces sink.new;
+      faults_before = K.faults sink.old;
+      faults_after = K.faults sink.new;
+      calls_before = K.calls sink.old;
+      calls_after = K.calls sink.new;
+    })
         said lines.now result }
     ensures calls { K.calls sink.new ≤ K.calls sink.old + length lines.now }
 {

@@ -1,8 +1,8 @@
 -- What was read of a source is the whole of it, or too long either way.
-use Rattle.std.proofs.Common.{◌≡◌, ℕ, ◌+◌, ◌≤◌, List, length, take, Option, None, Some, sym, ◌∙◌, ap, inl, subst, arith}
+use Rattle.std.proofs.Common.{◌≡◌, ◌⊎◌, ℕ, ◌+◌, ◌≤◌, List, length, take, Option, None, Some, sym, ◌∙◌, ap, inl, inr, subst, arith}
 use Rattle.std.proofs.lemmas.List.{length-take, take_all}
-use Rattle.std.specs.Prelude.{IfSome, Result, Ok, Err}
-use Rattle.std.specs.Result.{result_ok}
+use Rattle.std.specs.Prelude.{IfSome, MatchResult, Result, Ok, Err}
+use Rattle.std.specs.Result.{result_ok, IsErrAnd}
 use Rattle.sc_actor.specs.declared.rows.Row.{Row}
 use Rattle.sc_cmd.specs.declared.orders.OrderLine.{OrderLine}
 use Rattle.sc_edges.specs.Uses.{SourceUse}
@@ -16,6 +16,7 @@ use Rattle.sc_scenario.specs.declared.reading.ScenarioFault.{ScenarioFault}
 use Rattle.sc_scenario.specs.declared.reading.ScenarioFault.TheVariants.{Bad, OutOfMemory}
 use Rattle.sc_scenario.specs.declared.scenarios.Scenario.{Scenario}
 use Rattle.sc_wants.specs.Faults.{of_scenario, HasFault, IsBadText}
+use Rattle.sc_wants.specs.declared.faults.InputFault.{InputFault}
 use Rattle.sc_wants.specs.Inputs.{AreAll, ReadsFile, ReadsScenario, ReadsText, Stores}
 
 -- what was read of a source comes out as the whole
@@ -46,8 +47,9 @@ pub reads_file : (left : Option (List ℕ)) (bytes : List ℕ) (scenario : Scena
 reads_file left bytes scenario rows taken stores = record { file = bytes; stores = stores; all = all_of most_file_bytes left bytes taken stores.is_file.within }
 
 -- the bytes that were read of a source are no scenario, and neither is the whole of it
-pub bad_text : FirstBytesDecide → (source : SourceUse) (bytes : List ℕ) (fault : ScenarioFault) → IfSome source.left (λ input. bytes ≡ take (most_bytes + 1) input) → verdict_of bytes ≡ Err fault → HasFault IsBadText source (of_scenario fault)
-bad_text decide source bytes (Bad line why) taken is = read_whole decide source.left bytes (Err (Bad line why)) taken is
+pub bad_text : FirstBytesDecide → (source : SourceUse) (bytes : List ℕ) (fault : ScenarioFault) → IfSome source.left (λ input. bytes ≡ take (most_bytes + 1) input) → (fault ≡ OutOfMemory) ⊎ (verdict_of bytes ≡ Err fault) → HasFault IsBadText source (of_scenario fault)
+bad_text decide source bytes (Bad line why) taken (inl short) = absurd (let same : Bad line why ≡ OutOfMemory = short in cc)
+bad_text decide source bytes (Bad line why) taken (inr is) = read_whole decide source.left bytes (Err (Bad line why)) taken is
 bad_text decide source bytes OutOfMemory taken is = tt
 
 bad_whole : FirstBytesDecideFaults → (left : Option (List ℕ)) (bytes : List ℕ) (line why : ℕ) → IfSome left (λ input. bytes ≡ take (most_file_bytes + 1) input) → IsBadFile bytes line why → IfSome left (λ input. IsBadFile input line why)
@@ -58,3 +60,8 @@ bad_whole decide (Some input) bytes line why taken bad = (decide input line why)
 pub bad_file : FirstBytesDecideFaults → (source : SourceUse) (bytes : List ℕ) (fault : ScenarioFault) → IfSome source.left (λ input. bytes ≡ take (most_file_bytes + 1) input) → IsFileFault bytes fault → HasFault IsBadFile source (of_scenario fault)
 bad_file decide source bytes (Bad line why) taken bad = bad_whole decide source.left bytes line why taken bad
 bad_file decide source bytes OutOfMemory taken bad = tt
+
+-- an error that went on is the answer
+pub answers_fault : {T : Type 0} (answer : Result T InputFault) (P : T → Type 0) (Q : InputFault → Type 0) (fault : InputFault) → IsErrAnd answer (λ e. e ≡ fault) → Q fault → MatchResult answer P Q
+answers_fault (Ok x) P Q fault is holds = absurd is
+answers_fault (Err e) P Q fault is holds = subst Q (sym is) holds

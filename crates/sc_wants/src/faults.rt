@@ -2,7 +2,6 @@
 ghost use Rattle.std.specs.Prelude.{◌≡◌, IfOk};
 ghost use Rattle.sc_wants.specs.Faults.{fault_text, of_read, of_scenario, words_for};
 
-
 use sc_edges::ReadFault;
 use sc_scenario::{ScenarioFault, reason_text};
 use std::alloc::Global;

@@ -18,9 +18,10 @@ use std::alloc::Global;
 pub fn scenario_in<S: Source>(alloc: Global, input: &mut S) -> Result<Scenario, InputFault>
     ensures read { MatchResult result (λ scenario. ReadsScenario (S.left input.old) scenario)
         (λ fault. HasFault IsBadText (record {
-        left = S.left input.old;
-        faults_before = S.faults input.old;
-        faults_after = S.faults input.new }) fault) }
+          left = S.left input.old;
+          faults_before = S.faults input.old;
+          faults_after = S.faults input.new;
+        }) fault) }
     ensures calls { S.calls input.new ≤ S.calls input.old + (most_bytes + 2) }
 {
     let bytes = read_all(alloc, input, INPUT_LIMIT)?;
@@ -29,15 +30,13 @@ pub fn scenario_in<S: Source>(alloc: Global, input: &mut S) -> Result<Scenario, 
 }
 
 /// The scenario that an input is, and the input's bytes.
-pub fn text_in<S: Source>(
-    alloc: Global,
-    input: &mut S,
-) -> Result<(Scenario, Vec<u8>), InputFault>
+pub fn text_in<S: Source>(alloc: Global, input: &mut S) -> Result<(Scenario, Vec<u8>), InputFault>
     ensures read { MatchResult result (λ read. ReadsText (S.left input.old) read.0 read.1.items)
         (λ fault. HasFault IsBadText (record {
-        left = S.left input.old;
-        faults_before = S.faults input.old;
-        faults_after = S.faults input.new }) fault) }
+          left = S.left input.old;
+          faults_before = S.faults input.old;
+          faults_after = S.faults input.new;
+        }) fault) }
     ensures calls { S.calls input.new ≤ S.calls input.old + (most_bytes + 2) }
 {
     let bytes = read_all(alloc, input, INPUT_LIMIT)?;
@@ -54,9 +53,10 @@ pub fn file_in<S: Source>(
 ) -> Result<(Scenario, Journal<Mail, OrderLine>), InputFault>
     ensures read { MatchResult result (λ read. ReadsFile (S.left input.old) read.0 read.1)
         (λ fault. HasFault IsBadFile (record {
-        left = S.left input.old;
-        faults_before = S.faults input.old;
-        faults_after = S.faults input.new }) fault) }
+          left = S.left input.old;
+          faults_before = S.faults input.old;
+          faults_after = S.faults input.new;
+        }) fault) }
     ensures calls { S.calls input.new ≤ S.calls input.old + (most_file_bytes + 2) }
 {
     let file = read_all(alloc, input, FILE_LIMIT)?;
