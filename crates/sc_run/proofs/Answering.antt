@@ -72,6 +72,10 @@ module _ (quiet : PlainLinesEndQuiet) (answered : PlainRequestsAreAnswered) (lig
   says_answered (Some ask.Pool) source scenario said text asked at calm (inr plays) =
       let same = same_text source scenario plays.scenario asked plays.read.read in
       subst (λ s. IsAnswered s said text) same (comes_answered _ plays.scenario said text plays.read.valid (subst IsAtBudget (sym same) at) plays.comes)
+  says_answered (Some (ask.Scan sight)) source scenario said text asked at calm (inl refuses) = absurd (not_refused source scenario said text asked calm refuses)
+  says_answered (Some (ask.Scan sight)) source scenario said text asked at calm (inr plays) =
+      let same = same_text source scenario plays.scenario asked plays.read.read in
+      subst (λ s. IsAnswered s said text) same (comes_answered _ plays.scenario said text plays.read.valid (subst IsAtBudget (sym same) at) plays.comes)
   says_answered (Some ask.Journal) source scenario said text asked at calm (inl refuses) = absurd (not_refused source scenario said text asked calm refuses)
   says_answered (Some ask.Journal) source scenario said text asked at calm (inr plays) =
       let all : plays.bytes ≡ asked.0 = subst (λ o. IfSome o (λ input. plays.bytes ≡ input)) asked.1 plays.read.all in

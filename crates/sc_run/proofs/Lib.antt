@@ -1,4 +1,5 @@
 mod Plays
 mod Readings
+mod Shown
 pub mod Told
 mod Answering

@@ -13,7 +13,9 @@ use Rattle.sc_wants.specs.declared.faults.InputFault.{InputFault}
 use Rattle.sc_wants.specs.declared.faults.InputFault.TheVariants.{Failed, Bad, OutOfMemory}
 use Rattle.sc_run.specs.declared.done.Text.{Text}
 use Rattle.sc_run.specs.Refusals.{TellsFault}
-use Rattle.sc_run.specs.Run.{AuditsAs, Audits, Comes, Keeps, Reads, Refuses, ShowsFile, ShowsReport}
+use Rattle.sc_run.specs.Run.{AuditsAs, Audits, Comes, Keeps, Reads, Refuses, Scans, ShowsFile, ShowsReport}
+use Rattle.sc_run.specs.Shown.{ShowsScan}
+use Rattle.sc_words.specs.declared.subcommands.Sight.{Sight}
 
 -- a text about the fault that an input has refuses the input
 refuses : (IsBad : List ℕ → ℕ → ℕ → Type 0) (source : SourceUse) (fault : InputFault) (said : Said) (text : Text) → HasFault IsBad source fault → TellsFault fault said text → Refuses IsBad source said text
@@ -30,6 +32,12 @@ module _ (source : SourceUse) (said : Said) (text : Text) where
 
   pub refused_file : (fault : InputFault) → HasFault IsBadFile source fault → TellsFault fault said text → Audits source said text
   refused_file fault has tells = inl (refuses IsBadFile source fault said text has tells)
+
+  pub refused_scan : (sight : Sight) (fault : InputFault) → HasFault IsBadText source fault → TellsFault fault said text → Scans sight source said text
+  refused_scan sight fault has tells = inl (refuses IsBadText source fault said text has tells)
+
+  pub scanned : (sight : Sight) (scenario : Scenario) → ReadsScenario source.left scenario → Comes (ShowsScan scenario sight) scenario said text → Scans sight source said text
+  scanned sight scenario read comes = inr (record { scenario = scenario; read = read; comes = comes })
 
   pub reported : (scenario : Scenario) → ReadsScenario source.left scenario → Comes (ShowsReport scenario) scenario said text → Reads source said text
   reported scenario read comes = inr (record { scenario = scenario; read = read; comes = comes })

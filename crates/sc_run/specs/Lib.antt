@@ -3,3 +3,4 @@ pub mod Audited
 pub mod Played
 pub mod Refusals
 pub mod Run
+pub mod Shown

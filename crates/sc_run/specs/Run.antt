@@ -20,10 +20,12 @@ use Rattle.sc_sound.specs.Players.{system_of, schedule, Lawful, Whole, parties, 
 use Rattle.sc_world.specs.Replays.{IsBadRow}
 use Rattle.sc_world.specs.Summary.{summary_of}
 use Rattle.sc_run.specs.Played.{mail_weight, HasFilled}
+use Rattle.sc_run.specs.Shown.{ShowsScan}
 use Rattle.sc_run.specs.declared.done.Text.{Text}
 use Rattle.sc_run.specs.declared.done.Done.{Done}
 use Rattle.sc_statuses.specs.Causes.{Prints, said_of}
 use Rattle.sc_words.specs.Subcommands.{subcommand_by}
+use Rattle.sc_words.specs.declared.subcommands.Sight.{Sight}
 use Rattle.sc_words.specs.declared.subcommands.Subcommand.{Subcommand}
 use Rattle.sc_words.specs.declared.subcommands.Subcommand.TheVariants as ask
 use Rattle.sc_wants.specs.Faults.{fault_text, IsBadText}
@@ -34,7 +36,7 @@ use Rattle.sc_chance.specs.Words.{two_words}
 
 -- the text for other words
 abbrev pub usage : List ℕ
-usage = codes "usage: scatter run | scatter make N S | scatter journal | scatter audit | scatter pool"
+usage = codes "usage: scatter run | scatter make N S | scatter journal | scatter audit | scatter scan LO LEN R MOST | scatter pool"
 
 -- the one line of a text that is about no journal
 pub record TellsLine (message : List ℕ) (text : Text) : Type 0 where
@@ -122,6 +124,12 @@ pub record ReadsAndStores (source : SourceUse) (said : Said) (text : Text) : Typ
   pub read : ReadsText source.left scenario bytes
   pub comes : Comes (ShowsFile bytes) scenario said text
 
+-- the same where a scan of the journal is shown
+pub record ReadsAndScans (sight : Sight) (source : SourceUse) (said : Said) (text : Text) : Type 0 where
+  pub scenario : Scenario
+  pub read : ReadsScenario source.left scenario
+  pub comes : Comes (ShowsScan scenario sight) scenario said text
+
 -- `lawful rows R`
 abbrev pub lawful_line : ℕ → List ℕ
 lawful_line rows = (codes "lawful rows " ++ decimal rows) ++ 10 ∷ []
@@ -169,6 +177,10 @@ Reads source said text = Refuses IsBadText source said text ⊎ ReadsAndPlays so
 abbrev pub Keeps : SourceUse → Said → Text → Type 0
 Keeps source said text = Refuses IsBadText source said text ⊎ ReadsAndStores source said text
 
+-- The same after the word `scan` with its four numbers.
+abbrev pub Scans : Sight → SourceUse → Said → Text → Type 0
+Scans sight source said text = Refuses IsBadText source said text ⊎ ReadsAndScans sight source said text
+
 -- The same after the word `audit`.
 abbrev pub Audits : SourceUse → Said → Text → Type 0
 Audits source said text = Refuses IsBadFile source said text ⊎ ReadsAndAudits source said text
@@ -184,6 +196,7 @@ SaysFor (Some ask.Run) source said text = Reads source said text
 SaysFor (Some ask.Journal) source said text = Keeps source said text
 SaysFor (Some ask.Audit) source said text = Audits source said text
 SaysFor (Some ask.Pool) source said text = Reads source said text
+SaysFor (Some (ask.Scan sight)) source said text = Scans sight source said text
 SaysFor (Some (ask.Make n seed)) source said text = PlaysMade (made_scenario n seed) said text
 
 -- the same for any words

@@ -10,6 +10,7 @@ mod played;
 mod reporting;
 mod running;
 mod saying;
+mod showing;
 mod telling;
 
 pub use answering::runs_answer_within_budget;
@@ -19,4 +20,5 @@ pub use done::{Done, Text};
 pub use played::{play, play_pool};
 pub use reporting::{Left, play_whole, report, store};
 pub use running::run;
+pub use showing::show;
 pub use telling::tells_full;

@@ -6,12 +6,13 @@ ghost use Rattle.sc_scenario.specs.Made.{made_scenario};
 ghost use Rattle.sc_wants.specs.Inputs.{most_takes};
 ghost use Rattle.sc_words.specs.Subcommands.{reads_input};
 ghost use Rattle.sc_statuses.specs.declared.said.Said.TheVariants.{Usage};
-ghost use Rattle.sc_run.specs.Run.{usage, Audits, Keeps, PlaysMade, Reads, Says, TellsLine};
+ghost use Rattle.sc_run.specs.Run.{usage, Audits, Keeps, PlaysMade, Reads, Says, Scans, TellsLine};
 ghost use Rattle.sc_run.specs.Refusals.{TellsFault};
 
 use crate::auditing::audit;
 use crate::done::Text;
 use crate::reporting::{report, store};
+use crate::showing::show;
 use crate::telling::tells;
 use sc_actor::Gate;
 use sc_base::OutOfMemory;
@@ -19,7 +20,7 @@ use sc_edges::Source;
 use sc_make::made_scenario;
 use sc_statuses::Said;
 use sc_wants::{InputFault, fault_text, file_in, scenario_in, text_in};
-use sc_words::{Subcommand, subcommand_by};
+use sc_words::{Sight, Subcommand, subcommand_by};
 use sc_workers::Way;
 use std::alloc::Global;
 use std::sync::Wait;
@@ -49,7 +50,8 @@ fn tell_usage(alloc: Global) -> Result<(Said, Text), OutOfMemory>
 {
     let text = tells(
         alloc,
-        b"usage: scatter run | scatter make N S | scatter journal | scatter audit | scatter pool",
+        b"usage: scatter run | scatter make N S | scatter journal | scatter audit \
+        | scatter scan LO LEN R MOST | scatter pool",
     )?;
     Ok((Said::Usage, text))
 }
@@ -95,6 +97,28 @@ fn store_input<S: Source, G: Gate, R: Threads + Wait + Sync>(
     }
 }
 
+// What an arc holds in a run of the scenario that the input is.
+fn show_input<S: Source, G: Gate, R: Threads + Wait + Sync>(
+    rt: &R,
+    alloc: Global,
+    input: &mut S,
+    sight: Sight,
+    gate: &G,
+) -> Result<(Said, Text), OutOfMemory>
+    requires { 1 ≤ sight.most }
+    ensures says { IfOk result (λ begun. Scans sight (record {
+      left = S.left input.old;
+      faults_before = S.faults input.old;
+      faults_after = S.faults input.new;
+    }) begun.0 begun.1) }
+    ensures takes { S.calls input.new ≤ S.calls input.old + (most_bytes + 2) }
+{
+    match scenario_in(alloc, input) {
+        Ok(scenario) => show(rt, alloc, &scenario, sight, gate),
+        Err(fault) => refuse(alloc, fault),
+    }
+}
+
 // Whether the journal is lawful that the input stores.
 fn audit_input<S: Source>(alloc: Global, input: &mut S) -> Result<(Said, Text), OutOfMemory>
     ensures says { IfOk result (λ begun. Audits (record {
@@ -126,7 +150,7 @@ fn report_made<G: Gate, R: Threads + Wait + Sync>(
 }
 
 /// The text for what the words ask for. The input is read only after one of the words `run`,
-/// `journal`, `audit` and `pool` alone.
+/// `journal`, `audit` and `pool` alone, and after `scan` with its four numbers.
 pub(crate) fn say<S: Source, G: Gate, R: Threads + Wait + Sync>(
     rt: &R,
     alloc: Global,
@@ -150,6 +174,7 @@ pub(crate) fn say<S: Source, G: Gate, R: Threads + Wait + Sync>(
         Some(Subcommand::Pool) => report_input(rt, alloc, Way::Queue, input, gate),
         Some(Subcommand::Journal) => store_input(rt, alloc, input, gate),
         Some(Subcommand::Audit) => audit_input(alloc, input),
+        Some(Subcommand::Scan(sight)) => show_input(rt, alloc, input, sight, gate),
         Some(Subcommand::Make { n, seed }) => report_made(rt, alloc, n, seed, gate),
     }
 }

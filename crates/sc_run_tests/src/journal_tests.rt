@@ -69,8 +69,8 @@ const NO_SCENARIO: Damage = (b"scatter 1", b"scatter 3");
 const LINE_WITHOUT_FEED: &[u8] =
     b"scatter 1\nnodes 1\ngroup 0 1\nclient 1\nput a x\nget a\nend\ngo 1\nsettle 100";
 
-const USAGE: &[u8] =
-    b"usage: scatter run | scatter make N S | scatter journal | scatter audit | scatter pool\n";
+const USAGE: &[u8] = b"usage: scatter run | scatter make N S | scatter journal | scatter audit \
+        | scatter scan LO LEN R MOST | scatter pool\n";
 
 // What is printed, and that it is lawful.
 const STORED_ONES: &[Case] = &[

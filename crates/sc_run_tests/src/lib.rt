@@ -19,6 +19,8 @@ mod row_tests;
 #[cfg(test)]
 mod run_tests;
 #[cfg(test)]
+mod scan_tests;
+#[cfg(test)]
 mod storm_tests;
 #[cfg(test)]
 mod thread_tests;

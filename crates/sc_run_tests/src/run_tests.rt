@@ -30,10 +30,11 @@ pub const FIRST_REPORT: &[u8] =
     b"scatter report 1\nreply 1 1 put none\nreply 1 2 get value x\nring 0 group 0.1 members 1\n\
         rows 9\nmail 8\ndelivered 8\nskipped 0\nquiet yes\n";
 
-const USAGE: &[u8] =
-    b"usage: scatter run | scatter make N S | scatter journal | scatter audit | scatter pool\n";
+const USAGE: &[u8] = b"usage: scatter run | scatter make N S | scatter journal | scatter audit \
+        | scatter scan LO LEN R MOST | scatter pool\n";
 
-const CUT_SHORT: &[u8] =
+/// A run that is cut off with mail pending.
+pub const CUT_SHORT: &[u8] =
     b"scatter 1\nnodes 1\ngroup 0 1\nclient 1\nput a x\nget a\nend\ngo 1\nsettle 1\n";
 
 // One delivery by a pool is all that the line allows.

@@ -1,4 +1,4 @@
--- Lawful journals of valid scenarios are sound: they begin well, and what their orders queue is allowed.
+-- Lawful journals of valid scenarios are sound, and their entries are logs: they begin well, and what their orders queue is allowed.
 use Rattle.std.proofs.Common.{◌++◌, subst}
 use Rattle.sc_sound.specs.Players.{Lawful, route_of}
 use Rattle.sc_scenario.specs.Valid.{ValidScenariosAreBounded}
@@ -6,8 +6,9 @@ use Rattle.sc_draws_law.specs.Laws.{OtherNamesAreFree, TakenOrdersAreAllowed, Ta
 use Rattle.sc_draws_law.specs.Owners.{owner_in}
 use Rattle.sc_start_law.specs.Begins.{section_op}
 use Rattle.sc_start_law.specs.Laws.{ValidScenariosBeginWell}
-use Rattle.sc_whole_law.specs.Laws.{LawfulJournalsAreSound}
-use Rattle.sc_whole_law.specs.Valid.{ValidJournalsAreSound}
+use Rattle.sc_journal_law.specs.Laws.{EntriesAreLogs}
+use Rattle.sc_whole_law.specs.Laws.{LawfulJournalsAreSound, LawfulJournalsDecideInTurn}
+use Rattle.sc_whole_law.specs.Valid.{ValidEntriesAreLogs, ValidJournalsAreSound}
 use Rattle.sc_whole_law.proofs.Scheduled.{orders_allowed}
 
 pub valid_sound : ValidScenariosAreBounded → ValidScenariosBeginWell → TakenOrdersAreAllowed → TakenWishesAreAllowed → WishesAreAtPositions → OtherNamesAreFree → LawfulJournalsAreSound → ValidJournalsAreSound
@@ -17,3 +18,11 @@ valid_sound bounded begin allowed wishes positions free law ahead open_slots wor
     let ready = begin owner (free ahead scenario (rows ++ more)) ahead open_slots scenario valid in
     law (record { owner = owner; request = section_op scenario }) ahead words scenario (route_of ready.first) ready.well ready.bare rows more
     (orders_allowed ahead words scenario (bounded scenario valid) allowed wishes positions (rows ++ more) all) all
+
+pub valid_logs : ValidScenariosAreBounded → ValidScenariosBeginWell → TakenOrdersAreAllowed → TakenWishesAreAllowed → WishesAreAtPositions → OtherNamesAreFree → LawfulJournalsDecideInTurn → EntriesAreLogs → ValidEntriesAreLogs
+valid_logs bounded begin allowed wishes positions free turn logs ahead open_slots words scenario valid journal lawful =
+    let owner = owner_in ahead scenario journal in
+    let ready = begin owner (free ahead scenario journal) ahead open_slots scenario valid in
+    let orders = orders_allowed ahead words scenario (bounded scenario valid) allowed wishes positions journal lawful in
+    logs (record { owner = owner; request = section_op scenario }) ahead scenario.groups ready.well.place journal
+    (turn (record { owner = owner; request = section_op scenario }) ahead words scenario (route_of ready.first) ready.well journal orders lawful)

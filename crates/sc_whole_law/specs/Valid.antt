@@ -6,8 +6,14 @@ use Rattle.sc_scenario.specs.Valid.{IsValid}
 use Rattle.sc_scenario.specs.declared.scenarios.Scenario.{Scenario}
 use Rattle.sc_sound.specs.Soundness.{IsSoundThroughout}
 use Rattle.sc_journal_law.specs.Descent.{Rows}
+use Rattle.sc_journal_law.specs.Findings.{AreItsLogs}
 
 -- each first part of a lawful journal of a valid scenario is sound, whatever its orders are and whatever words storms draw: a child that is born has as many open slots as a node's groups at birth
 abbrev pub ValidJournalsAreSound : Type 0
 ValidJournalsAreSound = (ahead : Ahead) → ahead.slots ≡ slots_ahead → (words : ℕ → ℕ → ℕ × ℕ) (scenario : Scenario) → IsValid scenario
     → (journal : Rows) → Lawful ahead words scenario journal → IsSoundThroughout ahead scenario journal
+
+-- the entries of such a journal are the logs of its groups
+abbrev pub ValidEntriesAreLogs : Type 0
+ValidEntriesAreLogs = (ahead : Ahead) → ahead.slots ≡ slots_ahead → (words : ℕ → ℕ → ℕ × ℕ) (scenario : Scenario) → IsValid scenario
+    → (journal : Rows) → Lawful ahead words scenario journal → AreItsLogs ahead scenario.groups journal

@@ -30,11 +30,11 @@ ghost use Rattle.sc_whole_law.specs.SplitExample.{
 };
 ghost use Rattle.sc_whole_law.specs.Texts.{election_text, join_text, split_text, two_text};
 ghost use Rattle.sc_whole_law.specs.TwoGroups.{lower_group, put_it_call, two_example, two_scenario, upper_group};
-ghost use Rattle.sc_whole_law.specs.Valid.{ValidJournalsAreSound};
+ghost use Rattle.sc_whole_law.specs.Valid.{ValidEntriesAreLogs, ValidJournalsAreSound};
 
 use sc_draws_law::{names_have_one_owner, orders_are_allowed};
 use sc_group_law::{a_journal_with_a_join, a_journal_with_an_election};
-use sc_journal_law::journals_in_turn_are_sound;
+use sc_journal_law::{entries_are_allowed_logs, journals_in_turn_are_sound};
 use sc_scenario::valid_scenarios_are_bounded;
 use sc_start_law::valid_scenarios_begin_well;
 
@@ -81,6 +81,19 @@ pub fn valid_journals_are_sound()
     orders_are_allowed();
     names_have_one_owner();
     lawful_journals_are_sound();
+}
+
+/// The entries of such a journal, row by row, are the logs of its groups, and make of each the state
+/// after its log.
+pub fn valid_entries_are_logs()
+    ensures { ValidEntriesAreLogs }
+{
+    valid_scenarios_are_bounded();
+    valid_scenarios_begin_well();
+    orders_are_allowed();
+    names_have_one_owner();
+    lawful_journals_decide_in_turn();
+    entries_are_allowed_logs();
 }
 
 /// The law is about something: a journal of a text's scenario in which a request is decided and

@@ -1,4 +1,4 @@
--- What clap makes of two words that begin with no dash.
+-- What clap makes of two words, and of four, that begin with no dash.
 use Rattle.std.proofs.Common.{◌≡◌, ℕ, ◌&&◌, ◌||◌, Bool, true, false, eqb, List, [], ◌∷◌, Option, Some, None, refl, ap, ap₂, ◌∙◌, codes}
 use Rattle.std.specs.Prelude.{option_and_then}
 use Rattle.std.specs.Prelude.{slice_index_or}
@@ -104,6 +104,74 @@ make_taken count seed c s = ap (λ b. b && true) (level_passed count seed c s)
 pub make_found : (count seed : Text) → has_dash count ≡ false → has_dash seed ≡ false → subcommand_of scatter_app (codes "make" ∷ count ∷ seed ∷ []) ≡ Some (codes "make", make_rows count seed)
 unfolding clap_on_literals
 make_found count seed c s = ap (λ rows. Some (codes "make", rows)) (rows_found count seed c s)
+
+-- ---- four of them behind `scan`
+
+abbrev pub scan_shape : Shape
+scan_shape = slice_index_or (built scatter_app).subs 5 (new_shape [])
+
+abbrev first_of_four : Text → Walk
+first_of_four a = to_positional scan_shape.rules (arg_by_index scan_shape.rules 1) a (at nothing_held 1) nothing_held
+
+abbrev second_of_four : Text → Text → Walk
+second_of_four a b = to_positional scan_shape.rules (arg_by_index scan_shape.rules 2) b (at (first_of_four a).held 2) (first_of_four a).held
+
+abbrev third_of_four : Text → Text → Text → Walk
+third_of_four a b c = to_positional scan_shape.rules (arg_by_index scan_shape.rules 3) c (at (second_of_four a b).held 3) (second_of_four a b).held
+
+abbrev fourth_of_four : Text → Text → Text → Text → Walk
+fourth_of_four a b c d = to_positional scan_shape.rules (arg_by_index scan_shape.rules 4) d (at (third_of_four a b c).held 4) (third_of_four a b c).held
+
+abbrev pub scan_rows : Text → Text → Text → Text → List Row
+scan_rows a b c d = finished scan_shape.rules (fourth_of_four a b c d).held
+
+-- four words without a dash
+pub record Clear (a b c d : Text) : Type 0 where
+  pub first : has_dash a ≡ false
+  pub second : has_dash b ≡ false
+  pub third : has_dash c ≡ false
+  pub fourth : has_dash d ≡ false
+
+four_steps : (a b c d : Text) → Clear a b c d → walk scan_shape.rules [] nothing_held (a ∷ b ∷ c ∷ d ∷ []) ≡ fourth_of_four a b c d
+four_steps a b c d clear =
+    ap (λ w. walked scan_shape.rules [] (walked scan_shape.rules [] (walked scan_shape.rules [] w b) c) d) (one_step scan_shape.rules nothing_held 1 a clear.first)
+    ∙ ap (λ w. walked scan_shape.rules [] (walked scan_shape.rules [] w c) d) (one_step scan_shape.rules (first_of_four a).held 2 b clear.second)
+    ∙ ap (λ w. walked scan_shape.rules [] w d) (one_step scan_shape.rules (second_of_four a b).held 3 c clear.third)
+    ∙ one_step scan_shape.rules (third_of_four a b c).held 4 d clear.fourth
+
+four_passed : (a b c d : Text) → Clear a b c d → walk_passes scan_shape [] (walk_from nothing_held) (a ∷ b ∷ c ∷ d ∷ []) ≡ true
+unfolding walk_passes
+four_passed a b c d clear =
+    ap₂ (λ s t. s && t) (turn_passed scan_shape nothing_held 1 a clear.first refl)
+    (ap (λ w. walk_passes scan_shape [] w (b ∷ c ∷ d ∷ [])) (one_step scan_shape.rules nothing_held 1 a clear.first)
+    ∙ ap₂ (λ s t. s && t) (turn_passed scan_shape (first_of_four a).held 2 b clear.second refl)
+    (ap (λ w. walk_passes scan_shape [] w (c ∷ d ∷ [])) (one_step scan_shape.rules (first_of_four a).held 2 b clear.second)
+    ∙ ap₂ (λ s t. s && t) (turn_passed scan_shape (second_of_four a b).held 3 c clear.third refl)
+    (ap (λ w. walk_passes scan_shape [] w (d ∷ [])) (one_step scan_shape.rules (second_of_four a b).held 3 c clear.third)
+    ∙ ap (λ t. t && true) (turn_passed scan_shape (third_of_four a b c).held 4 d clear.fourth refl))))
+
+abbrev scan_ends_well : Walk → Bool
+scan_ends_well w =
+    settle_passes scan_shape.rules scan_shape.args_override_self w.held
+    && (list_all default_passes scan_shape.rules && is_valid scan_shape (finished scan_shape.rules w.held) false)
+
+scan_level_passed : (a b c d : Text) → Clear a b c d → level_passes scan_shape [] nothing_held (a ∷ b ∷ c ∷ d ∷ []) false ≡ true
+scan_level_passed a b c d clear = ap₂ (λ s t. s && t) (four_passed a b c d clear) (ap scan_ends_well (four_steps a b c d clear))
+
+scan_rows_found : (a b c d : Text) → Clear a b c d → rows_after scan_shape.rules [] (a ∷ b ∷ c ∷ d ∷ []) ≡ scan_rows a b c d
+scan_rows_found a b c d clear = ap (λ (w : Walk). finished scan_shape.rules w.held) (four_steps a b c d clear)
+
+-- clap takes them
+pub scan_taken : (a b c d : Text) → Clear a b c d → takes scatter_app (codes "scan" ∷ a ∷ b ∷ c ∷ d ∷ []) ≡ true
+unfolding clap_on_literals
+scan_taken a b c d clear = ap (λ b. b && true) (scan_level_passed a b c d clear)
+
+-- and gives them back
+pub scan_found : (a b c d : Text) → Clear a b c d → subcommand_of scatter_app (codes "scan" ∷ a ∷ b ∷ c ∷ d ∷ []) ≡ Some (codes "scan", scan_rows a b c d)
+unfolding clap_on_literals
+scan_found a b c d clear = ap (λ rows. Some (codes "scan", rows)) (scan_rows_found a b c d clear)
+
+-- ---- the words alone
 
 pub run_taken : takes scatter_app (codes "run" ∷ []) ≡ true
 unfolding clap_on_literals

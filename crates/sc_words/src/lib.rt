@@ -5,4 +5,4 @@ mod parsing;
 mod subcommands;
 
 pub use parsing::subcommand_by;
-pub use subcommands::Subcommand;
+pub use subcommands::{Sight, Subcommand};

@@ -1,4 +1,16 @@
 //! What is asked for.
+use sc_base::RingArc;
+
+/// What a scan shows: an arc of the circle as it stands after the first rows of a run, in pages.
+#[derive(Clone, Copy, Debug, PartialEq, Eq)]
+pub struct Sight {
+    /// The positions that are shown.
+    pub arc: RingArc,
+    /// How many rows, or all where there are fewer.
+    pub rows: u32,
+    /// How many pairs a page has, from 1 on.
+    pub most: u32,
+}
 
 /// What words ask for.
 #[derive(Clone, Copy, Debug, PartialEq, Eq)]
@@ -11,6 +23,8 @@ pub enum Subcommand {
     Audit,
     /// `pool`: a run of the scenario on the input, by a pool of workers.
     Pool,
+    /// `scan LO LEN R MOST`: a run of the scenario on the input, of which an arc is shown.
+    Scan(Sight),
     /// `make N S`: a run of the made scenario with N requests a client and the seed S.
     Make { n: u32, seed: u64 },
 }

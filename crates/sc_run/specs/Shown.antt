@@ -1,0 +1,18 @@
+-- What is shown of a scenario and a journal of it after the word `scan`.
+use Rattle.std.specs.Prelude.{◌≡◌, ℕ, List, length, take}
+use Rattle.sc_actor.specs.declared.rows.Row.{Row}
+use Rattle.sc_cmd.specs.declared.orders.OrderLine.{OrderLine}
+use Rattle.sc_mail.specs.declared.bodies.Mail.{Mail}
+use Rattle.sc_scan.specs.Laws.{TellsStore}
+use Rattle.sc_scan.specs.Scan.{scan_at}
+use Rattle.sc_scan.specs.Text.{scan_lines}
+use Rattle.sc_scenario.specs.declared.scenarios.Scenario.{Scenario}
+use Rattle.sc_sound.specs.Players.{as_nodes}
+use Rattle.sc_words.specs.declared.subcommands.Sight.{Sight}
+
+-- The lines are the text of a scan of so many first rows of a journal, or of all where there are fewer; and the scan tells what the arc holds after them.
+pub record ShowsScan (scenario : Scenario) (sight : Sight) (journal : List (Row Mail OrderLine)) (lines : List (List ℕ)) : Type 0 where
+  pub text : let rows : List (Row Mail OrderLine) = take sight.rows journal in
+      lines ≡ scan_lines sight.most (length rows) (scan_at as_nodes scenario.groups rows sight.arc)
+  pub told : let rows : List (Row Mail OrderLine) = take sight.rows journal in
+      TellsStore as_nodes scenario.groups rows sight.arc (scan_at as_nodes scenario.groups rows sight.arc)

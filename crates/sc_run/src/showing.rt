@@ -1,0 +1,98 @@
+//! A scenario played whole, and a scan of its journal.
+ghost use Rattle.std.specs.Prelude.{◌≡◌, ◌≤◌, ◌<◌, ◌^◌, length, take, IfOk};
+ghost use Rattle.sc_base.specs.Arc.{IsArc};
+ghost use Rattle.sc_scan.specs.Scan.{entries_in, scan_of};
+ghost use Rattle.sc_scan.specs.Text.{scan_lines};
+ghost use Rattle.sc_scenario.specs.Valid.{IsValid};
+ghost use Rattle.sc_sound.specs.GroupsOf.{entries_at, world_at};
+ghost use Rattle.sc_sound.specs.Players.{as_nodes};
+ghost use Rattle.sc_run.specs.Run.{Comes};
+ghost use Rattle.sc_run.specs.Shown.{ShowsScan};
+
+use crate::done::Text;
+use crate::reporting::{Left, play_whole};
+use crate::telling::tells_full;
+use sc_actor::{Gate, Played, Row};
+use sc_base::{OutOfMemory, Sequence};
+use sc_cmd::OrderLine;
+use sc_mail::Mail;
+use sc_report::ReportLine;
+use sc_scan::{entries_count_logs, scan, scan_lines, scans_tell};
+use sc_scenario::Scenario;
+use sc_statuses::{Said, said_by};
+use sc_whole_law::valid_entries_are_logs;
+use sc_words::Sight;
+use sc_workers::Way;
+use std::alloc::Global;
+use std::sync::Wait;
+use std::thread::Threads;
+
+// So many first rows, or all.
+fn first_rows(rows: &[Row<Mail, OrderLine>], most: u32) -> &[Row<Mail, OrderLine>]
+    ensures { result.now ≡ take most rows.now }
+{
+    if (most as usize) < rows.len() {
+        &rows[..most as usize]
+    } else {
+        rows
+    }
+}
+
+// The text of a scan of rows.
+fn lines_of(
+    alloc: Global,
+    scenario: &Scenario,
+    rows: &[Row<Mail, OrderLine>],
+    sight: Sight,
+) -> Result<Sequence<ReportLine>, OutOfMemory>
+    requires { 1 ≤ sight.most }
+    ensures lines { IfOk result (λ lines. lines ≡ scan_lines sight.most (length rows.now)
+        (scan_of (world_at as_nodes scenario.now.groups rows.now)
+        (entries_in (entries_at as_nodes scenario.now.groups rows.now)) sight.arc)) }
+    ensures arc { IfOk result (λ _. IsArc sight.arc × (sight.arc.lo < 2 ^ 32)) }
+{
+    let shown = scan(alloc, scenario.groups.as_slice(), rows, &sight.arc)?;
+    scan_lines(alloc, sight.most, rows.len() as u64, shown.as_slice())
+}
+
+/// What an arc holds after the first rows of a scenario that was played to its end, or what is told
+/// of one that was not, as by `report`.
+pub fn show<G: Gate, R: Threads + Wait + Sync>(
+    rt: &R,
+    alloc: Global,
+    scenario: &Scenario,
+    sight: Sight,
+    gate: &G,
+) -> Result<(Said, Text), OutOfMemory>
+    requires valid { IsValid scenario.now }
+    requires some { 1 ≤ sight.most }
+    ensures { IfOk result (λ begun.
+        Comes (ShowsScan scenario.now sight) scenario.now begun.0 begun.1) }
+{
+    scans_tell();
+    entries_count_logs();
+    valid_entries_are_logs();
+    let left = play_whole(rt, alloc, Way::Runs, scenario, 1 << 30, gate)?;
+    let Some(said) = said_by(left.played) else {
+        return Err(OutOfMemory);
+    };
+    match left.played {
+        Played::OutOfMemory => Err(OutOfMemory),
+        Played::Full => Ok((said, tells_full(alloc, left.journal)?)),
+        Played::Ended { .. } => {
+            let Left {
+                journal,
+                parties,
+                ..
+            } = left;
+            let rows = first_rows(journal.as_slice(), sight.rows);
+            let lines = lines_of(alloc, scenario, rows, sight)?;
+            let text = Text {
+                lines,
+                journal: Some(journal),
+                parties,
+            };
+            Ok((said, text))
+        }
+    }
+}

@@ -1,0 +1,98 @@
+-- What a scan tells of the store: its parts share the arc, its pairs are the map's, and each part is what its group's log gives.
+use Rattle.std.specs.Prelude.{◌≡◌, ◌≢◌, ◌↔◌, ℕ, ◌<◌, ◌^◌, IsTrue, List, ◌++◌, map, length, AllPairs, Some}
+use Rattle.std.specs.FinMap.{empty, entries, get}
+use Rattle.sc_base.specs.Among.{Among}
+use Rattle.sc_base.specs.Arc.{Arc, IsArc, holds}
+use Rattle.sc_actor.specs.declared.rows.Row.{Row}
+use Rattle.sc_cmd.specs.declared.cores.Base.{Base}
+use Rattle.sc_cmd.specs.declared.orders.OrderLine.{OrderLine}
+use Rattle.sc_mail.specs.declared.bodies.Mail.{Mail}
+use Rattle.sc_ideal.specs.History.{contents_after}
+use Rattle.sc_ideal.specs.IdealStore.{holds_key}
+use Rattle.sc_machine_table.specs.Group.{Group}
+use Rattle.sc_entries.specs.declared.Cut.{Cut}
+use Rattle.sc_entries.specs.Effective.{effective_by}
+use Rattle.sc_entries.specs.Rings.{Covers}
+use Rattle.sc_entries.specs.Worlds.{StoreWorld}
+use Rattle.sc_sound.specs.Players.{Ahead}
+use Rattle.sc_sound.specs.GroupsOf.{entries_at, groups_at, world_at}
+use Rattle.sc_sound.specs.Logs.{decided_log, decided_state}
+use Rattle.sc_sound.specs.Soundness.{IsOneMap}
+use Rattle.sc_journal_law.specs.Findings.{AreItsLogs}
+use Rattle.sc_scan.specs.declared.walking.Part.{Part}
+use Rattle.sc_scan.specs.declared.scans.Shown.{Shown}
+use Rattle.sc_scan.specs.Order.{Pair, ordered}
+use Rattle.sc_scan.specs.Pages.{after_key, last_key}
+use Rattle.sc_scan.specs.Scan.{all_pairs, entries_in, scan_at, scan_of}
+use Rattle.sc_scan.specs.Walk.{parts_in}
+
+-- ---- the parts
+
+-- a part lies within the cut of its group
+pub record IsWithinCut (ring : List Cut) (part : Part) : Type 0 where
+  pub cut : Cut
+  pub stands : Among cut ring
+  pub group : part.group ≡ cut.group
+  pub within : (p : ℕ) → IsTrue (holds part.arc p) → IsTrue (holds cut.arc p)
+
+-- no position lies in both of two parts
+abbrev pub ShareNothing : Part → Part → Type 0
+ShareNothing part other = (p : ℕ) → IsTrue (holds part.arc p) → IsTrue (holds other.arc p) → ⊥
+
+-- the parts cover an arc once
+pub record ShareArc (ring : List Cut) (arc : Arc) (parts : List Part) : Type 0 where
+  -- each is an arc, within the cut of its group
+  pub arcs : (part : Part) → Among part parts → IsArc part.arc × (part.arc.lo < 2 ^ 32)
+  pub cuts : (part : Part) → Among part parts → IsWithinCut ring part
+  -- each position of the arc lies in one
+  pub some : (p : ℕ) → IsTrue (holds arc p) → (part : Part) × Among part parts × IsTrue (holds part.arc p)
+  -- none lies in two
+  pub once : AllPairs ShareNothing parts
+  -- and no other position lies in one
+  pub only : (part : Part) → Among part parts → (p : ℕ) → IsTrue (holds part.arc p) → IsTrue (holds arc p)
+
+-- the walk through a ring that covers shares each arc
+abbrev pub WalksShareArcs : Type 0
+WalksShareArcs = (ring : List Cut) → Covers ring → (arc : Arc) → IsArc arc → arc.lo < 2 ^ 32 → ShareArc ring arc (parts_in ring arc)
+
+-- ---- the pairs
+
+-- the pairs of a scan are those of the map after the history whose keys the arc holds, each key once
+pub record HasMap (world : StoreWorld) (arc : Arc) (scan : List Shown) : Type 0 where
+  pub pairs : (key value : List ℕ) → Among (key, value) (all_pairs scan) ↔ ((get (contents_after empty world.history) key ≡ Some value) × IsTrue (holds_key arc key))
+  pub once : AllPairs (λ pair other. pair.0 ≢ other.0) (all_pairs scan)
+
+-- ---- each part
+
+-- A part is of a group of the journal: its slot is the length of the group's log, and its pairs are those of the group after that log, and after the outcome of a decided transaction that the log lacks.
+pub record IsOfItsLog (ahead : Ahead) (bases : List Base) (rows : List (Row Mail OrderLine)) (shown : Shown) : Type 0 where
+  pub base : Base
+  pub stands : Among base (groups_at ahead bases rows)
+  pub name : base.core.id ≡ shown.part.group
+  pub slot : shown.slot ≡ length (decided_log ahead base rows)
+  pub pairs : let group : Group = decided_state ahead base rows in
+      shown.pairs ≡ ordered shown.part.arc (entries (effective_by group.core.lock (world_at ahead bases rows).transactions group).pairs)
+
+-- ---- all together
+
+-- what an arc holds after some rows is told by this scan
+pub record TellsStore (ahead : Ahead) (bases : List Base) (rows : List (Row Mail OrderLine)) (arc : Arc) (scan : List Shown) : Type 0 where
+  pub parts : ShareArc (world_at ahead bases rows).ring arc (map (λ shown. shown.part) scan)
+  pub pairs : HasMap (world_at ahead bases rows) arc scan
+  pub logs : (shown : Shown) → Among shown scan → IsOfItsLog ahead bases rows shown
+
+-- a scan of rows that make one map tells what the arc holds
+abbrev pub ScansTell : Type 0
+ScansTell = (ahead : Ahead) (bases : List Base) (rows : List (Row Mail OrderLine)) → IsOneMap (world_at ahead bases rows) → AreItsLogs ahead bases rows
+    → (arc : Arc) → IsArc arc → arc.lo < 2 ^ 32 → TellsStore ahead bases rows arc (scan_at ahead bases rows arc)
+
+-- where entries are logs, a group has as many entries as its log
+abbrev pub EntriesCountLogs : Type 0
+EntriesCountLogs = (ahead : Ahead) (bases : List Base) (rows : List (Row Mail OrderLine)) → AreItsLogs ahead bases rows
+    → (arc : Arc) → scan_of (world_at ahead bases rows) (entries_in (entries_at ahead bases rows)) arc ≡ scan_at ahead bases rows arc
+
+-- ---- pages
+
+-- behind the last key of any first part of a list whose keys differ comes the rest: so the pages one after another, each behind the key that the one before it gave, are the list
+abbrev pub PagesFollow : Type 0
+PagesFollow = (front rest : List Pair) → AllPairs (λ pair other. pair.0 ≢ other.0) (front ++ rest) → after_key (last_key front) (front ++ rest) ≡ rest

@@ -1,0 +1,23 @@
+-- Pages of a list of pairs.
+use Rattle.std.specs.Prelude.{ℕ, ◌<◌, ◌-◌, Bool, nat_lt, nat_eq, List, [], ◌∷◌, length, take, if◌then◌else◌, Option, Some, None, slice_get}
+use Rattle.std.specs.Option.{option_map}
+use Rattle.std.specs.Cmp.Lexicographic.{pointwise}
+use Rattle.sc_scan.specs.Order.{Pair}
+
+-- the pairs behind the first with a key
+abbrev pub past : List ℕ → List Pair → List Pair
+past key [] = []
+past key (pair ∷ more) = if pointwise nat_eq pair.0 key then more else past key more
+
+-- the pairs behind a key, or all of them
+abbrev pub after_key : Option (List ℕ) → List Pair → List Pair
+after_key None all = all
+after_key (Some key) all = past key all
+
+-- the last key of a list
+abbrev pub last_key : List Pair → Option (List ℕ)
+last_key pairs = option_map (λ pair. pair.0) (slice_get pairs (length pairs - 1))
+
+-- the key behind which the next page begins: the last one given, where more pairs follow
+abbrev pub next_key : ℕ → List Pair → Option (List ℕ)
+next_key most rest = if nat_lt most (length rest) then last_key (take most rest) else None

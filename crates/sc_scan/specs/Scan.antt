@@ -1,0 +1,46 @@
+-- What an arc of the circle holds, part by part: each part with the number of entries of its group's log, and its pairs in order, by the group's effective record.
+use Rattle.std.specs.Prelude.{ℕ, ◌+◌, Bool, List, [], ◌∷◌, map, length, count_by, Option, Some, None}
+use Rattle.std.specs.List.{flat_map}
+use Rattle.std.specs.FinMap.{entries}
+use Rattle.sc_base.specs.Arc.{Arc}
+use Rattle.sc_base.specs.Same.{same_draw}
+use Rattle.sc_base.specs.declared.names.Draw.{Draw}
+use Rattle.sc_actor.specs.declared.rows.Row.{Row}
+use Rattle.sc_cmd.specs.declared.cores.Base.{Base}
+use Rattle.sc_cmd.specs.declared.orders.OrderLine.{OrderLine}
+use Rattle.sc_mail.specs.declared.bodies.Mail.{Mail}
+use Rattle.sc_machine_table.specs.Group.{Group}
+use Rattle.sc_entries.specs.declared.LogEntry.{LogEntry}
+use Rattle.sc_entries.specs.Effective.{effective}
+use Rattle.sc_entries.specs.Worlds.{StoreWorld}
+use Rattle.sc_sound.specs.Players.{Ahead}
+use Rattle.sc_sound.specs.GroupsOf.{log_at, world_at}
+use Rattle.sc_scan.specs.declared.walking.Part.{Part}
+use Rattle.sc_scan.specs.declared.scans.Shown.{Shown}
+use Rattle.sc_scan.specs.Order.{Pair, ordered}
+use Rattle.sc_scan.specs.Walk.{parts_in}
+
+-- the pairs of a group, if there is one
+abbrev pub pairs_in : Option Group → List Pair
+pairs_in None = []
+pairs_in (Some group) = entries group.pairs
+
+-- what is shown of a part
+abbrev pub shown : StoreWorld → (Draw → ℕ) → Part → Shown
+shown world slot part = record { part = part; slot = slot part.group; pairs = ordered part.arc (pairs_in (effective world part.group)) }
+
+-- what an arc holds in a world, whose logs are so long
+abbrev pub scan_of : StoreWorld → (Draw → ℕ) → Arc → List Shown
+scan_of world slot arc = map (shown world slot) (parts_in world.ring arc)
+
+-- how many of these entries are of a group's log
+abbrev pub entries_in : List LogEntry → Draw → ℕ
+entries_in entries name = count_by (λ entry. same_draw entry.group name) entries
+
+-- what an arc holds after some rows
+abbrev pub scan_at : Ahead → List Base → List (Row Mail OrderLine) → Arc → List Shown
+scan_at ahead bases rows = scan_of (world_at ahead bases rows) (λ name. length (log_at ahead bases rows name))
+
+-- the pairs of all parts
+abbrev pub all_pairs : List Shown → List Pair
+all_pairs = flat_map (λ shown. shown.pairs)

@@ -1,0 +1,105 @@
+//! What an arc holds after some rows.
+ghost use Rattle.std.specs.Prelude.{◌≡◌, ◌<◌, ◌^◌, map, IfOk};
+ghost use Rattle.sc_base.specs.Arc.{IsArc};
+ghost use Rattle.sc_entries.specs.Effective.{effective};
+ghost use Rattle.sc_sound.specs.Players.{as_nodes};
+ghost use Rattle.sc_sound.specs.GroupsOf.{entries_at, world_at};
+ghost use Rattle.sc_scan.specs.Scan.{entries_in, pairs_in, scan_of, shown};
+
+use crate::orders::ordered;
+use crate::walking::{Part, parts};
+use sc_actor::Row;
+use sc_base::{Draw, Key, OutOfMemory, Pairs, RingArc, Sequence, Value};
+use sc_cmd::{Base, OrderLine, same_draw};
+use sc_decided::entries_of;
+use sc_entries::LogEntry;
+use sc_mail::Mail;
+use sc_store_world::{StoreWorld, world_of};
+use std::alloc::Global;
+
+/// What is shown of a part of an arc.
+#[derive(Drop)]
+pub struct Shown {
+    /// Its positions, and the group that has them.
+    pub part: Part,
+    /// How many entries the group's log has.
+    pub slot: u64,
+    /// The pairs there, by the distance of their positions from the part's start.
+    pub pairs: Sequence<(Key, Value)>,
+}
+
+// How many of these entries are of a group's log.
+fn entries_in(entries: &[LogEntry], name: Draw) -> u64
+    ensures { result ≡ entries_in entries.now name }
+{
+    let count = entries
+        .iter()
+        .filter(|entry| same_draw(entry.group, name))
+        .count();
+    count as u64
+}
+
+// The pairs of a group by its effective record, if there is one.
+fn pairs_in(alloc: Global, world: &StoreWorld, name: Draw) -> Result<Pairs, OutOfMemory>
+    ensures { IfOk result (λ pairs. pairs ≡ pairs_in (effective world.now name)) }
+{
+    match world.effective(name)? {
+        None => Ok(Pairs::new(alloc)),
+        Some(base) => Ok(base.pairs),
+    }
+}
+
+fn show(
+    alloc: Global,
+    world: &StoreWorld,
+    entries: &[LogEntry],
+    part: Part,
+) -> Result<Shown, OutOfMemory>
+    ensures { IfOk result (λ one. one ≡ shown world.now (entries_in entries.now) part) }
+{
+    let pairs = pairs_in(alloc, world, part.group)?;
+    let list = ordered(alloc, &part.arc, &pairs)?;
+    Ok(Shown {
+        part,
+        slot: entries_in(entries, part.group),
+        pairs: Sequence::from_vec(list),
+    })
+}
+
+// What an arc holds in a world that these entries made.
+fn scan_of(
+    alloc: Global,
+    world: &StoreWorld,
+    entries: &[LogEntry],
+    arc: &RingArc,
+) -> Result<Vec<Shown>, OutOfMemory>
+    ensures scan { IfOk result
+        (λ scan. scan.items ≡ scan_of world.now (entries_in entries.now) arc.now) }
+    ensures arc { IsArc arc.now × (arc.now.lo < 2 ^ 32) }
+{
+    let found = parts(alloc, world.ring(), arc)?;
+    let list = found.as_slice();
+    let mut scan = Vec::new(alloc);
+    for part in list {
+        scan.push(show(alloc, world, entries, *part)?)?;
+    }
+    Ok(scan)
+}
+
+/// What an arc of the circle holds after some rows, part by part, from the arc's start on. The rows
+/// are gone through once, whatever groups there are. Refused for want of memory, and where an entry
+/// would leave a cut that is no arc.
+pub fn scan(
+    alloc: Global,
+    bases: &[Base],
+    rows: &[Row<Mail, OrderLine>],
+    arc: &RingArc,
+) -> Result<Vec<Shown>, OutOfMemory>
+    ensures scan { IfOk result (λ scan. scan.items ≡ scan_of (world_at as_nodes bases.now rows.now)
+        (entries_in (entries_at as_nodes bases.now rows.now)) arc.now) }
+    ensures arc { IfOk result (λ _. IsArc arc.now × (arc.now.lo < 2 ^ 32)) }
+{
+    let entries = entries_of(alloc, bases, rows)?;
+    let world = world_of(alloc, bases, entries.as_slice())?;
+    scan_of(alloc, &world, entries.as_slice(), arc)
+}
