@@ -1,5 +1,5 @@
 -- Induction over plain journals: what all players, all mail, all groups and what is owed are after each lawful journal.
-use Rattle.std.proofs.Common.{◌≡◌, ℕ, ◌+◌, ◌≤◌, List, [], ◌∷◌, ◌++◌, length}
+use Rattle.std.proofs.Common.{◌≡◌, ℕ, ◌+◌, ◌≤◌, length}
 use Rattle.sc_base.specs.Among.{Among, Each}
 use Rattle.sc_base.specs.Limits.{client_actor}
 use Rattle.sc_mail.specs.declared.bodies.Mail.{Mail}
@@ -17,7 +17,7 @@ use Rattle.sc_orderly_law.specs.Owing.{Owing, owed, owed_at_birth}
 use Rattle.sc_budget_law.specs.Frames.{Frame}
 use Rattle.sc_budget_law.specs.Owed.{player_owes, mail_owes}
 use Rattle.sc_budget_law.specs.PlainClient.{IsBegun, IsPlainClient}
-use Rattle.sc_budget_law.specs.PlainMail.{Requests, IsPlainMail}
+use Rattle.sc_budget_law.specs.PlainMail.{IsPlainMail}
 use Rattle.sc_budget_law.specs.PlainNode.{IsPlainNode}
 use Rattle.sc_budget_law.proofs.BetweenGroups.{IsGroupAt}
 use Rattle.sc_budget_law.proofs.BetweenStage.{frames_of, IsStage}

@@ -1,7 +1,5 @@
 -- As more requests are begun, what is plain stays so.
-use Rattle.std.proofs.Common.{◌≡◌, ℕ, ◌+◌, ◌<◌, ◌≤◌, List, [], ◌∷◌, Option, Some, None, ◌⊎◌, inl, inr, refl}
-use Rattle.std.specs.FinMap.{get}
-use Rattle.sc_base.specs.Among.{Among, Each}
+use Rattle.std.proofs.Common.{ℕ, List, inl, inr}
 use Rattle.sc_base.specs.declared.ops.Op.{Op}
 use Rattle.sc_cmd.specs.declared.commands.Command.{Command}
 use Rattle.sc_cmd.specs.declared.commands.Command.TheVariants.{Noop, Call, Join, Leave, Split, Begin, Prepared, RecordVote, GiveUp, Finish, Watched, RecordWatch}
@@ -16,8 +14,8 @@ use Rattle.sc_machine_table.specs.Group.{Group}
 use Rattle.sc_node_table.specs.Node.{NodeState}
 use Rattle.sc_node_table.specs.Replica.{ReplicaState}
 use Rattle.sc_budget_law.specs.Frames.{Frame}
-use Rattle.sc_budget_law.specs.PlainMail.{Requests, IsWrittenValue, IsPlainCall, IsPlainCommand, IsPlainAnswer, IsPlainRequest, IsPlainReply, IsPlainAccept, IsPlainLearn, IsPlainBody, IsPlainMail}
-use Rattle.sc_budget_law.specs.PlainNode.{IsPlainGroup, IsPlainFlight, IsPlainLeader, IsPlainReplica, IsLeading, IsSettled, IsPlainOf, IsPlainNode}
+use Rattle.sc_budget_law.specs.PlainMail.{Requests, IsWrittenValue, IsPlainCall, IsPlainCommand, IsPlainAnswer, IsPlainBody, IsPlainMail}
+use Rattle.sc_budget_law.specs.PlainNode.{IsPlainGroup, IsPlainFlight, IsPlainLeader, IsPlainReplica, IsSettled, IsPlainOf, IsPlainNode}
 
 -- whatever was begun is begun
 abbrev pub IsMore : Requests → Requests → Type 0
@@ -100,7 +98,16 @@ module _ (one two : Requests) (more : IsMore one two) where
 
   replica_more : (frame : Frame) (me : ℕ) (r : ReplicaState) → IsPlainReplica one frame me r → IsPlainReplica two frame me r
   replica_more frame me r p = record {
-    me_is = p.me_is; group = group_more frame r.group p.group; hint_is = p.hint_is; top_is = p.top_is; promised_is = p.promised_is; floor_low = p.floor_low; begins = p.begins; sets_are = p.sets_are; acts = p.acts; waits = p.waits;
+    me_is = p.me_is;
+    group = group_more frame r.group p.group;
+    hint_is = p.hint_is;
+    top_is = p.top_is;
+    promised_is = p.promised_is;
+    floor_low = p.floor_low;
+    begins = p.begins;
+    sets_are = p.sets_are;
+    acts = p.acts;
+    waits = p.waits;
   }
 
   settled_more : (frame : Frame) (me : ℕ) (r : ReplicaState) → IsSettled one frame me r → IsSettled two frame me r

@@ -1,11 +1,11 @@
 -- Each row of a client leaves a plain journal.
-use Rattle.std.proofs.Common.{◌≡◌, ℕ, zero, suc, ◌+◌, ◌-◌, ◌<◌, ◌≤◌, eqb, ◌&&◌, ◌||◌, Bool, true, false, true≢false, cond, List, [], ◌∷◌, ◌++◌, length, map, drop, find, Option, Some, None, ◌⊎◌, inl, inr, refl, sym, ◌∙◌, ap, subst, arith}
+use Rattle.std.proofs.Common.{◌≡◌, ℕ, ◌+◌, ◌-◌, ◌≤◌, eqb, ◌&&◌, ◌||◌, Bool, true, false, cond, List, [], ◌∷◌, ◌++◌, length, map, drop, find, Some, inl, inr, refl, sym, ◌∙◌, ap, subst, arith}
 use Rattle.std.specs.Prelude.{slice_get}
 use Rattle.std.specs.Option.{option_map}
-use Rattle.std.proofs.lemmas.Bool.{cases_eq, cases_Bool, both_ways, ne_eqb, eq-eqb, or_right}
+use Rattle.std.proofs.lemmas.Bool.{cases_eq, both_ways, eq-eqb, or_right}
 use Rattle.std.proofs.lemmas.List.Folds.{list_any-append}
 use Rattle.sc_base.specs.Among.{Among, Each}
-use Rattle.sc_base.specs.Limits.{client_actor, most_nodes}
+use Rattle.sc_base.specs.Limits.{client_actor}
 use Rattle.sc_base.specs.declared.names.Draw.{Draw}
 use Rattle.sc_base.specs.declared.ops.Op.{Op}
 use Rattle.sc_cmd.specs.declared.orders.OrderLine.{OrderLine}
@@ -17,40 +17,38 @@ use Rattle.sc_actor.specs.declared.rows.Row.{Row}
 use Rattle.sc_actor.specs.declared.rows.Event.{Event}
 use Rattle.sc_actor.specs.declared.rows.Event.TheVariants.{Deliver, Tick, Go, Told, Crash, Drop, Again}
 use Rattle.sc_actor.specs.declared.rows.Input.TheVariants.{Got, Go as GoInput}
-use Rattle.sc_actor.specs.Mail.{mails, numbered, is_delivery}
+use Rattle.sc_actor.specs.Mail.{mails, is_delivery}
 use Rattle.sc_actor.specs.Replay.{value, acted, input_of}
 use Rattle.sc_actor.specs.System.{System, row_of, has_gone, is_go, waiting, kth}
 use Rattle.sc_actor.proofs.ReplayLemmas.{value-snoc}
 use Rattle.sc_member.specs.Roster.{is_member}
 use Rattle.sc_node_table.specs.Node.{is_node}
-use Rattle.sc_node_table.specs.Replica.{last_slot}
 use Rattle.sc_node_table.specs.Slots.{slots_ahead}
-use Rattle.sc_client_table.specs.Client.{Client as ClientState}
 use Rattle.sc_client_table.specs.Table.{ClientStep, table}
 use Rattle.sc_scenario.specs.declared.scenarios.Asks.{Asks}
 use Rattle.sc_scenario.specs.declared.scenarios.Scenario.{Scenario}
-use Rattle.sc_sound.specs.Players.{Player, player_table, node_seat, client_seat, route_of, births, system_of, as_nodes}
-use Rattle.sc_sound.specs.declared.roles.Role.TheVariants.{Node, Client}
-use Rattle.sc_orderly_law.specs.Orderly.{IsTidy, IsOrderly, IsInOrder, rest, mail_for, taken, deliveries}
-use Rattle.sc_orderly_law.specs.Owing.{owed, owed_at_birth, owed_by}
+use Rattle.sc_sound.specs.Players.{Player, player_table, client_seat, route_of, births, system_of, as_nodes}
+use Rattle.sc_sound.specs.declared.roles.Role.TheVariants.{Client}
+use Rattle.sc_orderly_law.specs.Orderly.{IsTidy, IsOrderly, IsInOrder, rest, mail_for, taken}
+use Rattle.sc_orderly_law.specs.Owing.{owed_by}
 use Rattle.sc_orderly_law.proofs.Paying.{IsPaid, pays}
 use Rattle.sc_orderly_law.proofs.Resting.{TakesFirst, takes_first, is_born-from, rest-row}
 use Rattle.sc_budget_law.specs.Frames.{Frame, IsFrame}
 use Rattle.sc_budget_law.specs.Between.{Mark, Other, mark, mark_of}
-use Rattle.sc_budget_law.specs.BetweenJournal.{marks_for, marks_at, replica_at}
+use Rattle.sc_budget_law.specs.BetweenJournal.{marks_for, marks_at}
 use Rattle.sc_budget_law.specs.BetweenRows.{IsOther, IsTaken}
-use Rattle.sc_budget_law.specs.Owed.{player_owes, mail_owes, client_owes, begun_ones, waiting_ones}
+use Rattle.sc_budget_law.specs.Owed.{player_owes, mail_owes, begun_ones, waiting_ones}
 use Rattle.sc_budget_law.specs.PlainClient.{begun_of, IsBegun, IsPlainClient}
 use Rattle.sc_budget_law.specs.PlainMail.{Requests, IsPlainBody, IsPlainMail}
-use Rattle.sc_budget_law.proofs.BetweenAll.{owing_of, IsNodeAt, IsClientAt, IsPlainJournal}
+use Rattle.sc_budget_law.proofs.BetweenAll.{owing_of, IsClientAt, IsPlainJournal}
 use Rattle.sc_budget_law.proofs.BetweenBegun.{IsMore}
-use Rattle.sc_budget_law.proofs.BetweenGroups.{IsGroupAt, group_idle}
+use Rattle.sc_budget_law.proofs.BetweenGroups.{group_idle}
 use Rattle.sc_budget_law.proofs.BetweenGrows.{got_grows}
 use Rattle.sc_budget_law.proofs.BetweenLeads.{each_mark}
 use Rattle.sc_budget_law.proofs.BetweenStage.{frames_of, IsStage}
 use Rattle.sc_budget_law.proofs.BetweenSteps.{node_number, client_number, each_numbered, value_others, gone_still, node_stays, client_stays, sent_more, begun_more}
 use Rattle.sc_budget_law.proofs.BetweenViews.{Journal, replica_others, replica_none}
-use Rattle.sc_budget_law.proofs.Clients.{asking, DidAsk, DidEnd, DidIgnore, ClientRow, TakesMail, Goes, client_row, go_row, unasked}
+use Rattle.sc_budget_law.proofs.Clients.{asking, DidAsk, DidEnd, ClientRow, TakesMail, Goes, client_row, go_row, unasked}
 use Rattle.sc_budget_law.proofs.Knowing.{IsRound}
 
 -- a mail for one who is no node is nothing to a group
@@ -127,8 +125,8 @@ module _ (words : ℕ → ℕ → ℕ × ℕ) (scenario : Scenario) (stage : IsS
     pub more : IsMore (IsBegun scenario rows) (IsBegun scenario (rows ++ row_of player_table (client_seat (route_of stage.first) asks) rows event ∷ []))
     more = begun_more words scenario stage rows j (row_of player_table (cseat asks) rows event) (λ other b. elim (cases_eq (client_actor other.client) (client_actor asks.client)) [
       | inl is ↦ (let same : other ≡ asks = one_client other b is in
-        subst (λ (x : Asks). begun_of (value player_table (cseat x) rows) ≤ begun_of (value player_table (cseat x) (rows ++ row_of player_table (cseat asks) rows event ∷ []))) (sym same)
-        (let before = ap begun_of c.is in let now_ = ap begun_of became in omega (arith, before, now_, grows)))
+          subst (λ (x : Asks). begun_of (value player_table (cseat x) rows) ≤ begun_of (value player_table (cseat x) (rows ++ row_of player_table (cseat asks) rows event ∷ []))) (sym same)
+          (let before = ap begun_of c.is in let now_ = ap begun_of became in omega (arith, before, now_, grows)))
       | inr ne ↦ (let same = ap begun_of (value_others words scenario stage rows j (row_of player_table (cseat asks) rows event) (cseat other) ne) in omega (arith, same))
     ])
 
@@ -166,12 +164,12 @@ module _ (words : ℕ → ℕ → ℕ × ℕ) (scenario : Scenario) (stage : IsS
           ];
           sent = sent_more words scenario stage rows j r more (subst (Each (IsPlainMail (IsBegun scenario (rows ++ r ∷ [])) (frames_of scenario))) (sym sent_is) out.said);
           groups = λ frame b.
-          group_idle words scenario rows r rest_after frame (j.groups frame b)
-          (λ node. elim (cases_eq node (client_actor asks.client)) [
-            | inl is ↦ (let none : is_node node ≡ false = ap is_node is ∙ no_node in replica_none words scenario (rows ++ r ∷ []) frame.core.id node none ∙ sym (replica_none words scenario rows frame.core.id node none))
-            | inr ne ↦ replica_others words scenario rows r frame.core.id node ne
-          ])
-          (takes frame.core.id) (λ who. subst (λ l. Each IsOther (marks_for frame.core.id who l)) (sym sent_is) (sends frame.core.id who));
+              group_idle words scenario rows r rest_after frame (j.groups frame b)
+              (λ node. elim (cases_eq node (client_actor asks.client)) [
+                | inl is ↦ (let none : is_node node ≡ false = ap is_node is ∙ no_node in replica_none words scenario (rows ++ r ∷ []) frame.core.id node none ∙ sym (replica_none words scenario rows frame.core.id node none))
+                | inr ne ↦ replica_others words scenario rows r frame.core.id node ne
+              ])
+              (takes frame.core.id) (λ who. subst (λ l. Each IsOther (marks_for frame.core.id who l)) (sym sent_is) (sends frame.core.id who));
           owes = (let p = pays sys stage.seats_apart (owing_of scenario) rows (cseat asks) event born fine paid in let o = j.owes in omega (arith, p, o));
         }
 
@@ -224,9 +222,9 @@ module _ (words : ℕ → ℕ → ℕ × ℕ) (scenario : Scenario) (stage : IsS
         client_after (Deliver number) fine (table c.client (Got first.mail)) got_is got_more (has_gone rows (client_actor asks.client))
         (gone_still words scenario stage rows j (row_of player_table (cseat asks) rows (Deliver number)) (client_actor asks.client) refl) takes.row marks_taken others_sent
         (λ mail sent. (
-          let same : first.mail ≡ mail = (let e : Some first.mail ≡ Some mail = sym first.sent ∙ sent in cc) in
-          subst (λ m. 1 + owed_by (owing_of scenario) (player_table (value player_table (cseat asks) rows) (Got m)) ≤ player_owes (length (frames_of scenario)) (value player_table (cseat asks) rows) + mail_owes m) same
-          (subst (λ p. 1 + owed_by (owing_of scenario) (player_table p (Got first.mail)) ≤ player_owes (length (frames_of scenario)) p + mail_owes first.mail) (sym c.is) takes.owed)))
+        let same : first.mail ≡ mail = (let e : Some first.mail ≡ Some mail = sym first.sent ∙ sent in cc) in
+        subst (λ m. 1 + owed_by (owing_of scenario) (player_table (value player_table (cseat asks) rows) (Got m)) ≤ player_owes (length (frames_of scenario)) (value player_table (cseat asks) rows) + mail_owes m) same
+        (subst (λ p. 1 + owed_by (owing_of scenario) (player_table p (Got first.mail)) ≤ player_owes (length (frames_of scenario)) p + mail_owes first.mail) (sym c.is) takes.owed)))
 
   -- ---- a client is told to go
 

@@ -1,7 +1,7 @@
 -- What a row of a plain group's replica does, as marks, by its mail.
-use Rattle.std.proofs.Common.{◌≡◌, ℕ, ◌+◌, ◌-◌, ◌<◌, ◌≤◌, eqb, Bool, true, false, cond, List, [], ◌∷◌, ◌++◌, Option, Some, None, ◌⊎◌, inl, inr, refl, sym, ◌∙◌, ap, subst, arith}
+use Rattle.std.proofs.Common.{◌≡◌, ℕ, ◌+◌, ◌<◌, cond, List, [], ◌∷◌, inl, inr, refl, sym, ◌∙◌, ap, subst, arith}
 use Rattle.std.proofs.lemmas.Bool.{cases_lt, cases_eq, cond-true}
-use Rattle.sc_base.specs.Among.{Among, Each}
+use Rattle.sc_base.specs.Among.{Each}
 use Rattle.sc_base.specs.Limits.{client_actor}
 use Rattle.sc_base.specs.Same.{same_draw}
 use Rattle.sc_base.specs.declared.names.Draw.{Draw}
@@ -19,7 +19,7 @@ use Rattle.sc_budget_law.specs.PlainMail.{Requests, IsPlainBody}
 use Rattle.sc_budget_law.specs.PlainNode.{AreTaken}
 use Rattle.sc_budget_law.proofs.BetweenLeads.{each_mark}
 use Rattle.sc_budget_law.proofs.BetweenReplicas.{idle_moves, accept_moves, learn_moves, counted_moves, asked_moves}
-use Rattle.sc_budget_law.proofs.Counts.{one_if, one_yes, one_no}
+use Rattle.sc_budget_law.proofs.Counts.{one_yes, one_no}
 use Rattle.sc_budget_law.proofs.Leading.{in_range, range_yes, range_behind}
 use Rattle.sc_budget_law.proofs.ReplicaRows.{Does}
 use Rattle.sc_budget_law.proofs.Sends.{mail_of}
@@ -34,10 +34,10 @@ taken_once r one two a b = elim (cases_lt one two) [
     differ : (low high : ℕ) → low < high → AreTaken r low → AreTaken r high → ⊥
     differ low high lt x y =
         (let first = x.once (next r + low) in
-          let second = y.once (next r + low) in
-          let none = one_no (in_range (next r) low (next r + low)) (range_behind (next r) low (next r + low) (omega arith)) in
-          let some = one_yes (in_range (next r) high (next r + low)) (range_yes (next r) high (next r + low) (omega arith) (omega (arith, lt))) in
-          omega (arith, first, second, none, some))
+        let second = y.once (next r + low) in
+        let none = one_no (in_range (next r) low (next r + low)) (range_behind (next r) low (next r + low) (omega arith)) in
+        let some = one_yes (in_range (next r) high (next r + low)) (range_yes (next r) high (next r + low) (omega arith) (omega (arith, lt))) in
+        omega (arith, first, second, none, some))
 
 module _ (begun : Requests) (frame : Frame) (is : IsFrame frame) where
   abbrev name : Draw
@@ -69,7 +69,7 @@ module _ (begun : Requests) (frame : Frame) (is : IsFrame frame) where
       let moves = accept_moves frame me r taken place.0 slot does.next_is does.flights_are in
       let counted : MovesBy frame me r taken place.0 after (Asks slot) (mail_of me frame.lead (Accepted frame.core.id frame.ballot slot) ∷ []) = elim (cases_eq me frame.lead) [
         | inl lead ↦ (let same : taken ≡ after = taken_once place.0 taken after (does.slots taken (slots lead)) (slots' lead) in
-          subst (λ t. MovesBy frame me r taken place.0 t (Asks slot) (mail_of me frame.lead (Accepted frame.core.id frame.ballot slot) ∷ [])) same moves)
+            subst (λ t. MovesBy frame me r taken place.0 t (Asks slot) (mail_of me frame.lead (Accepted frame.core.id frame.ballot slot) ∷ [])) same moves)
         | inr follows ↦ (λ one two v w own. moves one two v (record { bound = λ e. absurd (follows e); voters = λ e. absurd (follows e); next = w.next }) own)
       ] in
       subst (λ m. MovesBy frame me r taken place.0 after m place.1) (sym (here group (Asks slot) b.0)) (subst (λ (l : List Mail). MovesBy frame me r taken place.0 after (Asks slot) l) (sym sends) counted)

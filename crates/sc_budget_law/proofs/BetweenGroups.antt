@@ -1,9 +1,7 @@
 -- What stands between the leader of each group and its nodes, after a row of a node.
-use Rattle.std.proofs.Common.{◌≡◌, ℕ, zero, suc, ◌+◌, ◌-◌, ◌<◌, ◌≤◌, eqb, leb, ◌&&◌, Bool, true, false, true≢false, cond, List, [], ◌∷◌, ◌++◌, map, drop, Option, Some, None, ◌⊎◌, inl, inr, refl, sym, ◌∙◌, ap, subst, arith}
-use Rattle.std.specs.List.{filter}
-use Rattle.std.proofs.lemmas.Bool.{cases_Bool, cases_eq, cond-true, cond-false, ne_eqb, eq-eqb, eqb-true, and_from, and_left, and_right, le-leb, lt-leb, both_ways}
+use Rattle.std.proofs.Common.{◌≡◌, ℕ, zero, suc, ◌+◌, true, false, cond, List, [], ◌∷◌, ◌++◌, map, drop, Some, inl, inr, refl, sym, ◌∙◌, ap, subst}
+use Rattle.std.proofs.lemmas.Bool.{cases_Bool, cases_eq, cond-true, cond-false, both_ways}
 use Rattle.sc_base.specs.Among.{Among, Each}
-use Rattle.sc_base.specs.Limits.{most_nodes}
 use Rattle.sc_base.specs.Same.{same_draw}
 use Rattle.sc_base.specs.declared.names.Draw.{Draw}
 use Rattle.sc_base.proofs.NameLemmas.{draw_is, same_name}
@@ -15,26 +13,25 @@ use Rattle.sc_actor.specs.declared.rows.Row.{Row}
 use Rattle.sc_actor.specs.Mail.{is_delivery}
 use Rattle.sc_actor.specs.Replay.{value}
 use Rattle.sc_member.specs.Roster.{is_member}
-use Rattle.sc_paxos_words.proofs.ListLemmas.{Each-weaker}
 use Rattle.sc_node_table.specs.Node.{NodeState, replica_of, is_node}
-use Rattle.sc_node_table.specs.Replica.{ReplicaState, Place, next}
+use Rattle.sc_node_table.specs.Replica.{ReplicaState, next}
 use Rattle.sc_node_table.specs.Slots.{numbers_from}
 use Rattle.sc_scenario.specs.declared.scenarios.Scenario.{Scenario}
-use Rattle.sc_sound.specs.Players.{Player, player_table, node_seat, system_of, as_nodes}
-use Rattle.sc_sound.specs.declared.roles.Role.TheVariants.{Node, Client}
+use Rattle.sc_sound.specs.Players.{player_table, node_seat, system_of, as_nodes}
+use Rattle.sc_sound.specs.declared.roles.Role.TheVariants.{Node}
 use Rattle.sc_orderly_law.specs.Orderly.{rest, mail_for, taken}
-use Rattle.sc_budget_law.specs.Frames.{Frame, IsFrame, AreNamedApart}
-use Rattle.sc_budget_law.specs.Between.{Mark, Asks, Votes, Tells, Other, mark_of, mark, told, AreInOrder, View, IsLearning, IsBetween}
-use Rattle.sc_budget_law.specs.BetweenJournal.{marks_for, replicas_of, replica_at, next_in, votes_in, view_at, marks_at}
-use Rattle.sc_budget_law.specs.BetweenRows.{IsOther, Moves, How, IsViewAt, IsOwn, MovesBy, IsTaken}
-use Rattle.sc_budget_law.specs.PlainMail.{Requests, IsPlainBody, IsPlainMail}
+use Rattle.sc_budget_law.specs.Frames.{Frame}
+use Rattle.sc_budget_law.specs.Between.{Mark, Asks, Votes, Tells, Other, mark_of, mark, told, AreInOrder, IsBetween}
+use Rattle.sc_budget_law.specs.BetweenJournal.{marks_for, replica_at, next_in, votes_in, view_at, marks_at}
+use Rattle.sc_budget_law.specs.BetweenRows.{IsOther, How, IsTaken}
+use Rattle.sc_budget_law.specs.PlainMail.{Requests, IsPlainBody}
 use Rattle.sc_budget_law.specs.PlainNode.{AreTaken, IsPlainNode, IsSettled}
-use Rattle.sc_budget_law.proofs.BetweenDoes.{does_moves, taken_once}
+use Rattle.sc_budget_law.proofs.BetweenDoes.{does_moves}
 use Rattle.sc_budget_law.proofs.BetweenLeads.{each_mark}
 use Rattle.sc_budget_law.proofs.BetweenStage.{frames_of, IsStage}
 use Rattle.sc_budget_law.proofs.BetweenViews.{Journal, between_after, replica_others, replica_is}
 use Rattle.sc_budget_law.proofs.NodeRows.{NodeRow, found_after, others_after}
-use Rattle.sc_budget_law.proofs.ReplicaRows.{IsDue, ReplicaRow}
+use Rattle.sc_budget_law.proofs.ReplicaRows.{IsDue}
 
 -- a mail of one group is nothing to another
 pub other_mark : (begun : Requests) (frame : Frame) (name : Draw) (from to : ℕ) (body : MailBody) → (name ≡ frame.core.id → ⊥) → IsPlainBody begun frame from to body → mark_of name from body ≡ Other
@@ -171,7 +168,7 @@ module _ (words : ℕ → ℕ → ℕ × ℕ) (scenario : Scenario) where
           ])
           (subst (λ m. IsTaken m (marks_at words scenario rows frame.core.id row.who) (drop (cond (is_delivery row.event) 1 0) (marks_at words scenario rows frame.core.id row.who))) (other_mark begun k.frame frame.core.id mail.from mail.to mail.body ne k.says) (takes_first frame.core.id))
           (λ who. subst (λ l. Each IsOther (marks_for frame.core.id who l)) (sym (sends ∙ ap (λ (x : NodeState × List Mail). x.1) k.after_is))
-            (each_mark IsOther (λ (m : Mail). IsPlainBody begun k.frame m.from m.to m.body) frame.core.id who (λ m b. other_mark begun k.frame frame.core.id m.from m.to m.body ne b) k.place.1 k.row.said))
+          (each_mark IsOther (λ (m : Mail). IsPlainBody begun k.frame m.from m.to m.body) frame.core.id who (λ m b. other_mark begun k.frame frame.core.id m.from m.to m.body ne b) k.place.1 k.row.said))
 
       -- in its group: how many slots are taken after it
       record IsAfter (g : IsGroupAt rows k.frame) : Type 0 where
@@ -214,13 +211,13 @@ module _ (words : ℕ → ℕ → ℕ × ℕ) (scenario : Scenario) where
           let slots_now : node.me ≡ k.frame.lead → AreTaken k.r g.taken = λ e. (let same : g.r ≡ k.r = (let some : Some g.r ≡ Some k.r = sym g.there ∙ lead_now e in cc) in subst (λ x. AreTaken x g.taken) same g.slots) in
           let moves = does_moves begun k.frame (stage.are k.frame k.is_frame) node.me k.r g.taken mail.from mail.body k.place a.taken (subst (λ t. IsPlainBody begun k.frame mail.from t mail.body) to k.says) k.row.does slots_now a.own in
           let how : How k.frame now then_ node.me (mark k.frame.core.id mail) (λ who. marks_for k.frame.core.id who k.place.1) =
-              moves now then_
-              (record { bound = λ e. ap (λ o. next_in o + g.taken) (lead_now e); voters = λ e slot. ap (λ o. votes_in o slot) (lead_now e); next = ap next_in here })
-              (record { bound = λ e. ap (λ o. next_in o + a.taken) (lead_then e); voters = λ e slot. ap (λ o. votes_in o slot) (lead_then e); next = ap next_in found_now })
-              (record {
-                bound = λ ne. ap (λ o. next_in o + a.taken) (others_stay k.frame.core.id k.frame.lead (λ e. ne (sym e))) ∙ ap (λ t. next_in (replica_at scenario rows k.frame.core.id k.frame.lead) + t) (a.same ne);
-                voters = λ ne slot. ap (λ o. votes_in o slot) (others_stay k.frame.core.id k.frame.lead (λ e. ne (sym e)));
-              }) in
+          moves now then_
+          (record { bound = λ e. ap (λ o. next_in o + g.taken) (lead_now e); voters = λ e slot. ap (λ o. votes_in o slot) (lead_now e); next = ap next_in here })
+          (record { bound = λ e. ap (λ o. next_in o + a.taken) (lead_then e); voters = λ e slot. ap (λ o. votes_in o slot) (lead_then e); next = ap next_in found_now })
+          (record {
+            bound = λ ne. ap (λ o. next_in o + a.taken) (others_stay k.frame.core.id k.frame.lead (λ e. ne (sym e))) ∙ ap (λ t. next_in (replica_at scenario rows k.frame.core.id k.frame.lead) + t) (a.same ne);
+            voters = λ ne slot. ap (λ o. votes_in o slot) (others_stay k.frame.core.id k.frame.lead (λ e. ne (sym e)));
+          }) in
           let said : row.sent ≡ k.place.1 = sends ∙ ap (λ (x : NodeState × List Mail). x.1) k.after_is in
           record {
             taken = a.taken;
@@ -238,6 +235,6 @@ module _ (words : ℕ → ℕ → ℕ × ℕ) (scenario : Scenario) where
       pub group_after : (frame : Frame) → Among frame (frames_of scenario) → IsGroupAt rows frame → IsGroupAt (rows ++ row ∷ []) frame
       group_after frame a g = elim (cases_Bool (same_draw frame.core.id k.frame.core.id)) [
         | inl t ↦ (let same : k.frame ≡ frame = stage.apart k.frame frame k.is_frame a (sym (draw_is frame.core.id k.frame.core.id t)) in
-          subst (IsGroupAt (rows ++ row ∷ [])) same (own_group (subst (IsGroupAt rows) (sym same) g)))
+            subst (IsGroupAt (rows ++ row ∷ [])) same (own_group (subst (IsGroupAt rows) (sym same) g)))
         | inr f ↦ other_group frame (λ e. both_ways (same_draw frame.core.id k.frame.core.id) f (same_name frame.core.id k.frame.core.id e)) g
       ]

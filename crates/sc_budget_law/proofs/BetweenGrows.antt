@@ -1,18 +1,17 @@
 -- A client never has fewer requests begun.
-use Rattle.std.proofs.Common.{◌≡◌, ℕ, ◌+◌, ◌<◌, ◌≤◌, eqb, leb, Bool, true, false, true≢false, cond, List, [], ◌∷◌, ◌++◌, length, Option, Some, None, refl, sym, ◌∙◌, ap, arith}
+use Rattle.std.proofs.Common.{◌≡◌, ℕ, ◌+◌, ◌≤◌, true, cond, [], ◌∷◌, ◌++◌, length, Option, Some, None, refl, arith}
 use Rattle.std.specs.Prelude.{nat_le}
 use Rattle.std.proofs.lemmas.Bool.{cond_both}
 use Rattle.std.proofs.lemmas.List.{length_push}
 use Rattle.sc_base.specs.declared.names.Draw.{Draw}
 use Rattle.sc_base.specs.declared.ops.Op.{Op}
-use Rattle.sc_base.specs.declared.ops.Reply.{Reply}
 use Rattle.sc_mail.specs.declared.bodies.AnswerBody.{AnswerBody}
 use Rattle.sc_mail.specs.declared.bodies.AnswerBody.TheVariants.{Value, NotLeader, NotMine, Gone, Stale}
 use Rattle.sc_mail.specs.declared.bodies.MailBody.{MailBody}
 use Rattle.sc_mail.specs.declared.bodies.MailBody.TheVariants.{Request, Answer, Prepare, Promise, Accept, Accepted, Nack, Learn, Ask, Install, TxPrepare, TxVote, TxOutcome, TxElsewhere, TxWatch, TxWatched, Told}
 use Rattle.sc_lookup.specs.Known.{target_in, preferring, passed_on, told_not_mine, told_gone}
 use Rattle.sc_client_table.specs.Client.{Client, waiting_request}
-use Rattle.sc_client_table.specs.Table.{asked_of, sent_to, sent_where, chosen_for, request_sent, started, turned_on, waits_for, was_asked, redirected, answer_taken, got}
+use Rattle.sc_client_table.specs.Table.{asked_of, sent_where, chosen_for, request_sent, started, waits_for, was_asked, redirected, answer_taken, got}
 use Rattle.sc_budget_law.specs.Owed.{waiting_ones, begun_ones}
 
 asked_same : (client : Client) (group : Draw) (target : Option ℕ) (request : Option (ℕ × Op)) → begun_ones (asked_of client group target request).0 ≡ begun_ones client

@@ -1,9 +1,9 @@
 -- What a row of a leader does, as marks: of what the leader executed and offered in it.
-use Rattle.std.proofs.Common.{◌≡◌, ℕ, zero, suc, ◌+◌, ◌-◌, ◌<◌, ◌≤◌, ◌||◌, eqb, Bool, true, false, cond, List, [], ◌∷◌, ◌++◌, length, map, count_by, Option, Some, None, ◌⊎◌, inl, inr, refl, sym, ◌∙◌, ap, subst, arith}
+use Rattle.std.proofs.Common.{◌≡◌, ℕ, ◌+◌, ◌-◌, ◌<◌, ◌≤◌, ◌||◌, eqb, Bool, true, cond, List, [], ◌∷◌, ◌++◌, map, Option, Some, None, ◌⊎◌, inl, inr, refl, sym, ◌∙◌, ap, subst, arith}
 use Rattle.std.specs.Prelude.{find}
 use Rattle.std.specs.Option.{option_map}
-use Rattle.std.specs.List.{filter, flat_map}
-use Rattle.std.proofs.lemmas.Bool.{cases_lt, cases_eq, cases_Bool, cond_both, cond-true, cond-false, eqb-true, eq-eqb, ne_eqb, both_ways}
+use Rattle.std.specs.List.{filter}
+use Rattle.std.proofs.lemmas.Bool.{cases_lt, cases_Bool, cond_both, cond-true, cond-false, eqb-true, eq-eqb, ne_eqb}
 use Rattle.sc_base.specs.Among.{Among, Each}
 use Rattle.sc_base.specs.Same.{same_draw}
 use Rattle.sc_base.specs.declared.names.Draw.{Draw}
@@ -17,17 +17,17 @@ use Rattle.sc_paxos_words.specs.declared.flights.Flight.{Flight}
 use Rattle.sc_paxos_words.specs.Leaders.{flight_at}
 use Rattle.sc_paxos_words.specs.Votes.{kept_voters}
 use Rattle.sc_paxos_words.proofs.ListLemmas.{Each-among, find_found}
-use Rattle.sc_node_table.specs.Replica.{ReplicaState, Place, next}
+use Rattle.sc_node_table.specs.Replica.{Place, next}
 use Rattle.sc_node_table.specs.Slots.{numbers_from}
 use Rattle.sc_budget_law.specs.Frames.{Frame}
 use Rattle.sc_budget_law.specs.Between.{Mark, Asks, Votes, Tells, Other, mark_of, mark, told, View}
 use Rattle.sc_budget_law.specs.BetweenJournal.{voters_in, marks_for}
-use Rattle.sc_budget_law.specs.BetweenRows.{IsNew as IsNewMark, IsCount, IsElsewhere, IsOffered, IsCounted, Leads as LeadsTo}
+use Rattle.sc_budget_law.specs.BetweenRows.{IsNew as IsNewMark, IsCount, IsElsewhere, Leads as LeadsTo}
 use Rattle.sc_budget_law.specs.PlainMail.{Requests}
-use Rattle.sc_budget_law.specs.PlainNode.{takers, AreTaken}
-use Rattle.sc_budget_law.proofs.Counts.{one_if, one_yes, one_no, count-cons, find_none, find_some, found_one, entries_at}
-use Rattle.sc_budget_law.proofs.Leading.{in_range, range_yes, range_before, range_behind, flights_at, InRow, IsSaid, IsNew, Leads}
-use Rattle.sc_budget_law.proofs.Sends.{mail_of, learns_of, learns_for, learns_to, member_or_among}
+use Rattle.sc_budget_law.specs.PlainNode.{takers}
+use Rattle.sc_budget_law.proofs.Counts.{one_yes, one_no, count-cons, find_some, found_one, entries_at}
+use Rattle.sc_budget_law.proofs.Leading.{in_range, range_yes, range_before, range_behind, InRow, IsSaid, IsNew, Leads}
+use Rattle.sc_budget_law.proofs.Sends.{mail_of, learns_of, learns_to}
 
 -- ---- marks of what is sent
 
@@ -123,11 +123,11 @@ module _ (held begins : List (Flight Command)) (free : ℕ) (new : Each (IsNew f
       by None f k = cc
       by (Some flight) f k =
           (let found = find_found (λ (x : Flight Command). eqb x.slot slot) begins flight f in
-            let is = Each-among (IsNew free) begins flight new found.0 in
-            let late = is.late in
-            let at = eqb-true flight.slot slot found.1 in
-            let none : Some (kept_voters flight.voters) ≡ Some [] = ap (λ v. Some (kept_voters v)) is.unvoted in
-            (omega (arith, late, at), (let e : Some voters ≡ Some [] = sym k ∙ none in cc)))
+          let is = Each-among (IsNew free) begins flight new found.0 in
+          let late = is.late in
+          let at = eqb-true flight.slot slot found.1 in
+          let none : Some (kept_voters flight.voters) ≡ Some [] = ap (λ v. Some (kept_voters v)) is.unvoted in
+          (omega (arith, late, at), (let e : Some voters ≡ Some [] = sym k ∙ none in cc)))
 
   votes_split : (slot : ℕ) (voters : List ℕ) → voters_in (held ++ begins) slot ≡ Some voters → (voters_in held slot ≡ Some voters) ⊎ ((free ≤ slot) × (voters ≡ []))
   votes_split slot voters e = by (flight_at slot held) refl
@@ -204,10 +204,10 @@ module _ (begun : Requests) (frame : Frame) (first free : ℕ) (flights held : L
       no_ready [] e = refl
       no_ready (x ∷ es) e =
           (let c = count-cons (λ (y : ℕ × Command). eqb y.0 slot) x es in
-            let low = e.0 in
-            let no_ = one_no (eqb x.0 slot) (ne_eqb x.0 slot (λ same. absurd (omega (arith, same, low, least)))) in
-            let rest = no_ready es e.1 in
-            omega (arith, c, no_, rest))
+          let low = e.0 in
+          let no_ = one_no (eqb x.0 slot) (ne_eqb x.0 slot (λ same. absurd (omega (arith, same, low, least)))) in
+          let rest = no_ready es e.1 in
+          omega (arith, c, no_, rest))
 
   -- what the row does, as marks
   pub leads_moves : (now after : View) (mark_taken : Mark) → now.next frame.lead ≡ first → now.bound ≡ free → ((slot : ℕ) → now.voters slot ≡ voters_in flights slot) →
@@ -230,20 +230,20 @@ module _ (begun : Requests) (frame : Frame) (first free : ℕ) (flights held : L
         flying = λ slot voters e. (let is = flight_low slot voters (sym (v' slot) ∙ e) in let on_ = is.0 in omega (arith, n', on_));
         kept = λ slot voters e away. v' slot ∙ (ap (λ fs. voters_in fs slot) k.flights_are ∙ votes_kept held k.begins free k.new slot voters (on.kept slot voters (sym (v slot) ∙ e) away));
         grown = λ slot voters e.
-        (let now_ : voters_in place.0.leader.flights slot ≡ Some voters = sym (v' slot) ∙ e in
-          let range = flight_low slot voters now_ in
-          elim (votes_split held k.begins free k.new slot voters (ap (λ fs. voters_in fs slot) (sym k.flights_are) ∙ now_)) [
-            | inl old ↦ (let was = on.before slot voters old in inr (record { before = was.0; flew = v slot ∙ was.1; keeps = was.2; counts = was.3 }))
-            | inr new ↦ (
-                let least = new.0 in
-                inl (record {
-                  from = omega (arith, b, least);
-                  none = new.1;
-                  asks = λ node m. (let offer = k.offers slot node new.0 range.1 (among_member node (frame.at slot) m) in
-                    subst (λ x. Among x (sends node)) (cond-true (same_draw name name) (Asks slot) Other (same_name name name refl))
-                    (mark_among name node place.1 (mail_of frame.lead node (Accept name frame.ballot slot offer.0)) refl offer.1));
-                }))
-          ]);
+            (let now_ : voters_in place.0.leader.flights slot ≡ Some voters = sym (v' slot) ∙ e in
+            let range = flight_low slot voters now_ in
+            elim (votes_split held k.begins free k.new slot voters (ap (λ fs. voters_in fs slot) (sym k.flights_are) ∙ now_)) [
+              | inl old ↦ (let was = on.before slot voters old in inr (record { before = was.0; flew = v slot ∙ was.1; keeps = was.2; counts = was.3 }))
+              | inr new ↦ (
+                  let least = new.0 in
+                  inl (record {
+                    from = omega (arith, b, least);
+                    none = new.1;
+                    asks = λ node m. (let offer = k.offers slot node new.0 range.1 (among_member node (frame.at slot) m) in
+                        subst (λ x. Among x (sends node)) (cond-true (same_draw name name) (Asks slot) Other (same_name name name refl))
+                        (mark_among name node place.1 (mail_of frame.lead node (Accept name frame.ballot slot offer.0)) refl offer.1));
+                  }))
+            ]);
       }
     where
       among_member : (node : ℕ) (members : List ℕ) → is_member members node ≡ true → Among node members

@@ -1,5 +1,5 @@
 -- Marks in order: the first is taken, and others come behind.
-use Rattle.std.proofs.Common.{◌≡◌, ℕ, zero, suc, ◌+◌, ◌<◌, ◌≤◌, max, List, [], ◌∷◌, ◌++◌, ◌⊎◌, inl, inr, refl, sym, ◌∙◌, ap, subst, arith}
+use Rattle.std.proofs.Common.{◌≡◌, ℕ, zero, suc, ◌+◌, ◌≤◌, max, List, [], ◌∷◌, ◌++◌, ◌⊎◌, inl, inr, refl, sym, ◌∙◌, ap, subst, arith}
 use Rattle.sc_base.specs.Among.{Among, Each}
 use Rattle.sc_paxos_words.proofs.ListLemmas.{Each-append}
 use Rattle.sc_node_table.specs.Slots.{numbers_from}
@@ -122,8 +122,8 @@ pub numbers-append : (from one two : ℕ) → numbers_from from (one + two) ≡ 
 numbers-append from zero two = (let a : zero + two ≡ two = omega arith in let b : from + zero ≡ from = omega arith in rw (a, b) refl)
 numbers-append from (suc one) two =
     (let a : suc one + two ≡ suc (one + two) = omega arith in
-      let b : from + suc one ≡ from + 1 + one = omega arith in
-      rw (a, b) (ap (λ t. from ∷ t) (numbers-append (from + 1) one two)))
+    let b : from + suc one ≡ from + 1 + one = omega arith in
+    rw (a, b) (ap (λ t. from ∷ t) (numbers-append (from + 1) one two)))
 
 -- ---- elements
 

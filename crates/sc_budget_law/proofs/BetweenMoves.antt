@@ -1,12 +1,12 @@
 -- A row keeps what stands between the leader of a group and its nodes.
-use Rattle.std.proofs.Common.{◌≡◌, ℕ, zero, suc, ◌+◌, ◌<◌, ◌≤◌, max, eqb, Bool, true, false, List, [], ◌∷◌, ◌++◌, Option, Some, None, ◌⊎◌, inl, inr, refl, sym, ◌∙◌, ap, subst, arith, append-nil}
+use Rattle.std.proofs.Common.{◌≡◌, ℕ, zero, suc, ◌+◌, ◌<◌, ◌≤◌, max, true, List, [], ◌∷◌, ◌++◌, Some, ◌⊎◌, inl, inr, refl, sym, ◌∙◌, ap, subst, arith, append-nil}
 use Rattle.std.proofs.lemmas.Bool.{cases_eq}
 use Rattle.sc_base.specs.Among.{Among, Each}
 use Rattle.sc_member.specs.Roster.{is_member}
 use Rattle.sc_node_table.specs.Slots.{numbers_from}
 use Rattle.sc_budget_law.specs.Frames.{Frame}
 use Rattle.sc_budget_law.specs.Between.{Mark, Asks, Votes, Tells, Other, AreInOrder, IsBelow, told, View, IsLearning, IsVoting, IsBetween}
-use Rattle.sc_budget_law.specs.BetweenRows.{IsNew, IsOther, IsIdle, Accepts, Learns, IsCount, IsElsewhere, IsOffered, IsCounted, Leads, Moves, IsTaken}
+use Rattle.sc_budget_law.specs.BetweenRows.{IsNew, IsIdle, Accepts, Learns, IsCount, IsElsewhere, IsOffered, IsCounted, Leads, Moves, IsTaken}
 use Rattle.sc_budget_law.proofs.BetweenLists.{order-lower, order-tail, order-asks, order-append, order-raise, order-new, below-append, below-among, other-new, other-asks, asks≢other, votes≢other, told-append, told-other, numbers-append, among-left, among-right, among-split}
 
 -- ---- what is left after the first is taken
@@ -73,12 +73,11 @@ learning_at from to from' to' marks e f l = subst (λ n. IsLearning n to' marks)
 
 module _ (frame : Frame) (now after : View) (node : ℕ) (taken : Mark) (sent marks marks' : ℕ → List Mark) (left : List Mark)
     (was : IsBetween frame now marks) (takes : IsTaken taken (marks node) left) (own : marks' node ≡ left ++ sent node) (others : (who : ℕ) → (who ≡ node → ⊥) → marks' who ≡ marks who ++ sent who) where
-
   -- what is under way to one was so before and is not taken, or is sent
   came : (who : ℕ) (mark : Mark) → Among mark (marks' who) → Among mark (marks who) ⊎ Among mark (sent who)
   came who mark a = elim (cases_eq who node) [
     | inl is ↦ (let b = among-split mark left (sent node) (subst (Among mark) (ap marks' is ∙ own) a) in
-      elim b [ inl c ↦ inl (subst (λ n. Among mark (marks n)) (sym is) (left_among taken (marks node) left mark takes c)) | inr c ↦ inr (subst (λ n. Among mark (sent n)) (sym is) c) ])
+        elim b [ inl c ↦ inl (subst (λ n. Among mark (marks n)) (sym is) (left_among taken (marks node) left mark takes c)) | inr c ↦ inr (subst (λ n. Among mark (sent n)) (sym is) c) ])
     | inr ne ↦ among-split mark (marks who) (sent who) (subst (Among mark) (others who ne) a)
   ]
 
@@ -103,17 +102,17 @@ module _ (frame : Frame) (now after : View) (node : ℕ) (taken : Mark) (sent ma
   order-row : (low bound to : ℕ) (who : ℕ) → AreInOrder low (marks who) → Each (IsBelow bound) (marks who) → low ≤ bound → Each (IsNew bound to) (sent who) → AreInOrder low (marks' who)
   order-row low bound to who o below le new = elim (cases_eq who node) [
     | inl is ↦ (let o' = left_order low taken (marks node) left takes (subst (λ n. AreInOrder low (marks n)) is o) in
-      let b' = left_each (IsBelow bound) taken (marks node) left takes (subst (λ n. Each (IsBelow bound) (marks n)) is below) in
-      let n' = subst (λ n. Each (IsNew bound to) (sent n)) is new in
-      subst (AreInOrder low) (sym (ap marks' is ∙ own)) (order-append low bound left (sent node) o' b' le (order-new bound to (sent node) n')))
+        let b' = left_each (IsBelow bound) taken (marks node) left takes (subst (λ n. Each (IsBelow bound) (marks n)) is below) in
+        let n' = subst (λ n. Each (IsNew bound to) (sent n)) is new in
+        subst (AreInOrder low) (sym (ap marks' is ∙ own)) (order-append low bound left (sent node) o' b' le (order-new bound to (sent node) n')))
     | inr ne ↦ subst (AreInOrder low) (sym (others who ne)) (order-append low bound (marks who) (sent who) o below le (order-new bound to (sent who) new))
   ]
 
   below-row : (bound to : ℕ) (who : ℕ) → bound ≤ to → Each (IsBelow bound) (marks who) → Each (IsNew bound to) (sent who) → Each (IsBelow to) (marks' who)
   below-row bound to who le below new = elim (cases_eq who node) [
     | inl is ↦ (let b' = left_each (IsBelow bound) taken (marks node) left takes (subst (λ n. Each (IsBelow bound) (marks n)) is below) in
-      let n' = subst (λ n. Each (IsNew bound to) (sent n)) is new in
-      subst (Each (IsBelow to)) (sym (ap marks' is ∙ own)) (below-append bound to left (sent node) le b' n'))
+        let n' = subst (λ n. Each (IsNew bound to) (sent n)) is new in
+        subst (Each (IsBelow to)) (sym (ap marks' is ∙ own)) (below-append bound to left (sent node) le b' n'))
     | inr ne ↦ subst (Each (IsBelow to)) (sym (others who ne)) (below-append bound to (marks who) (sent who) le below new)
   ]
 
@@ -140,8 +139,8 @@ module _ (frame : Frame) (now after : View) (node : ℕ) (taken : Mark) (sent ma
         let never : (who slot : ℕ) → who ≡ node → taken ≡ Tells slot → ⊥ = λ who slot is e. (let bad : Tells slot ≡ Other = sym e ∙ i.takes in cc) in
         record {
           learners = λ who member follows.
-          learning_at (now.next who) (now.next frame.lead) (after.next who) (after.next frame.lead) (marks' who) (next who) (next frame.lead)
-          (learning_same (now.next who) (now.next frame.lead) (marks who) (marks' who) (told-row who (never who) ∙ (ap (λ t. told (marks who) ++ t) (told-other (sent who) (i.sends who)) ∙ append-nil (told (marks who)))) (was.learners who member follows));
+              learning_at (now.next who) (now.next frame.lead) (after.next who) (after.next frame.lead) (marks' who) (next who) (next frame.lead)
+              (learning_same (now.next who) (now.next frame.lead) (marks who) (marks' who) (told-row who (never who) ∙ (ap (λ t. told (marks who) ++ t) (told-other (sent who) (i.sends who)) ∙ append-nil (told (marks who)))) (was.learners who member follows));
           order = λ who. subst (λ n. AreInOrder n (marks' who)) (sym (next who)) (order-row (now.next who) now.bound now.bound who (was.order who) (was.below who) (was.low who) (new who));
           below = λ who. subst (λ n. Each (IsBelow n) (marks' who)) (sym i.bound) (below-row now.bound now.bound who (omega arith) (was.below who) (new who));
           low = λ who. (let le = was.low who in let e = next who in let b = i.bound in omega (arith, le, e, b));
@@ -167,8 +166,8 @@ module _ (frame : Frame) (now after : View) (node : ℕ) (taken : Mark) (sent ma
         let silent : (who : ℕ) → told (sent who) ≡ [] = λ who. elim (cases_eq who frame.lead) [ inl is ↦ ap (λ n. told (sent n)) is ∙ ap told i.lead | inr ne ↦ told-other (sent who) (i.others who ne) ] in
         record {
           learners = λ who member follows.
-          learning_at (now.next who) (now.next frame.lead) (after.next who) (after.next frame.lead) (marks' who) (next who) (next frame.lead)
-          (learning_same (now.next who) (now.next frame.lead) (marks who) (marks' who) (told-row who (never who) ∙ (ap (λ t. told (marks who) ++ t) (silent who) ∙ append-nil (told (marks who)))) (was.learners who member follows));
+              learning_at (now.next who) (now.next frame.lead) (after.next who) (after.next frame.lead) (marks' who) (next who) (next frame.lead)
+              (learning_same (now.next who) (now.next frame.lead) (marks who) (marks' who) (told-row who (never who) ∙ (ap (λ t. told (marks who) ++ t) (silent who) ∙ append-nil (told (marks who)))) (was.learners who member follows));
           order = λ who. subst (λ n. AreInOrder n (marks' who)) (sym (next who)) (order-row (now.next who) now.bound now.bound who (was.order who) (was.below who) (was.low who) (new who));
           below = λ who. subst (λ n. Each (IsBelow n) (marks' who)) (sym i.bound) (below-row now.bound now.bound who (omega arith) (was.below who) (new who));
           low = λ who. (let le = was.low who in let e = next who in let b = i.bound in omega (arith, le, e, b));
@@ -188,9 +187,9 @@ module _ (frame : Frame) (now after : View) (node : ℕ) (taken : Mark) (sent ma
         voting slot voters member (inl v) i = inl v
         voting slot voters member (inr (inl a)) i = elim (stays member (Asks slot) a) [
           | inl both ↦ (let same : Asks i.slot ≡ Asks slot = sym i.takes ∙ both.1 in
-            let at : i.slot ≡ slot = cc in
-            let vote : Votes node i.slot ≡ Votes member slot = ap (λ n. Votes n i.slot) (sym both.0) ∙ ap (λ t. Votes member t) at in
-            inr (inr (goes frame.lead (Votes member slot) (subst (Among (Votes member slot)) (sym i.lead) (inl vote)))))
+              let at : i.slot ≡ slot = cc in
+              let vote : Votes node i.slot ≡ Votes member slot = ap (λ n. Votes n i.slot) (sym both.0) ∙ ap (λ t. Votes member t) at in
+              inr (inr (goes frame.lead (Votes member slot) (subst (Among (Votes member slot)) (sym i.lead) (inl vote)))))
           | inr b ↦ inr (inl b)
         ]
         voting slot voters member (inr (inr a)) i = elim (stays frame.lead (Votes member slot) a) [ inl both ↦ (let bad : Asks i.slot ≡ Votes member slot = sym i.takes ∙ both.1 in cc) | inr b ↦ inr (inr b) ]
@@ -207,10 +206,10 @@ module _ (frame : Frame) (now after : View) (node : ℕ) (taken : Mark) (sent ma
         let own_told : told (marks' node) ≡ told left = ap told own ∙ (told-append left (sent node) ∙ (ap (λ t. told left ++ t) (silent node) ∙ append-nil (told left))) in
         let o : AreInOrder (max (now.next node) (suc i.slot)) left = subst (AreInOrder (now.next node)) before (was.order node) in
         let own_order : AreInOrder (after.next node) (marks' node) =
-            (let n = i.next in
-              subst (AreInOrder (after.next node)) (sym own)
-              (order-append (after.next node) now.bound left (sent node) (order-lower (after.next node) (max (now.next node) (suc i.slot)) left (omega (arith, n, at)) o)
-              (left_each (IsBelow now.bound) taken (marks node) left takes (was.below node)) (omega (arith, n, at, bound)) (order-new now.bound now.bound (sent node) (new node)))) in
+        (let n = i.next in
+        subst (AreInOrder (after.next node)) (sym own)
+        (order-append (after.next node) now.bound left (sent node) (order-lower (after.next node) (max (now.next node) (suc i.slot)) left (omega (arith, n, at)) o)
+        (left_each (IsBelow now.bound) taken (marks node) left takes (was.below node)) (omega (arith, n, at, bound)) (order-new now.bound now.bound (sent node) (new node)))) in
         record {
           learners = λ who member follows. elim (cases_eq who node) [
             | inl is ↦ subst (λ n. IsLearning (after.next n) (after.next frame.lead) (marks' n)) (sym is)
@@ -256,21 +255,21 @@ module _ (frame : Frame) (now after : View) (node : ℕ) (taken : Mark) (sent ma
         let never : (who slot : ℕ) → who ≡ node → taken ≡ Tells slot → ⊥ = λ who slot is e. never_told frame taken i.takes slot e in
         record {
           learners = λ who member follows.
-          (let l = was.learners who member follows in
-            let away : who ≡ node → ⊥ = λ e. follows (e ∙ i.leads) in
-            let from : after.next who ≡ now.next who = stand who away in
-            let reach = l.reaches in
-            let next = i.next in
-            let at : now.next node ≡ now.next who + l.left = (ap now.next i.leads ∙ sym reach) in
-            let lead : after.next frame.lead ≡ after.next node = ap after.next (sym i.leads) in
-            record {
-              left = l.left + i.executed;
-              reaches = omega (arith, from, next, at, lead);
-              tells = told-row who (never who)
-                  ∙ (ap (λ t. t ++ told (sent who)) l.tells
-                  ∙ (ap (λ t. numbers_from (now.next who) l.left ++ t) (i.tells who member follows ∙ ap (λ n. numbers_from n i.executed) at)
-                  ∙ (sym (numbers-append (now.next who) l.left i.executed) ∙ ap (λ n. numbers_from n (l.left + i.executed)) (sym from))));
-            });
+              (let l = was.learners who member follows in
+              let away : who ≡ node → ⊥ = λ e. follows (e ∙ i.leads) in
+              let from : after.next who ≡ now.next who = stand who away in
+              let reach = l.reaches in
+              let next = i.next in
+              let at : now.next node ≡ now.next who + l.left = (ap now.next i.leads ∙ sym reach) in
+              let lead : after.next frame.lead ≡ after.next node = ap after.next (sym i.leads) in
+              record {
+                left = l.left + i.executed;
+                reaches = omega (arith, from, next, at, lead);
+                tells = told-row who (never who)
+                    ∙ (ap (λ t. t ++ told (sent who)) l.tells
+                    ∙ (ap (λ t. numbers_from (now.next who) l.left ++ t) (i.tells who member follows ∙ ap (λ n. numbers_from n i.executed) at)
+                    ∙ (sym (numbers-append (now.next who) l.left i.executed) ∙ ap (λ n. numbers_from n (l.left + i.executed)) (sym from))));
+              });
           order = λ who. elim (cases_eq who node) [
             | inl is ↦ subst (λ n. AreInOrder (after.next n) (marks' n)) (sym is)
                 (order-raise (now.next node) (after.next node) (marks' node) (order-row (now.next node) now.bound after.bound node (was.order node) (was.below node) (was.low node) (i.sends node))

@@ -1,11 +1,9 @@
 -- What the rows of a plain group's replicas do, as marks.
-use Rattle.std.proofs.Common.{◌≡◌, ℕ, ◌+◌, ◌-◌, ◌<◌, ◌≤◌, eqb, Bool, true, false, cond, List, [], ◌∷◌, ◌++◌, map, Option, Some, None, ◌⊎◌, inl, inr, refl, sym, ◌∙◌, ap, subst, arith}
-use Rattle.std.specs.List.{filter}
+use Rattle.std.proofs.Common.{◌≡◌, ℕ, ◌+◌, ◌≤◌, eqb, true, List, [], ◌∷◌, map, Option, Some, None, inl, inr, refl, sym, ◌∙◌, ap, subst, arith}
 use Rattle.std.specs.Option.{option_map}
-use Rattle.std.proofs.lemmas.Bool.{cases_lt, cases_eq, cond-true, cond-false, eq-eqb, ne_eqb}
-use Rattle.sc_base.specs.Among.{Among, Each}
+use Rattle.std.proofs.lemmas.Bool.{cases_eq, cond-true, cond-false, eq-eqb, ne_eqb}
+use Rattle.sc_base.specs.Among.{Each}
 use Rattle.sc_base.specs.Same.{same_draw}
-use Rattle.sc_base.specs.declared.names.Draw.{Draw}
 use Rattle.sc_base.proofs.NameLemmas.{same_name}
 use Rattle.sc_cmd.specs.declared.commands.Command.{Command}
 use Rattle.sc_mail.specs.declared.bodies.Mail.{Mail}
@@ -15,17 +13,15 @@ use Rattle.sc_paxos_words.specs.declared.flights.Flight.{Flight}
 use Rattle.sc_paxos_words.specs.Leaders.{flight_at}
 use Rattle.sc_paxos_words.specs.Votes.{kept_voters}
 use Rattle.sc_node_table.specs.Replica.{ReplicaState, Place, next}
-use Rattle.sc_budget_law.specs.Frames.{Frame, IsFrame}
-use Rattle.sc_budget_law.specs.Between.{Mark, Asks, Votes, Tells, Other, mark, View}
+use Rattle.sc_budget_law.specs.Frames.{Frame}
+use Rattle.sc_budget_law.specs.Between.{Mark, Asks, Votes, Tells, Other, mark}
 use Rattle.sc_budget_law.specs.BetweenJournal.{voters_in, marks_for}
-use Rattle.sc_budget_law.specs.BetweenRows.{IsOther, IsIdle, Accepts, Learns, Leads as LeadsTo, IsCount, IsViewAt, IsOwn, How, MovesBy}
+use Rattle.sc_budget_law.specs.BetweenRows.{IsOther, IsCount, MovesBy}
 use Rattle.sc_budget_law.specs.PlainMail.{Requests}
-use Rattle.sc_budget_law.specs.PlainNode.{takers, AreTaken}
+use Rattle.sc_budget_law.specs.PlainNode.{AreTaken}
 use Rattle.sc_budget_law.proofs.BetweenLeads.{IsHeldOn, held_same, leads_moves}
 use Rattle.sc_budget_law.proofs.Counts.{one_no, find_none}
-use Rattle.sc_budget_law.proofs.Flights.{no_flight_at}
-use Rattle.sc_budget_law.proofs.Leading.{in_range, range_behind, flights_at, Leads}
-use Rattle.sc_budget_law.proofs.Running.{IsRun}
+use Rattle.sc_budget_law.proofs.Leading.{in_range, range_behind, Leads}
 use Rattle.sc_budget_law.proofs.Sends.{mail_of}
 use Rattle.sc_budget_law.proofs.Voting.{IsVoted}
 
@@ -105,9 +101,12 @@ module _ (from slot : ℕ) (flights held : List (Flight Command)) (v : IsVoted f
       here other voters is None f k = cc
       here other voters is (Some flight) f k =
           (let h = v.here flight (ap (λ n. flight_at n held) (sym is) ∙ f) in
-            let now : kept_voters flight.voters ≡ voters = cc in
-            (kept_voters h.0.voters, ap kept_in (ap (λ n. flight_at n flights) is ∙ h.1), (λ node m. subst (λ l. is_member l node ≡ true) now (h.2 node m)),
-              (λ node same. (let who : from ≡ node = cc in subst (λ l. is_member l node ≡ true) now (subst (λ n. is_member (kept_voters flight.voters) n ≡ true) who h.3)))))
+          let now : kept_voters flight.voters ≡ voters = cc in (
+            kept_voters h.0.voters,
+            ap kept_in (ap (λ n. flight_at n flights) is ∙ h.1),
+            (λ node m. subst (λ l. is_member l node ≡ true) now (h.2 node m)),
+            (λ node same. (let who : from ≡ node = cc in subst (λ l. is_member l node ≡ true) now (subst (λ n. is_member (kept_voters flight.voters) n ≡ true) who h.3))),
+          ))
 
   -- what is in flight behind a vote, as marks
   pub voted_on : IsHeldOn flights held (Votes from slot)
@@ -123,7 +122,7 @@ module _ (from slot : ℕ) (flights held : List (Flight Command)) (v : IsVoted f
       by None e = e
       by (Some flight) e = elim (cases_eq other slot) [
         | inl is ↦ (let h = v.here flight (ap (λ n. flight_at n held) (sym is) ∙ e) in
-          let bad : None ≡ Some h.0 = sym (none other high) ∙ (ap (λ n. flight_at n flights) is ∙ h.1) in cc)
+            let bad : None ≡ Some h.0 = sym (none other high) ∙ (ap (λ n. flight_at n flights) is ∙ h.1) in cc)
         | inr ne ↦ v.others other ne ∙ none other high
       ]
 
@@ -134,7 +133,7 @@ module _ (begun : Requests) (frame : Frame) (r : ReplicaState) (taken : ℕ) (sl
   -- a run of a leader that takes such a mail
   pub run_moves : (mark : Mark) → IsCount frame mark → IsHeldOn r.leader.flights held mark → ((slot : ℕ) → next r + taken ≤ slot → flight_at slot held ≡ None) → MovesBy frame frame.lead r taken place.0 after mark place.1
   run_moves mark counts on past = λ one two v w own. inr (inr (inr
-    (leads_moves begun frame (next r) (next r + taken) r.leader.flights held bound wanted after place k one two mark v.next (v.bound refl) (λ slot. v.voters refl slot) w.next (w.bound refl) (λ slot. w.voters refl slot) counts on past)))
+      (leads_moves begun frame (next r) (next r + taken) r.leader.flights held bound wanted after place k one two mark v.next (v.bound refl) (λ slot. v.voters refl slot) w.next (w.bound refl) (λ slot. w.voters refl slot) counts on past)))
 
   -- .. the vote of a member
   pub counted_moves : (from slot : ℕ) → is_member (frame.at slot) from ≡ true → IsVoted from slot r.leader.flights held → MovesBy frame frame.lead r taken place.0 after (Votes from slot) place.1

@@ -1,15 +1,13 @@
 -- How a plain journal begins: the frames of the groups of a valid scenario, and its seats.
-use Rattle.std.proofs.Common.{◌≡◌, ℕ, zero, suc, ◌+◌, ◌-◌, ◌<◌, ◌≤◌, ◌||◌, eqb, leb, Bool, true, false, List, [], ◌∷◌, ◌++◌, length, map, get_or, Option, Some, None, ◌⊎◌, inl, inr, refl, sym, ◌∙◌, ap, subst, arith}
-use Rattle.std.specs.List.{All}
+use Rattle.std.proofs.Common.{◌≡◌, ℕ, zero, suc, ◌+◌, ◌-◌, ◌<◌, ◌≤◌, ◌||◌, eqb, leb, true, List, [], ◌∷◌, ◌++◌, length, map, inl, inr, refl, sym, ◌∙◌, ap, subst, arith}
 use Rattle.std.proofs.lemmas.Bool.{and_from, le-leb, eq-eqb, eqb-true, cases_Bool, or_left}
-use Rattle.sc_base.specs.Among.{Among, Each}
+use Rattle.sc_base.specs.Among.{Among}
 use Rattle.sc_base.specs.Limits.{most_nodes}
 use Rattle.sc_base.specs.declared.names.Draw.{Draw}
 use Rattle.sc_cmd.specs.declared.cores.Base.{Base}
-use Rattle.sc_member.specs.Roster.{IsRoster, is_member, least_of}
+use Rattle.sc_member.specs.Roster.{is_member, least_of}
 use Rattle.sc_actor.specs.System.{are_apart}
 use Rattle.sc_paxos_words.proofs.ListLemmas.{Each-among, Each-from_All, one_of_name}
-use Rattle.sc_node_table.specs.Node.{is_node}
 use Rattle.sc_node_table.specs.Slots.{numbers_from}
 use Rattle.sc_scenario.specs.Groups.{base_at, bases_up_to, group_at}
 use Rattle.sc_scenario.specs.Valid.{IsBounded, IsBoundedGroup, IsUpTo}

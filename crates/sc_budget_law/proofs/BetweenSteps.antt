@@ -1,45 +1,41 @@
 -- One row of a plain journal: what it leaves as it is, and what it makes of the player that acts.
-use Rattle.std.proofs.Common.{◌≡◌, ℕ, zero, suc, ◌+◌, ◌-◌, ◌<◌, ◌≤◌, eqb, leb, ◌&&◌, ◌||◌, Bool, true, false, true≢false, cond, List, [], ◌∷◌, ◌++◌, length, map, drop, find, Option, Some, None, ◌⊎◌, inl, inr, refl, sym, ◌∙◌, ap, subst, arith, sum_by}
+use Rattle.std.proofs.Common.{◌≡◌, ℕ, zero, suc, ◌+◌, ◌-◌, ◌<◌, ◌≤◌, eqb, leb, ◌&&◌, ◌||◌, true, false, cond, List, [], ◌∷◌, ◌++◌, length, map, Some, inl, inr, sym, ◌∙◌, ap, subst, arith, sum_by}
 use Rattle.std.specs.Prelude.{slice_get}
 use Rattle.std.proofs.Math.Bool.{or-false}
-use Rattle.std.proofs.lemmas.Bool.{cases_eq, cases_lt, ne_eqb, eq-eqb, and_left, and_from, le-leb, lt-leb, and_right, cond-true}
+use Rattle.std.proofs.lemmas.Bool.{cases_eq, cases_lt, ne_eqb, and_from, le-leb, lt-leb, and_right, cond-true}
 use Rattle.std.proofs.lemmas.List.Folds.{list_any-append}
 use Rattle.std.proofs.lemmas.List.Sums.{sum_by-cons}
 use Rattle.sc_base.specs.Among.{Among, Each}
 use Rattle.sc_base.specs.Limits.{client_actor, most_nodes}
 use Rattle.sc_base.specs.Same.{same_draw}
-use Rattle.sc_base.specs.declared.ops.Op.{Op}
 use Rattle.sc_cmd.specs.declared.cores.Base.{Base}
 use Rattle.sc_cmd.specs.declared.orders.OrderLine.{OrderLine}
 use Rattle.sc_mail.specs.declared.bodies.Mail.{Mail}
 use Rattle.sc_actor.specs.declared.actors.Seat.{Seat}
 use Rattle.sc_actor.specs.declared.rows.Row.{Row}
-use Rattle.sc_actor.specs.declared.rows.Event.{Event}
-use Rattle.sc_actor.specs.Mail.{mails, numbered, is_delivery}
+use Rattle.sc_actor.specs.Mail.{mails, numbered}
 use Rattle.sc_actor.specs.Replay.{value, acted, input_of}
-use Rattle.sc_actor.specs.System.{System, row_of, has_gone, is_go}
+use Rattle.sc_actor.specs.System.{System, has_gone, is_go}
 use Rattle.sc_actor.proofs.ReplayLemmas.{value-snoc, mails-snoc}
 use Rattle.sc_paxos_words.proofs.ListLemmas.{Each-append, Each-weaker, find_found}
 use Rattle.sc_member.specs.Roster.{is_member}
-use Rattle.sc_node_table.specs.Node.{NodeState, replica_of, is_node}
+use Rattle.sc_node_table.specs.Node.{replica_of, is_node}
 use Rattle.sc_node_table.specs.Replica.{ReplicaState, name_of, next, last_slot}
 use Rattle.sc_node_table.specs.Slots.{numbers_from, slots_ahead}
 use Rattle.sc_scenario.specs.declared.scenarios.Asks.{Asks}
 use Rattle.sc_scenario.specs.declared.scenarios.Scenario.{Scenario}
 use Rattle.sc_sound.specs.Players.{Player, player_table, node_seat, client_seat, route_of, births, system_of, as_nodes}
-use Rattle.sc_sound.specs.declared.roles.Role.TheVariants.{Node, Client}
-use Rattle.sc_orderly_law.specs.Orderly.{deliveries}
+use Rattle.sc_sound.specs.declared.roles.Role.TheVariants.{Node}
 use Rattle.sc_orderly_law.specs.Owing.{owed, owed_at_birth}
 use Rattle.sc_budget_law.specs.BetweenJournal.{replica_at, next_in}
-use Rattle.sc_budget_law.specs.Frames.{Frame, IsFrame}
-use Rattle.sc_budget_law.specs.Owed.{replica_owes, node_owes, player_owes}
+use Rattle.sc_budget_law.specs.Frames.{Frame}
+use Rattle.sc_budget_law.specs.Owed.{replica_owes, player_owes}
 use Rattle.sc_budget_law.specs.PlainClient.{begun_of, IsBegun, IsPlainClient}
-use Rattle.sc_budget_law.specs.PlainMail.{Requests, IsPlainMail}
-use Rattle.sc_budget_law.specs.PlainNode.{IsPlainNode, IsSettled}
+use Rattle.sc_budget_law.specs.PlainMail.{IsPlainMail}
+use Rattle.sc_budget_law.specs.PlainNode.{IsSettled}
 use Rattle.sc_budget_law.proofs.BetweenAll.{owing_of, IsNodeAt, IsClientAt, IsPlainJournal}
 use Rattle.sc_budget_law.proofs.BetweenBegun.{IsMore, mail_more, node_more}
-use Rattle.sc_budget_law.proofs.BetweenGroups.{IsGroupAt}
-use Rattle.sc_budget_law.proofs.BetweenLists.{among-left, among-right}
+use Rattle.sc_budget_law.proofs.BetweenLists.{among-left}
 use Rattle.sc_budget_law.proofs.BetweenStage.{frames_of, IsStage, to_mapped}
 use Rattle.sc_budget_law.proofs.BetweenViews.{Journal, replica_is}
 use Rattle.sc_budget_law.proofs.NodeRows.{of_frame}
@@ -172,8 +168,8 @@ module _ (words : ℕ → ℕ → ℕ × ℕ) (scenario : Scenario) (stage : IsS
       sent_more more new =
           subst (Each (IsPlainMail (IsBegun scenario (rows ++ row ∷ [])) (frames_of scenario))) (sym (mails-snoc rows row))
           (Each-append (IsPlainMail (IsBegun scenario (rows ++ row ∷ [])) (frames_of scenario)) (mails rows) row.sent
-            (Each-weaker (IsPlainMail (IsBegun scenario rows) (frames_of scenario)) (IsPlainMail (IsBegun scenario (rows ++ row ∷ [])) (frames_of scenario))
-              (mail_more (IsBegun scenario rows) (IsBegun scenario (rows ++ row ∷ [])) more (frames_of scenario)) (mails rows) j.sent) new)
+          (Each-weaker (IsPlainMail (IsBegun scenario rows) (frames_of scenario)) (IsPlainMail (IsBegun scenario (rows ++ row ∷ [])) (frames_of scenario))
+          (mail_more (IsBegun scenario rows) (IsBegun scenario (rows ++ row ∷ [])) more (frames_of scenario)) (mails rows) j.sent) new)
 
       -- where no client has fewer begun, whatever was begun is begun
       pub begun_more : ((asks : Asks) → Among asks scenario.clients → begun_of (value player_table (cseat asks) rows) ≤ begun_of (value player_table (cseat asks) (rows ++ row ∷ []))) → IsMore (IsBegun scenario rows) (IsBegun scenario (rows ++ row ∷ []))

@@ -1,48 +1,43 @@
 -- Each row of a plain journal leaves a plain journal.
-use Rattle.std.proofs.Common.{◌≡◌, ℕ, zero, suc, ◌+◌, ◌-◌, ◌<◌, ◌≤◌, eqb, ◌&&◌, Bool, true, false, true≢false, cond, List, [], ◌∷◌, ◌++◌, length, map, drop, find, Option, Some, None, ◌⊎◌, inl, inr, refl, sym, ◌∙◌, ap, subst, arith, sum_by}
+use Rattle.std.proofs.Common.{◌≡◌, ℕ, ◌+◌, ◌≤◌, eqb, false, cond, List, [], ◌∷◌, ◌++◌, length, map, drop, find, Some, inl, inr, refl, sym, ◌∙◌, ap, subst, arith}
 use Rattle.std.specs.Option.{option_map}
-use Rattle.std.proofs.lemmas.Bool.{cases_eq, cases_Bool, both_ways, ne_eqb, eq-eqb, cond-true, cond-false}
-use Rattle.std.proofs.lemmas.List.{length-map}
+use Rattle.std.proofs.lemmas.Bool.{cases_eq, both_ways, eq-eqb}
 use Rattle.sc_base.specs.Among.{Among, Each}
-use Rattle.sc_base.specs.Limits.{client_actor, most_nodes}
+use Rattle.sc_base.specs.Limits.{client_actor}
 use Rattle.sc_base.specs.declared.ops.Op.{Op}
 use Rattle.sc_cmd.specs.declared.orders.OrderLine.{OrderLine}
 use Rattle.sc_mail.specs.declared.bodies.Mail.{Mail}
 use Rattle.sc_actor.specs.declared.actors.Seat.{Seat}
-use Rattle.sc_actor.specs.declared.rows.Row.{Row}
 use Rattle.sc_actor.specs.declared.rows.Event.{Event}
 use Rattle.sc_actor.specs.declared.rows.Event.TheVariants.{Deliver, Tick, Go, Told, Crash, Drop, Again}
 use Rattle.sc_actor.specs.declared.rows.Input.TheVariants.{Got, Go as GoInput}
-use Rattle.sc_actor.specs.Mail.{mails, numbered, is_delivery}
+use Rattle.sc_actor.specs.Mail.{mails}
 use Rattle.sc_actor.specs.Replay.{value, acted, input_of}
-use Rattle.sc_actor.specs.System.{System, row_of, has_gone, is_go, waiting, kth}
+use Rattle.sc_actor.specs.System.{System, row_of, has_gone, waiting, kth}
 use Rattle.sc_actor.proofs.ReplayLemmas.{value-snoc}
 use Rattle.sc_paxos_words.proofs.ListLemmas.{Each-weaker}
-use Rattle.sc_node_table.specs.Node.{NodeState, is_node, node_table}
-use Rattle.sc_node_table.specs.Replica.{last_slot, next}
-use Rattle.sc_node_table.specs.Slots.{slots_ahead}
+use Rattle.sc_node_table.specs.Node.{is_node, node_table}
+use Rattle.sc_node_table.specs.Replica.{last_slot}
 use Rattle.sc_scenario.specs.declared.scenarios.Asks.{Asks}
 use Rattle.sc_scenario.specs.declared.scenarios.Scenario.{Scenario}
-use Rattle.sc_sound.specs.Players.{Player, player_table, node_seat, client_seat, route_of, births, system_of, as_nodes}
-use Rattle.sc_sound.specs.declared.roles.Role.TheVariants.{Node, Client}
-use Rattle.sc_orderly_law.specs.Orderly.{IsTidy, IsOrderly, IsInOrder, rest, mail_for, taken, is_born, deliveries}
+use Rattle.sc_sound.specs.Players.{Player, player_table, node_seat, births, system_of, as_nodes}
+use Rattle.sc_sound.specs.declared.roles.Role.TheVariants.{Node}
+use Rattle.sc_orderly_law.specs.Orderly.{IsTidy, IsOrderly, IsInOrder, rest, mail_for, taken, deliveries}
 use Rattle.sc_orderly_law.specs.Owing.{owed, owed_at_birth, owed_by}
 use Rattle.sc_orderly_law.proofs.Paying.{IsPaid, pays}
 use Rattle.sc_orderly_law.proofs.Resting.{TakesFirst, takes_first, is_born-from, rest-row}
-use Rattle.sc_budget_law.specs.Frames.{Frame}
-use Rattle.sc_budget_law.specs.Between.{Mark, Other, mark}
+use Rattle.sc_budget_law.specs.Between.{mark}
 use Rattle.sc_budget_law.specs.BetweenJournal.{marks_for, marks_at, next_in, replica_at}
-use Rattle.sc_budget_law.specs.BetweenRows.{IsOther, IsTaken}
-use Rattle.sc_budget_law.specs.Owed.{player_owes, mail_owes, node_owes, begun_ones}
-use Rattle.sc_budget_law.specs.PlainClient.{begun_of, IsBegun, IsPlainClient}
+use Rattle.sc_budget_law.specs.BetweenRows.{IsOther}
+use Rattle.sc_budget_law.specs.Owed.{player_owes, mail_owes}
+use Rattle.sc_budget_law.specs.PlainClient.{IsBegun}
 use Rattle.sc_budget_law.specs.PlainMail.{Requests, IsPlainMail}
-use Rattle.sc_budget_law.specs.PlainNode.{IsPlainNode}
-use Rattle.sc_budget_law.proofs.BetweenAll.{owing_of, IsNodeAt, IsClientAt, IsPlainJournal}
-use Rattle.sc_budget_law.proofs.BetweenBegun.{IsMore, mail_more, node_more}
-use Rattle.sc_budget_law.proofs.BetweenGroups.{IsGroupAt, due, group_idle, group_after}
+use Rattle.sc_budget_law.proofs.BetweenAll.{owing_of, IsNodeAt, IsPlainJournal}
+use Rattle.sc_budget_law.proofs.BetweenBegun.{mail_more, node_more}
+use Rattle.sc_budget_law.proofs.BetweenGroups.{due, group_idle, group_after}
 use Rattle.sc_budget_law.proofs.BetweenStage.{frames_of, IsStage}
-use Rattle.sc_budget_law.proofs.BetweenSteps.{node_number, client_number, each_numbered, has_room_at, gone_still, node_stays, client_stays, sent_more, begun_more, begun_still}
-use Rattle.sc_budget_law.proofs.BetweenViews.{Journal, replica_is, replica_others, replica_none}
+use Rattle.sc_budget_law.proofs.BetweenSteps.{node_number, client_number, each_numbered, has_room_at, node_stays, client_stays, sent_more, begun_still}
+use Rattle.sc_budget_law.proofs.BetweenViews.{Journal, replica_is, replica_others}
 use Rattle.sc_budget_law.proofs.NodeRows.{NodeRow, node_row, node_plain, node_said, node_owed, me_after}
 
 module _ (words : ℕ → ℕ → ℕ × ℕ) (scenario : Scenario) (stage : IsStage scenario) (few : owed_at_birth (system_of as_nodes words scenario) (owing_of scenario) + 16 ≤ last_slot) where
@@ -97,11 +92,12 @@ module _ (words : ℕ → ℕ → ℕ × ℕ) (scenario : Scenario) (stage : IsS
       k = node_row (IsBegun scenario rows) (frames_of scenario) stage.are stage.apart n.node first.mail n.plain is_plain (first.receiver ∙ sym n.me_is)
           (λ client seq op b e. not_client client seq op b (sym n.me_is ∙ e))
           (λ frame r a says found. (
-            let here : replica_at scenario rows frame.core.id me ≡ Some r = replica_is words scenario rows frame.core.id me (Node n.node) (node_number words scenario stage me one most) n.is ∙ found in
-            let room = has_room_at words scenario stage rows j few frame a me in
-            let at = ap next_in here in (
-              due words scenario (IsBegun scenario rows) rows frame (j.groups frame a) me r here first.mail.from (map (mark frame.core.id) first.behind) first.mail.to first.mail.body first.receiver (ap (map (mark frame.core.id)) first.first) says,
-              omega (arith, room, at))))
+          let here : replica_at scenario rows frame.core.id me ≡ Some r = replica_is words scenario rows frame.core.id me (Node n.node) (node_number words scenario stage me one most) n.is ∙ found in
+          let room = has_room_at words scenario stage rows j few frame a me in
+          let at = ap next_in here in (
+            due words scenario (IsBegun scenario rows) rows frame (j.groups frame a) me r here first.mail.from (map (mark frame.core.id) first.behind) first.mail.to first.mail.body first.receiver (ap (map (mark frame.core.id)) first.first) says,
+            omega (arith, room, at),
+          )))
 
       -- what the step makes of the node, and what it sends
       pub acted_is : acted player_table (value player_table (nseat me) rows) (input_of {O = OrderLine} (mails rows) (Deliver number)) ≡ (Node (node_table n.node (Got first.mail)).0, (node_table n.node (Got first.mail)).1)
@@ -115,7 +111,7 @@ module _ (words : ℕ → ℕ → ℕ × ℕ) (scenario : Scenario) (stage : IsS
           let same : first.mail ≡ mail = (let e : Some first.mail ≡ Some mail = sym first.sent ∙ sent in cc) in
           subst (λ m. 1 + owed_by (owing_of scenario) (player_table (value player_table (nseat me) rows) (Got m)) ≤ player_owes (length (frames_of scenario)) (value player_table (nseat me) rows) + mail_owes m) same
           (subst (λ p. 1 + owed_by (owing_of scenario) (player_table p (Got first.mail)) ≤ player_owes (length (frames_of scenario)) p + mail_owes first.mail) (sym n.is)
-            (node_owed (IsBegun scenario rows) (frames_of scenario) stage.are stage.apart n.node first.mail (node_table n.node (Got first.mail)) n.plain k))
+          (node_owed (IsBegun scenario rows) (frames_of scenario) stage.are stage.apart n.node first.mail (node_table n.node (Got first.mail)) n.plain k))
 
       node_turn : J (rows ++ row_of player_table (nseat me) rows (Deliver number) ∷ [])
       node_turn =
@@ -130,22 +126,22 @@ module _ (words : ℕ → ℕ → ℕ × ℕ) (scenario : Scenario) (stage : IsS
           record {
             nodes = λ other low high. elim (cases_eq other me) [
               | inl is ↦ subst (IsNodeAt words scenario stage (rows ++ r ∷ [])) (sym is) (record {
-                  node = after.0;
-                  is = became;
-                  me_is = me_after (IsBegun scenario rows) (frames_of scenario) stage.are stage.apart n.node first.mail after n.plain k ∙ n.me_is;
-                  plain = node_more (IsBegun scenario rows) (IsBegun scenario (rows ++ r ∷ [])) more (frames_of scenario) after.0 plain_after;
-                })
+                node = after.0;
+                is = became;
+                me_is = me_after (IsBegun scenario rows) (frames_of scenario) stage.are stage.apart n.node first.mail after n.plain k ∙ n.me_is;
+                plain = node_more (IsBegun scenario rows) (IsBegun scenario (rows ++ r ∷ [])) more (frames_of scenario) after.0 plain_after;
+              })
               | inr ne ↦ node_stays words scenario stage rows j r more other ne (j.nodes other low high)
             ];
             clients = λ asks a. client_stays words scenario stage rows j r asks (λ e. no_client asks a e) (j.clients asks a);
             sent = sent_more words scenario stage rows j r more
                 (subst (Each (IsPlainMail (IsBegun scenario (rows ++ r ∷ [])) (frames_of scenario))) (sym sends)
-                  (Each-weaker (IsPlainMail (IsBegun scenario rows) (frames_of scenario)) (IsPlainMail (IsBegun scenario (rows ++ r ∷ [])) (frames_of scenario)) (mail_more (IsBegun scenario rows) (IsBegun scenario (rows ++ r ∷ [])) more (frames_of scenario)) after.1
-                    (node_said (IsBegun scenario rows) (frames_of scenario) stage.are stage.apart n.node first.mail after n.plain k)));
+                (Each-weaker (IsPlainMail (IsBegun scenario rows) (frames_of scenario)) (IsPlainMail (IsBegun scenario (rows ++ r ∷ [])) (frames_of scenario)) (mail_more (IsBegun scenario rows) (IsBegun scenario (rows ++ r ∷ [])) more (frames_of scenario)) after.1
+                (node_said (IsBegun scenario rows) (frames_of scenario) stage.are stage.apart n.node first.mail after n.plain k)));
             groups = λ frame a.
-            group_after words scenario rows r rest_after (IsBegun scenario rows) stage n.node first.mail after n.plain k (sym n.me_is) refl sends (first.receiver ∙ sym n.me_is) first.behind
-            (ap (rest sys rows) n.me_is ∙ first.first) (ap is_node n.me_is ∙ node_number words scenario stage me one most)
-            (ap (λ m. value player_table (nseat m) rows) n.me_is ∙ n.is) (ap (λ m. value player_table (nseat m) (rows ++ r ∷ [])) n.me_is ∙ became) frame a (j.groups frame a);
+                group_after words scenario rows r rest_after (IsBegun scenario rows) stage n.node first.mail after n.plain k (sym n.me_is) refl sends (first.receiver ∙ sym n.me_is) first.behind
+                (ap (rest sys rows) n.me_is ∙ first.first) (ap is_node n.me_is ∙ node_number words scenario stage me one most)
+                (ap (λ m. value player_table (nseat m) rows) n.me_is ∙ n.is) (ap (λ m. value player_table (nseat m) (rows ++ r ∷ [])) n.me_is ∙ became) frame a (j.groups frame a);
             owes = owes_after rows (nseat me) (Deliver number) j born fine node_paid;
           }
 
@@ -174,15 +170,15 @@ module _ (words : ℕ → ℕ → ℕ × ℕ) (scenario : Scenario) (stage : IsS
           clients = λ asks a. client_stays words scenario stage rows j r asks (λ e. no_client asks a e) (j.clients asks a);
           sent = sent_more words scenario stage rows j r more (subst (Each (IsPlainMail (IsBegun scenario (rows ++ r ∷ [])) (frames_of scenario))) (sym none) tt);
           groups = λ frame a.
-          group_idle words scenario rows r rest_after frame (j.groups frame a)
-          (λ node. elim (cases_eq node me) [
-            | inl is ↦ ap (replica_at scenario (rows ++ r ∷ []) frame.core.id) is
-                ∙ (replica_is words scenario (rows ++ r ∷ []) frame.core.id me (Node n.node) (node_number words scenario stage me one most) (same ∙ n.is)
-                ∙ (sym (replica_is words scenario rows frame.core.id me (Node n.node) (node_number words scenario stage me one most) n.is) ∙ ap (replica_at scenario rows frame.core.id) (sym is)))
-            | inr ne ↦ replica_others words scenario rows r frame.core.id node ne
-          ])
-          (inr (refl, sym (at_zero (marks_at words scenario rows frame.core.id me))))
-          (λ who. subst (λ l. Each IsOther (marks_for frame.core.id who l)) (sym none) tt);
+              group_idle words scenario rows r rest_after frame (j.groups frame a)
+              (λ node. elim (cases_eq node me) [
+                | inl is ↦ ap (replica_at scenario (rows ++ r ∷ []) frame.core.id) is
+                    ∙ (replica_is words scenario (rows ++ r ∷ []) frame.core.id me (Node n.node) (node_number words scenario stage me one most) (same ∙ n.is)
+                    ∙ (sym (replica_is words scenario rows frame.core.id me (Node n.node) (node_number words scenario stage me one most) n.is) ∙ ap (replica_at scenario rows frame.core.id) (sym is)))
+                | inr ne ↦ replica_others words scenario rows r frame.core.id node ne
+              ])
+              (inr (refl, sym (at_zero (marks_at words scenario rows frame.core.id me))))
+              (λ who. subst (λ l. Each IsOther (marks_for frame.core.id who l)) (sym none) tt);
           owes = owes_after rows (nseat me) Go j born fine node_go_paid;
         }
 

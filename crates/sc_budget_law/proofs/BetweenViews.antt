@@ -1,25 +1,22 @@
 -- What one row makes of the marks that are under way, and of the view of a group.
-use Rattle.std.proofs.Common.{◌≡◌, ℕ, ◌+◌, eqb, ◌&&◌, Bool, true, false, true≢false, cond, List, [], ◌∷◌, ◌++◌, map, drop, Option, Some, None, ◌⊎◌, inl, inr, refl, sym, ◌∙◌, ap, subst}
-use Rattle.std.specs.List.{filter}
-use Rattle.std.proofs.lemmas.Bool.{cases_Bool, cond-true, cond-false, ne_eqb, eq-eqb, eqb-true}
+use Rattle.std.proofs.Common.{◌≡◌, ℕ, ◌&&◌, true, false, cond, List, [], ◌∷◌, ◌++◌, map, drop, None, refl, sym, ◌∙◌, ap}
+use Rattle.std.proofs.lemmas.Bool.{cond-true, cond-false, ne_eqb, eq-eqb}
 use Rattle.std.proofs.lemmas.List.{map-append, drop-map}
-use Rattle.sc_base.specs.Among.{Among, Each}
 use Rattle.sc_base.specs.declared.names.Draw.{Draw}
 use Rattle.sc_cmd.specs.declared.orders.OrderLine.{OrderLine}
 use Rattle.sc_mail.specs.declared.bodies.Mail.{Mail}
 use Rattle.sc_actor.specs.declared.rows.Row.{Row}
-use Rattle.sc_actor.specs.declared.rows.Event.{Event}
 use Rattle.sc_actor.specs.Mail.{mails, is_delivery}
 use Rattle.sc_actor.specs.Replay.{value, acted, input_of}
 use Rattle.sc_actor.proofs.ReplayLemmas.{value-snoc}
-use Rattle.sc_node_table.specs.Node.{NodeState, replica_of, is_node}
-use Rattle.sc_node_table.specs.Replica.{ReplicaState, next}
+use Rattle.sc_node_table.specs.Node.{replica_of, is_node}
+use Rattle.sc_node_table.specs.Replica.{next}
 use Rattle.sc_scenario.specs.declared.scenarios.Scenario.{Scenario}
 use Rattle.sc_sound.specs.Players.{Player, player_table, node_seat, system_of, as_nodes}
 use Rattle.sc_orderly_law.specs.Orderly.{rest, mail_for, taken}
 use Rattle.sc_budget_law.specs.Frames.{Frame}
-use Rattle.sc_budget_law.specs.Between.{Mark, Other, mark, View, IsBetween}
-use Rattle.sc_budget_law.specs.BetweenJournal.{marks_for, replicas_of, replica_at, next_in, votes_in, view_at, marks_at}
+use Rattle.sc_budget_law.specs.Between.{Mark, mark, IsBetween}
+use Rattle.sc_budget_law.specs.BetweenJournal.{marks_for, replicas_of, replica_at, view_at, marks_at}
 use Rattle.sc_budget_law.specs.BetweenRows.{Moves, IsTaken}
 use Rattle.sc_budget_law.proofs.BetweenMoves.{between-row}
 

@@ -1,5 +1,5 @@
 -- Every lawful journal of a plain scenario is a plain journal.
-use Rattle.std.proofs.Common.{◌≡◌, ℕ, ◌+◌, ◌<◌, ◌≤◌, eqb, List, [], ◌∷◌, ◌++◌, map, find, Some, ◌⊎◌, inl, inr, refl, sym, ◌∙◌, ap, subst, arith}
+use Rattle.std.proofs.Common.{◌≡◌, ℕ, ◌+◌, ◌≤◌, eqb, List, [], ◌∷◌, ◌++◌, map, find, Some, ◌⊎◌, inl, inr, sym, ◌∙◌, ap, subst, arith}
 use Rattle.sc_base.specs.Among.{Among, Each}
 use Rattle.sc_cmd.specs.declared.orders.OrderLine.{OrderLine}
 use Rattle.sc_mail.specs.declared.bodies.Mail.{Mail}
@@ -57,10 +57,10 @@ module _ (words : ℕ → ℕ → ℕ × ℕ) (scenario : Scenario) (stage : IsS
       let there = subst (Among o.seat) stage.seats found.0 in
       elim (among-split o.seat (map nseat (numbers_from 1 scenario.nodes)) (map cseat scenario.clients) there) [
         | inl a ↦ (let from = from_mapped nseat (numbers_from 1 scenario.nodes) o.seat a in
-          let bounds = in_numbers 1 scenario.nodes from.0 from.1 in
-          let low = bounds.0 in
-          let high = bounds.1 in
-          inl (record { me = from.0; one = low; most = omega (arith, high); seat_is = sym from.2 }))
+            let bounds = in_numbers 1 scenario.nodes from.0 from.1 in
+            let low = bounds.0 in
+            let high = bounds.1 in
+            inl (record { me = from.0; one = low; most = omega (arith, high); seat_is = sym from.2 }))
         | inr a ↦ (let from = from_mapped cseat scenario.clients o.seat a in inr (record { asks = from.0; is_asks = from.1; seat_is = sym from.2 }))
       ]
 

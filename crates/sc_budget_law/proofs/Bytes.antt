@@ -1,22 +1,16 @@
 -- How many bytes a plain journal counts: few enough, so that it is never full.
-use Rattle.std.proofs.Common.{◌≡◌, ℕ, zero, suc, ◌+◌, ◌-◌, ◌*◌, ◌^◌, ◌≤◌, eqb, Bool, true, false, cond, List, [], ◌∷◌, ◌++◌, length, map, fold, Option, Some, None, ◌⊎◌, inl, inr, refl, sym, ◌∙◌, ap, subst, arith, length-append}
-use Rattle.std.specs.Prelude.{slice_get, find}
-use Rattle.std.specs.List.{sum_by, flat_map, list_any}
-use Rattle.std.specs.Option.{option_map}
-use Rattle.std.proofs.lemmas.Bool.{cond_both, or_left, or_right, eq-eqb}
-use Rattle.std.proofs.lemmas.List.{length-map, length_push}
+use Rattle.std.proofs.Common.{◌≡◌, ℕ, zero, suc, ◌+◌, ◌-◌, ◌*◌, ◌≤◌, List, [], ◌∷◌, ◌++◌, length, Option, Some, None, inl, inr, refl, ap, arith, length-append}
+use Rattle.std.specs.Prelude.{slice_get}
+use Rattle.std.specs.List.{sum_by}
 use Rattle.std.proofs.lemmas.List.Sums.{sum_by-cons}
 use Rattle.sc_base.specs.Among.{Among, Each}
-use Rattle.sc_base.specs.Limits.{client_actor}
 use Rattle.sc_base.specs.declared.ops.Op.{Op}
 use Rattle.sc_base.specs.declared.ops.Op.TheVariants.{Get, Put, Del, Add, Cas}
-use Rattle.sc_base.proofs.CommonLemmas.{map-some}
 use Rattle.sc_cmd.specs.Weight.{op_weight, value_weight, command_weight}
 use Rattle.sc_cmd.specs.declared.commands.Command.{Command}
 use Rattle.sc_cmd.specs.declared.commands.Command.TheVariants.{Call, Noop, Join, Leave, Split, Begin, Prepared, RecordVote, GiveUp, Finish, Watched, RecordWatch}
 use Rattle.sc_cmd.specs.declared.orders.OrderLine.{OrderLine}
 use Rattle.sc_mail.specs.Weight.{body_weight}
-use Rattle.sc_mail.specs.declared.bodies.AnswerBody.{AnswerBody}
 use Rattle.sc_mail.specs.declared.bodies.AnswerBody.TheVariants.{Value, NotLeader, NotMine, Gone, Stale}
 use Rattle.sc_mail.specs.declared.bodies.Mail.{Mail}
 use Rattle.sc_mail.specs.declared.bodies.MailBody.{MailBody}
@@ -25,12 +19,11 @@ use Rattle.sc_actor.specs.Counted.{mail_bytes, row_bytes, journal_bytes}
 use Rattle.sc_actor.specs.declared.rows.Row.{Row}
 use Rattle.sc_actor.specs.Mail.{mails}
 use Rattle.sc_scenario.specs.Valid.{IsShortOp, IsBounded, IsBoundedClient}
-use Rattle.sc_scenario.specs.declared.scenarios.Asks.{Asks}
 use Rattle.sc_scenario.specs.declared.scenarios.Scenario.{Scenario}
 use Rattle.sc_paxos_words.proofs.ListLemmas.{Each-among, Each-from_All}
 use Rattle.sc_budget_law.specs.Frames.{Frame}
 use Rattle.sc_budget_law.specs.PlainClient.{IsBegun}
-use Rattle.sc_budget_law.specs.PlainMail.{Requests, written_by, IsWrittenValue, IsPlainAnswer, IsPlainCommand, IsPlainBody, IsPlainMail}
+use Rattle.sc_budget_law.specs.PlainMail.{Requests, written_by, IsWrittenValue, IsPlainCommand, IsPlainBody, IsPlainMail}
 
 -- ---- what a mail weighs
 

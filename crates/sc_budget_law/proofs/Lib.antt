@@ -1,3 +1,4 @@
+mod Made
 pub mod BetweenWhole
 pub mod BetweenClients
 pub mod BetweenTurns
@@ -27,6 +28,7 @@ mod Pumping
 mod Running
 mod Asking
 mod Flights
+mod Accepting
 mod Voting
 mod Replicas
 mod ReplicaRows
@@ -38,3 +40,4 @@ mod AtBirth
 mod Ends
 mod Bytes
 mod Light
+mod Worked

@@ -1,12 +1,11 @@
 -- A plain journal counts few bytes: few rows, and little mail.
-use Rattle.std.proofs.Common.{◌≡◌, ℕ, zero, suc, ◌+◌, ◌-◌, ◌*◌, ◌^◌, ◌≤◌, ◌||◌, eqb, leb, Bool, true, false, cond, List, [], ◌∷◌, ◌++◌, length, map, fold, Option, Some, None, ◌⊎◌, inl, inr, refl, sym, ◌∙◌, ap, subst, arith, length-append}
+use Rattle.std.proofs.Common.{◌≡◌, ℕ, zero, suc, ◌+◌, ◌≤◌, eqb, leb, Bool, true, false, List, [], ◌∷◌, ◌++◌, length, map, fold, Option, Some, None, ◌⊎◌, inl, inr, refl, sym, ◌∙◌, ap, subst, arith, length-append}
 use Rattle.std.specs.Prelude.{find}
 use Rattle.std.specs.List.{flat_map, list_any}
-use Rattle.std.specs.Option.{option_map}
 use Rattle.std.proofs.lemmas.Bool.{cond_both, or_left, or_right, eq-eqb}
 use Rattle.std.proofs.lemmas.List.{length-map}
 use Rattle.sc_base.specs.Among.{Among, Each}
-use Rattle.sc_base.specs.Limits.{client_actor, most_nodes, most_clients}
+use Rattle.sc_base.specs.Limits.{client_actor}
 use Rattle.sc_base.proofs.CommonLemmas.{map-some}
 use Rattle.sc_base.specs.declared.names.Draw.{Draw}
 use Rattle.sc_base.specs.declared.ops.Op.{Op}
@@ -17,11 +16,9 @@ use Rattle.sc_mail.specs.declared.bodies.MailBody.{MailBody}
 use Rattle.sc_mail.specs.declared.bodies.MailBody.TheVariants.{Request, Answer, Prepare, Promise, Accept, Accepted, Nack, Learn, Ask, Install, TxPrepare, TxVote, TxOutcome, TxElsewhere, TxWatch, TxWatched, Told as ToldMail}
 use Rattle.sc_member.specs.Roster.{is_member}
 use Rattle.sc_actor.specs.declared.actors.Seat.{Seat}
-use Rattle.sc_actor.specs.declared.rows.Event.{Event}
-use Rattle.sc_actor.specs.declared.rows.Event.TheVariants.{Deliver, Tick, Go, Told, Crash, Drop, Again}
-use Rattle.sc_actor.specs.declared.rows.Input.TheVariants.{Got, Go as GoInput}
+use Rattle.sc_actor.specs.declared.rows.Event.TheVariants.{Go}
+use Rattle.sc_actor.specs.declared.rows.Input.TheVariants.{Go as GoInput}
 use Rattle.sc_actor.specs.declared.rows.Row.{Row}
-use Rattle.sc_actor.specs.declared.schedules.Line.{Line}
 use Rattle.sc_actor.specs.declared.schedules.Line.TheVariants as line
 use Rattle.sc_actor.specs.Mail.{mails, is_delivery}
 use Rattle.sc_actor.specs.System.{System, numbers_of, row_of, acts, has_gone}
@@ -33,27 +30,27 @@ use Rattle.sc_paxos_words.proofs.ListLemmas.{Each-weaker, Each-from_All}
 use Rattle.sc_node_table.specs.Slots.{numbers_from, slots_ahead}
 use Rattle.sc_client_table.specs.Client.{Client as ClientState}
 use Rattle.sc_client_table.specs.Client.{waiting_request}
-use Rattle.sc_client_table.specs.Table.{ClientStep, asked_of, sent_where, chosen_for, request_sent, started}
+use Rattle.sc_client_table.specs.Table.{ClientStep, asked_of, sent_where, chosen_for, request_sent}
 use Rattle.sc_lookup.specs.Known.{target_in}
 use Rattle.sc_scenario.specs.Schedules.{most_deliveries}
-use Rattle.sc_scenario.specs.Valid.{IsBounded, IsBoundedLine, ValidScenariosAreBounded}
+use Rattle.sc_scenario.specs.Valid.{IsBoundedLine, ValidScenariosAreBounded}
 use Rattle.sc_scenario.specs.declared.scenarios.Asks.{Asks}
 use Rattle.sc_scenario.specs.declared.scenarios.Scenario.{Scenario}
 use Rattle.sc_scenario.specs.declared.scenarios.SchedLine.{SchedLine}
 use Rattle.sc_scenario.specs.declared.scenarios.SchedLine.TheVariants as sched
 use Rattle.sc_sound.specs.Players.{Player, player_table, node_seat, client_seat, route_of, births, line_of, schedule, system_of, as_nodes}
 use Rattle.sc_sound.specs.declared.roles.Role.TheVariants.{Node, Client}
-use Rattle.sc_orderly_law.specs.Orderly.{is_born, deliveries, goes}
-use Rattle.sc_orderly_law.specs.Owing.{SendsToActors, owed, owed_at_birth}
+use Rattle.sc_orderly_law.specs.Orderly.{is_born, deliveries}
+use Rattle.sc_orderly_law.specs.Owing.{SendsToActors}
 use Rattle.sc_orderly_law.proofs.Counting.{mails_are_owed, goes_are_few, rows_are}
 use Rattle.sc_orderly_law.proofs.Ordering.{by_rows}
 use Rattle.sc_orderly_law.proofs.Paying.{count_push}
-use Rattle.sc_budget_law.specs.Budget.{AllowsDeliveries, budget_of, IsAtBudget}
-use Rattle.sc_budget_law.specs.Frames.{Frame, IsFrame}
+use Rattle.sc_budget_law.specs.Budget.{AllowsDeliveries, budget_of}
+use Rattle.sc_budget_law.specs.Frames.{Frame}
 use Rattle.sc_budget_law.specs.Laws.{PlainJournalsAreLight}
 use Rattle.sc_budget_law.specs.Owed.{mail_owes}
 use Rattle.sc_budget_law.specs.PlainClient.{IsBegun}
-use Rattle.sc_budget_law.specs.PlainMail.{Requests, IsPlainBody, IsPlainMail}
+use Rattle.sc_budget_law.specs.PlainMail.{IsPlainBody, IsPlainMail}
 use Rattle.sc_budget_law.proofs.AtBirth.{birth_within, few_clients, journal_at_birth}
 use Rattle.sc_budget_law.proofs.BetweenAll.{owing_of, IsPlainJournal}
 use Rattle.sc_budget_law.proofs.BetweenStage.{frames_of, IsStage, stage, to_mapped}
@@ -81,8 +78,8 @@ module _ (words : ℕ → ℕ → ℕ × ℕ) (scenario : Scenario) (stage : IsS
   is_client_born asks a =
       born_among (births as_nodes scenario) (client_seat (route_of stage.first) asks)
       (subst (Among (client_seat (route_of stage.first) asks)) (sym stage.seats)
-        (seat_right (map (node_seat as_nodes scenario.groups scenario.policy) (numbers_from 1 scenario.nodes)) (map (client_seat (route_of stage.first)) scenario.clients) (client_seat (route_of stage.first) asks)
-          (to_mapped (client_seat (route_of stage.first)) scenario.clients asks a)))
+      (seat_right (map (node_seat as_nodes scenario.groups scenario.policy) (numbers_from 1 scenario.nodes)) (map (client_seat (route_of stage.first)) scenario.clients) (client_seat (route_of stage.first) asks)
+      (to_mapped (client_seat (route_of stage.first)) scenario.clients asks a)))
     where
       seat_right : (xs ys : List (Seat Player)) (x : Seat Player) → Among x ys → Among x (xs ++ ys)
       seat_right [] ys x a = a
@@ -276,7 +273,7 @@ journals_light all_bounded words scenario journal valid at lawful =
     let light = Each-weaker (IsPlainMail (IsBegun scenario journal) (frames_of scenario)) (λ mail. body_weight mail.body ≤ 576) (mail_light (IsBegun scenario journal) (begun_short scenario bounded journal) (frames_of scenario)) (mails journal) j.sent in
     let bytes = bytes_low journal light in
     let to : SendsToActors sys_ lines = λ rows l. Each-weaker (IsPlainMail (IsBegun scenario rows) (frames_of scenario)) (λ mail. is_born sys_ mail.to ≡ true)
-        (λ mail m. body_born words scenario s rows m.frame m.is_frame mail.from mail.to mail.body m.says) (mails rows) (each rows l).sent in
+    (λ mail m. body_born words scenario s rows m.frame m.is_frame mail.from mail.to mail.body m.says) (mails rows) (each rows l).sent in
     let some = Each-weaker (IsPlainMail (IsBegun scenario journal) (frames_of scenario)) (λ mail. 1 ≤ mail_owes mail) (λ mail m. some_owed mail.body) (mails journal) j.sent in
     let sent = mails_are_owed sys_ s.seats_apart lines plain to (owing_of scenario) journal some lawful in
     let owes = j.owes in

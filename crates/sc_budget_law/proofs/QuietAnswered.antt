@@ -1,13 +1,11 @@
 -- In a whole plain journal every request of a client that is served is answered.
-use Rattle.std.proofs.Common.{◌≡◌, ℕ, zero, suc, ◌+◌, ◌-◌, ◌<◌, ◌≤◌, eqb, ◌||◌, Bool, true, false, true≢false, cond, List, [], ◌∷◌, ◌++◌, length, map, find, Option, Some, None, ◌⊎◌, inl, inr, refl, sym, ◌∙◌, ap, subst, arith, append_assoc, append-nil}
-use Rattle.std.specs.Prelude.{slice_get}
+use Rattle.std.proofs.Common.{◌≡◌, ℕ, ◌+◌, ◌-◌, ◌≤◌, eqb, ◌||◌, Bool, true, false, cond, List, [], ◌∷◌, ◌++◌, length, map, Option, Some, None, inl, inr, refl, sym, ◌∙◌, ap, subst, arith, append_assoc, append-nil}
 use Rattle.std.specs.List.{list_any}
-use Rattle.std.proofs.lemmas.Bool.{cases_Bool, both_ways, eq-eqb}
+use Rattle.std.proofs.lemmas.Bool.{both_ways}
 use Rattle.std.proofs.lemmas.List.{length_push, map-append}
 use Rattle.std.proofs.lemmas.Option.{slice_get_within}
 use Rattle.sc_base.specs.Among.{Among, Each}
 use Rattle.sc_base.specs.Limits.{client_actor}
-use Rattle.sc_base.specs.declared.ops.Op.{Op}
 use Rattle.sc_cmd.specs.declared.cores.Base.{Base}
 use Rattle.sc_cmd.specs.declared.orders.OrderLine.{OrderLine}
 use Rattle.sc_mail.specs.declared.bodies.Mail.{Mail}
@@ -18,40 +16,39 @@ use Rattle.sc_actor.specs.declared.schedules.Line.{Line}
 use Rattle.sc_actor.specs.declared.schedules.Line.TheVariants as line
 use Rattle.sc_actor.specs.Mail.{mails}
 use Rattle.sc_actor.specs.Replay.{value, acted, input_of}
-use Rattle.sc_actor.specs.System.{System, has_gone, numbers_of}
-use Rattle.sc_actor.specs.Walk.{IsLawful, IsWhole, is_quiet, unsettled}
+use Rattle.sc_actor.specs.System.{System, has_gone}
+use Rattle.sc_actor.specs.Walk.{IsLawful, is_quiet}
 use Rattle.sc_actor.proofs.ReplayLemmas.{value-snoc}
 use Rattle.sc_actor.proofs.WalkLemmas.{lawful-prefix}
 use Rattle.sc_member.specs.Roster.{is_member}
-use Rattle.sc_node_table.specs.Node.{NodeState, replica_of}
+use Rattle.sc_node_table.specs.Node.{replica_of}
 use Rattle.sc_node_table.specs.Replica.{ReplicaState, last_slot}
 use Rattle.sc_node_table.specs.Slots.{slots_ahead, numbers_from}
 use Rattle.sc_mail.specs.declared.bodies.MailBody.TheVariants.{Answer}
 use Rattle.sc_client_table.specs.Client.{Client as ClientState}
 use Rattle.sc_client_table.proofs.TurnLemmas.{sends_in_turn}
-use Rattle.sc_scenario.specs.Valid.{IsBounded, ValidScenariosAreBounded}
+use Rattle.sc_scenario.specs.Valid.{ValidScenariosAreBounded}
 use Rattle.sc_scenario.specs.declared.scenarios.Asks.{Asks}
 use Rattle.sc_scenario.specs.declared.scenarios.Scenario.{Scenario}
 use Rattle.sc_scenario.specs.declared.scenarios.SchedLine.{SchedLine}
 use Rattle.sc_scenario.specs.declared.scenarios.SchedLine.TheVariants.{Go, Deliver, Drop, Again, Tick, Crash, Told, Settle, Free, Storm}
 use Rattle.sc_sound.specs.Players.{Player, player_table, node_seat, client_seat, route_of, births, line_of, schedule, system_of, as_nodes, replies_of}
 use Rattle.sc_sound.specs.declared.roles.Role.TheVariants.{Node, Client}
-use Rattle.sc_orderly_law.specs.Orderly.{IsPlainLine, IsTidy, rest, is_born}
+use Rattle.sc_orderly_law.specs.Orderly.{IsPlainLine, rest, is_born}
 use Rattle.sc_orderly_law.specs.Owing.{owed_at_birth}
 use Rattle.sc_orderly_law.proofs.Ordering.{orderly, by_rows}
-use Rattle.sc_orderly_law.proofs.Passing.{WasQuiet, IsManyLine, was_quiet}
+use Rattle.sc_orderly_law.proofs.Passing.{IsManyLine, was_quiet}
 use Rattle.sc_orderly_law.proofs.Resting.{tidy, quiet-empty, is_born-from}
 use Rattle.sc_orderly_law.proofs.Seats.{seat_found}
-use Rattle.sc_budget_law.specs.Between.{Mark, Asks as AsksFor, Votes, mark, IsVoting}
-use Rattle.sc_budget_law.specs.BetweenJournal.{voters_in, votes_in, replica_at, marks_at}
-use Rattle.sc_budget_law.specs.Budget.{budget_of, IsAtBudget, delivers, IsServed, AreAnswered}
-use Rattle.sc_budget_law.specs.Frames.{Frame, IsFrame}
+use Rattle.sc_budget_law.specs.Between.{Asks as AsksFor, Votes, mark, IsVoting}
+use Rattle.sc_budget_law.specs.BetweenJournal.{votes_in, replica_at, marks_at}
+use Rattle.sc_budget_law.specs.Budget.{budget_of, delivers}
+use Rattle.sc_budget_law.specs.Frames.{Frame}
 use Rattle.sc_budget_law.specs.Laws.{PlainLinesEndQuiet, PlainRequestsAreAnswered}
-use Rattle.sc_budget_law.specs.PlainClient.{IsBegun, IsPlainClient, IsWaiting}
+use Rattle.sc_budget_law.specs.PlainClient.{IsBegun, IsWaiting}
 use Rattle.sc_budget_law.specs.PlainNode.{IsLeading, IsSettled}
 use Rattle.sc_budget_law.proofs.AtBirth.{journal_at_birth}
-use Rattle.sc_budget_law.proofs.BetweenAll.{owing_of, IsClientAt, IsPlainJournal}
-use Rattle.sc_budget_law.proofs.BetweenGroups.{IsGroupAt}
+use Rattle.sc_budget_law.proofs.BetweenAll.{owing_of, IsPlainJournal}
 use Rattle.sc_budget_law.proofs.BetweenLists.{among-right}
 use Rattle.sc_budget_law.proofs.BetweenStage.{frames_of, IsStage, to_mapped, stage}
 use Rattle.sc_budget_law.proofs.BetweenSteps.{node_number, node_born}
@@ -63,7 +60,6 @@ use Rattle.sc_budget_law.proofs.Knowing.{IsRound}
 use Rattle.sc_budget_law.proofs.Leading.{IsHeld}
 use Rattle.sc_budget_law.proofs.NodeRows.{of_frame}
 use Rattle.sc_budget_law.proofs.QuietLeader.{leader_idle}
-use Rattle.sc_budget_law.proofs.QuietSought.{IsSought}
 use Rattle.sc_budget_law.proofs.QuietTurns.{AreSought, sought_row}
 use Rattle.sc_budget_law.proofs.Round.{round}
 use Rattle.sc_budget_law.proofs.Sends.{mail_of}
@@ -123,8 +119,8 @@ module _ (words : ℕ → ℕ → ℕ × ℕ) (scenario : Scenario) (stage_ : Is
     sought_at rows lawful =
         by_rows sys lines (AreSought words scenario stage_) none_sought
         (λ before row l s. (
-          let l_ = lawful-prefix sys lines before (row ∷ []) l in
-          sought_row words scenario stage_ few before (tidy sys lines before plain l_) (plain_at before l_) s round_ row (orderly sys lines before row plain l) (plain_at (before ++ row ∷ []) l)))
+        let l_ = lawful-prefix sys lines before (row ∷ []) l in
+        sought_row words scenario stage_ few before (tidy sys lines before plain l_) (plain_at before l_) s round_ row (orderly sys lines before row plain l) (plain_at (before ++ row ∷ []) l)))
         rows lawful
 
     -- ---- in a quiet journal none waits
@@ -256,10 +252,10 @@ all_answered all_bounded end_quiet words scenario journal valid at lawful whole 
     let d = first_delivery served.after served.delivered in
     let start : List (Line OrderLine) = map line_of served.before ++ line.Go (client_actor asks.client) ∷ [] in
     let lines : schedule scenario ≡ start ++ map line_of served.after =
-        ap (map line_of) served.lines_are ∙ (map-append line_of served.before (Go asks.client ∷ served.after) ∙ sym (append_assoc (map line_of served.before) (line.Go (client_actor asks.client) ∷ []) (map line_of served.after))) in
+    ap (map line_of) served.lines_are ∙ (map-append line_of served.before (Go asks.client ∷ served.after) ∙ sym (append_assoc (map line_of served.before) (line.Go (client_actor asks.client) ∷ []) (map line_of served.after))) in
     let rest_is : map line_of served.after ≡ map line_of d.0 ++ line_of d.1 ∷ map line_of d.2 = ap (map line_of) d.3 ∙ map-append line_of d.0 (d.1 ∷ d.2) in
     let was = was_quiet sys (client_actor asks.client) seat born (schedule scenario) (λ rows l. end_quiet words scenario rows valid at l) start (map line_of served.after) lines
-        (among-right (line.Go (client_actor asks.client)) (map line_of served.before) (line.Go (client_actor asks.client) ∷ []) (inl refl)) (map line_of d.0) (line_of d.1) (map line_of d.2) rest_is (many_line d.1 d.4) journal lawful whole in
+    (among-right (line.Go (client_actor asks.client)) (map line_of served.before) (line.Go (client_actor asks.client) ∷ []) (inl refl)) (map line_of d.0) (line_of d.1) (map line_of d.2) rest_is (many_line d.1 d.4) journal lawful whole in
     let begins : IsLawful sys (schedule scenario) was.before = lawful-prefix sys (schedule scenario) was.before was.after (subst (λ l. IsLawful sys (schedule scenario) l) was.rows_are lawful) in
     let then_ = all_replies words scenario s few (round scenario bounded) (schedule scenario) plain birth was.before begins was.quiet asks a was.gone in
     let more = replies_more seat was.before was.after in

@@ -1,25 +1,22 @@
 -- A leader all of whose votes are counted has nothing to do.
-use Rattle.std.proofs.Common.{◌≡◌, ℕ, ◌+◌, ◌*◌, ◌<◌, ◌≤◌, eqb, ltb, Bool, true, false, List, [], ◌∷◌, length, count_by, Option, Some, None, ◌⊎◌, inl, inr, refl, sym, ◌∙◌, ap, subst, arith}
-use Rattle.std.specs.Prelude.{find}
+use Rattle.std.proofs.Common.{◌≡◌, ℕ, ◌+◌, ◌*◌, ◌<◌, ◌≤◌, eqb, Bool, true, false, List, [], ◌∷◌, length, count_by, Option, Some, inl, inr, refl, sym, ◌∙◌, ap, subst, arith}
 use Rattle.std.specs.Option.{option_map}
 use Rattle.std.proofs.lemmas.Bool.{cases_lt, eqb-true, eq-eqb, lt-ltb, both_ways}
-use Rattle.std.proofs.lemmas.List.Sums.{sum_by-cons}
-use Rattle.sc_base.specs.Among.{Among, Each}
+use Rattle.sc_base.specs.Among.{Among}
 use Rattle.sc_cmd.specs.declared.commands.Command.{Command}
 use Rattle.sc_cmd.specs.declared.commands.Command.TheVariants.{Call}
-use Rattle.sc_member.specs.Roster.{is_member, IsRoster}
+use Rattle.sc_member.specs.Roster.{is_member}
 use Rattle.sc_member.specs.Majority.{votes_of, is_majority}
 use Rattle.sc_paxos_words.specs.declared.flights.Flight.{Flight}
 use Rattle.sc_paxos_words.specs.Votes.{kept_voters}
 use Rattle.sc_paxos_words.proofs.ListLemmas.{Each-among, find_found}
 use Rattle.sc_node_table.specs.Replica.{ReplicaState, next}
-use Rattle.sc_node_table.specs.Slots.{slots_ahead}
 use Rattle.sc_budget_law.specs.BetweenJournal.{voters_in}
 use Rattle.sc_budget_law.specs.Frames.{Frame, IsFrame}
 use Rattle.sc_budget_law.specs.PlainMail.{Requests}
 use Rattle.sc_budget_law.specs.PlainNode.{takers, IsPlainFlight, IsLeading}
-use Rattle.sc_budget_law.proofs.Counts.{one_if, one_yes, one_no, count-cons, find_some, entries_at}
-use Rattle.sc_budget_law.proofs.Leading.{in_range, range_yes, range_before, range_behind, flights_at, IsHeld}
+use Rattle.sc_budget_law.proofs.Counts.{one_yes, one_no, count-cons, find_some}
+use Rattle.sc_budget_law.proofs.Leading.{in_range, range_yes, range_before, range_behind, IsHeld}
 use Rattle.sc_budget_law.proofs.Sends.{member_or_among}
 
 count_among : {X : Type 0} (p : X → Bool) (xs : List X) (x : X) → Among x xs → p x ≡ true → 1 ≤ count_by p xs
@@ -60,10 +57,10 @@ module _ (begun : Requests) (frame : Frame) (is : IsFrame frame) (r : ReplicaSta
   nothing_at slot some = elim (cases_lt 0 d.taken) [
     | inl up ↦ none_taken up
     | inr zero_ ↦ (let once = d.leader.slots.once slot in
-      elim (cases_lt slot (next r + d.taken)) [
-        | inl low ↦ (let zero_low = one_no (in_range (next r) d.taken slot) (range_none slot (omega (arith, low, zero_))) in absurd (omega (arith, once, zero_low, some)))
-        | inr high ↦ (let none = one_no (in_range (next r) d.taken slot) (range_behind (next r) d.taken slot high) in absurd (omega (arith, once, none, some)))
-      ])
+        elim (cases_lt slot (next r + d.taken)) [
+          | inl low ↦ (let zero_low = one_no (in_range (next r) d.taken slot) (range_none slot (omega (arith, low, zero_))) in absurd (omega (arith, once, zero_low, some)))
+          | inr high ↦ (let none = one_no (in_range (next r) d.taken slot) (range_behind (next r) d.taken slot high) in absurd (omega (arith, once, none, some)))
+        ])
   ]
     where
       range_none : (slot : ℕ) → slot < next r → in_range (next r) d.taken slot ≡ false

@@ -1,13 +1,10 @@
 -- A request that waits is on its way, or its answer is, or its call is at the leader that was asked.
-use Rattle.std.proofs.Common.{◌≡◌, ℕ, zero, suc, ◌+◌, ◌-◌, ◌<◌, ◌≤◌, eqb, ◌&&◌, Bool, true, false, true≢false, cond, List, [], ◌∷◌, ◌++◌, length, map, drop, Option, Some, None, ◌⊎◌, inl, inr, refl, sym, ◌∙◌, ap, subst, arith}
+use Rattle.std.proofs.Common.{◌≡◌, ℕ, ◌≤◌, eqb, ◌&&◌, true, false, cond, List, [], ◌∷◌, ◌++◌, drop, Some, ◌⊎◌, inl, inr, refl, sym, ◌∙◌, ap, subst, arith}
 use Rattle.std.specs.List.{filter}
-use Rattle.std.proofs.lemmas.Bool.{cases_eq, cases_Bool, both_ways, ne_eqb, eq-eqb, cond-true, cond_both}
+use Rattle.std.proofs.lemmas.Bool.{ne_eqb, eq-eqb, cond-true, cond_both}
 use Rattle.sc_base.specs.Among.{Among, Each}
 use Rattle.sc_base.specs.Limits.{client_actor}
-use Rattle.sc_base.specs.Same.{same_draw}
-use Rattle.sc_base.specs.declared.names.Draw.{Draw}
 use Rattle.sc_base.specs.declared.ops.Op.{Op}
-use Rattle.sc_base.proofs.NameLemmas.{draw_is, same_name}
 use Rattle.sc_cmd.specs.declared.cores.Base.{Base}
 use Rattle.sc_cmd.specs.declared.orders.OrderLine.{OrderLine}
 use Rattle.sc_mail.specs.declared.bodies.AnswerBody.{AnswerBody}
@@ -16,22 +13,21 @@ use Rattle.sc_mail.specs.declared.bodies.Mail.{Mail}
 use Rattle.sc_mail.specs.declared.bodies.MailBody.{MailBody}
 use Rattle.sc_mail.specs.declared.bodies.MailBody.TheVariants.{Request, Answer, Prepare, Promise, Accept, Accepted, Nack, Learn, Ask, Install, TxPrepare, TxVote, TxOutcome, TxElsewhere, TxWatch, TxWatched, Told}
 use Rattle.sc_actor.specs.declared.rows.Row.{Row}
-use Rattle.sc_actor.specs.Mail.{mails, is_delivery}
+use Rattle.sc_actor.specs.Mail.{is_delivery}
 use Rattle.sc_actor.specs.Replay.{value}
 use Rattle.sc_paxos_words.proofs.ListLemmas.{Each-among}
-use Rattle.sc_node_table.specs.Node.{NodeState, replica_of}
 use Rattle.sc_node_table.specs.Replica.{ReplicaState, Place}
 use Rattle.sc_client_table.specs.Client.{Client as ClientState}
 use Rattle.sc_scenario.specs.declared.scenarios.Asks.{Asks}
 use Rattle.sc_scenario.specs.declared.scenarios.Scenario.{Scenario}
-use Rattle.sc_sound.specs.Players.{Player, player_table, node_seat, client_seat, route_of, system_of, as_nodes}
-use Rattle.sc_sound.specs.declared.roles.Role.TheVariants.{Node, Client}
+use Rattle.sc_sound.specs.Players.{player_table, client_seat, route_of, system_of, as_nodes}
+use Rattle.sc_sound.specs.declared.roles.Role.TheVariants.{Client}
 use Rattle.sc_orderly_law.specs.Orderly.{rest, mail_for, taken}
 use Rattle.sc_budget_law.specs.BetweenJournal.{replica_at}
 use Rattle.sc_budget_law.specs.Frames.{Frame, IsFrame}
-use Rattle.sc_budget_law.specs.Owed.{answer_owes, waiting_ones, begun_ones}
+use Rattle.sc_budget_law.specs.Owed.{answer_owes, waiting_ones}
 use Rattle.sc_budget_law.specs.PlainClient.{IsBegun, IsWaiting, begun_of}
-use Rattle.sc_budget_law.specs.PlainMail.{Requests, IsPlainAnswer, IsPlainBody, IsPlainMail}
+use Rattle.sc_budget_law.specs.PlainMail.{Requests, IsPlainAnswer, IsPlainBody}
 use Rattle.sc_budget_law.proofs.BetweenLists.{among-left, among-right}
 use Rattle.sc_budget_law.proofs.BetweenStage.{frames_of, IsStage}
 use Rattle.sc_budget_law.proofs.BetweenViews.{Journal}
@@ -123,7 +119,7 @@ module _ (words : ℕ → ℕ → ℕ × ℕ) (scenario : Scenario) where
     pub behind_left : (first : Mail) (behind : List Mail) → left rows row.who ≡ first ∷ behind → is_delivery row.event ≡ true → (mail : Mail) → Among mail (left rows row.who) → (first ≡ mail) ⊎ Among mail (left (rows ++ row ∷ []) row.who)
     behind_left first behind is delivers mail a =
         let one : drop (taken row.who row) (left rows row.who) ≡ behind =
-            ap (λ b. drop (cond (b && is_delivery row.event) 1 0) (left rows row.who)) (eq-eqb row.who row.who refl) ∙ (ap (λ b. drop (cond b 1 0) (left rows row.who)) delivers ∙ ap (drop 1) is) in
+        ap (λ b. drop (cond (b && is_delivery row.event) 1 0) (left rows row.who)) (eq-eqb row.who row.who refl) ∙ (ap (λ b. drop (cond b 1 0) (left rows row.who)) delivers ∙ ap (drop 1) is) in
         elim (subst (Among mail) is a) [
           | inl same ↦ inl same
           | inr b ↦ inr (subst (Among mail) (sym (after row.who)) (among-left mail (drop (taken row.who row) (left rows row.who)) (mail_for (system_of as_nodes words scenario) row.who row.sent) (subst (Among mail) (sym one) b)))
@@ -133,7 +129,7 @@ module _ (words : ℕ → ℕ → ℕ × ℕ) (scenario : Scenario) where
     pub own_left : is_delivery row.event ≡ false → (mail : Mail) → Among mail (left rows row.who) → Among mail (left (rows ++ row ∷ []) row.who)
     own_left none mail a =
         let all : drop (taken row.who row) (left rows row.who) ≡ left rows row.who =
-            ap (λ b. drop (cond (b && is_delivery row.event) 1 0) (left rows row.who)) (eq-eqb row.who row.who refl) ∙ (ap (λ b. drop (cond b 1 0) (left rows row.who)) none ∙ at_zero (left rows row.who)) in
+        ap (λ b. drop (cond (b && is_delivery row.event) 1 0) (left rows row.who)) (eq-eqb row.who row.who refl) ∙ (ap (λ b. drop (cond b 1 0) (left rows row.who)) none ∙ at_zero (left rows row.who)) in
         subst (Among mail) (sym (after row.who)) (among-left mail (drop (taken row.who row) (left rows row.who)) (mail_for (system_of as_nodes words scenario) row.who row.sent) (subst (Among mail) (sym all) a))
       where
         at_zero : (xs : List Mail) → drop 0 xs ≡ xs
@@ -172,7 +168,7 @@ module _ (words : ℕ → ℕ → ℕ × ℕ) (scenario : Scenario) where
         final (NotMine arc succ) number c op n e owes p = tt
         final (Stale last) number c op n e owes p =
             (let later = p.0 in
-              let low = begun_low last p.1.0 (subst (λ x. IsBegun scenario rows x last p.1.0) (sym e) p.1.1) in
-              absurd (omega (arith, later, low, n)))
+            let low = begun_low last p.1.0 (subst (λ x. IsBegun scenario rows x last p.1.0) (sym e) p.1.1) in
+            absurd (omega (arith, later, low, n)))
         final (NotLeader hint) number c op n e owes p = absurd p
         final (Gone into) number c op n e owes p = absurd p

@@ -1,28 +1,27 @@
 -- A row of a node keeps where a request that waits is.
-use Rattle.std.proofs.Common.{◌≡◌, ℕ, zero, suc, ◌+◌, ◌-◌, ◌<◌, ◌≤◌, Bool, true, false, List, [], ◌∷◌, ◌++◌, length, map, drop, Option, Some, None, ◌⊎◌, inl, inr, refl, sym, ◌∙◌, ap, subst, arith}
+use Rattle.std.proofs.Common.{◌≡◌, ℕ, true, List, [], ◌∷◌, ◌++◌, drop, Some, ◌⊎◌, inl, inr, refl, sym, ◌∙◌, ap, subst, arith}
 use Rattle.std.proofs.lemmas.Bool.{cases_eq, cases_Bool, both_ways}
-use Rattle.sc_base.specs.Among.{Among, Each}
+use Rattle.sc_base.specs.Among.{Among}
 use Rattle.sc_base.specs.Limits.{client_actor}
 use Rattle.sc_base.specs.Same.{same_draw}
-use Rattle.sc_base.specs.declared.names.Draw.{Draw}
 use Rattle.sc_base.specs.declared.ops.Op.{Op}
 use Rattle.sc_base.proofs.NameLemmas.{draw_is, same_name}
 use Rattle.sc_cmd.specs.declared.orders.OrderLine.{OrderLine}
 use Rattle.sc_mail.specs.declared.bodies.AnswerBody.TheVariants.{NotMine}
 use Rattle.sc_mail.specs.declared.bodies.Mail.{Mail}
-use Rattle.sc_mail.specs.declared.bodies.MailBody.TheVariants.{Request, Answer}
+use Rattle.sc_mail.specs.declared.bodies.MailBody.TheVariants.{Answer}
 use Rattle.sc_actor.specs.declared.rows.Row.{Row}
 use Rattle.sc_actor.specs.Mail.{is_delivery}
 use Rattle.sc_actor.specs.Replay.{value}
 use Rattle.sc_node_table.specs.Node.{NodeState, replica_of, is_node}
-use Rattle.sc_node_table.specs.Replica.{ReplicaState, Place}
+use Rattle.sc_node_table.specs.Replica.{Place}
 use Rattle.sc_client_table.specs.Client.{Client as ClientState}
 use Rattle.sc_scenario.specs.declared.scenarios.Asks.{Asks}
 use Rattle.sc_scenario.specs.declared.scenarios.Scenario.{Scenario}
 use Rattle.sc_sound.specs.Players.{player_table, node_seat, client_seat, route_of, system_of, as_nodes}
 use Rattle.sc_sound.specs.declared.roles.Role.TheVariants.{Node, Client}
 use Rattle.sc_orderly_law.specs.Orderly.{rest, mail_for, taken}
-use Rattle.sc_budget_law.specs.BetweenJournal.{replicas_of, replica_at}
+use Rattle.sc_budget_law.specs.BetweenJournal.{replica_at}
 use Rattle.sc_budget_law.specs.Frames.{Frame}
 use Rattle.sc_budget_law.specs.PlainClient.{IsBegun, IsWaiting}
 use Rattle.sc_budget_law.specs.PlainMail.{IsPlainBody}
@@ -32,14 +31,13 @@ use Rattle.sc_budget_law.proofs.BetweenViews.{Journal, replica_others, replica_i
 use Rattle.sc_budget_law.proofs.Clients.{asking}
 use Rattle.sc_budget_law.proofs.Leading.{IsHeld, IsToldOf}
 use Rattle.sc_budget_law.proofs.NodeRows.{NodeRow, found_after, others_after}
-use Rattle.sc_budget_law.proofs.QuietSought.{IsFinal, does_holds, IsAsked, IsAnswered, IsHeldAt, IsSought, sent_left, others_left, behind_left, told_final}
+use Rattle.sc_budget_law.proofs.QuietSought.{does_holds, IsAsked, IsAnswered, IsHeldAt, IsSought, sent_left, others_left, behind_left, told_final}
 use Rattle.sc_budget_law.proofs.ReplicaRows.{Does}
 use Rattle.sc_budget_law.proofs.Sends.{mail_of}
 
 module _ (words : ℕ → ℕ → ℕ × ℕ) (scenario : Scenario) (stage : IsStage scenario) (rows : Journal) (row : Row Mail OrderLine)
     (after : (who : ℕ) → rest (system_of as_nodes words scenario) (rows ++ row ∷ []) who ≡ drop (taken who row) (rest (system_of as_nodes words scenario) rows who) ++ mail_for (system_of as_nodes words scenario) who row.sent)
     (asks : Asks) (a : Among asks scenario.clients) (client : ClientState) (is_client : value player_table (client_seat (route_of stage.first) asks) rows ≡ Client client) (me_is : client.me ≡ asks.client) (w : IsWaiting client) where
-
   -- ---- the leader takes no part: neither it nor the client acts
 
   -- where neither the leader of the group nor the client acts, and the leader's replica stays
@@ -86,9 +84,12 @@ module _ (words : ℕ → ℕ → ℕ × ℕ) (scenario : Scenario) (stage : IsS
         elim (does.1) [
           | inl refused ↦ (
               let said : row.sent ≡ mail_of k.frame.lead (client_actor client.me) (Answer k.frame.core.id w.seq (NotMine k.frame.core.arc k.frame.core.succ)) ∷ [] = said_is ∙ ap (λ (p : Place). p.1) refused.place_is in
-              inr (inl (NotMine k.frame.core.arc k.frame.core.succ, tt,
+              inr (inl (
+                NotMine k.frame.core.arc k.frame.core.succ,
+                tt,
                 sent_left words scenario rows row after (client_actor client.me) (mail_of k.frame.lead (client_actor client.me) (Answer k.frame.core.id w.seq (NotMine k.frame.core.arc k.frame.core.succ))) refl
-                  (subst (Among (mail_of k.frame.lead (client_actor client.me) (Answer k.frame.core.id w.seq (NotMine k.frame.core.arc k.frame.core.succ)))) (sym said) (inl refl)))))
+                    (subst (Among (mail_of k.frame.lead (client_actor client.me) (Answer k.frame.core.id w.seq (NotMine k.frame.core.arc k.frame.core.succ)))) (sym said) (inl refl)),
+              )))
           | inr queued ↦ elim (queued.run.leads.calls client.me w.seq (inr (refl, omega arith))) [ inl h ↦ held_later lead h | inr t ↦ told_later lead t ]
         ]
 
@@ -128,7 +129,7 @@ module _ (words : ℕ → ℕ → ℕ × ℕ) (scenario : Scenario) (stage : IsS
     lead_later : (frame : Frame) → Among frame (frames_of scenario) → node.me ≡ frame.lead → IsAsked words scenario rows frame client.me w.seq ⊎ (IsAnswered words scenario rows frame client.me w.seq ⊎ IsHeldAt words scenario rows frame client.me w.seq) → Later frame
     lead_later frame b lead s = elim (cases_Bool (same_draw frame.core.id k.frame.core.id)) [
       | inl t ↦ (let same : k.frame ≡ frame = stage.apart k.frame frame k.is_frame b (sym (draw_is frame.core.id k.frame.core.id t)) in
-        subst Later same (own_later (lead ∙ ap (λ (f : Frame). f.lead) (sym same)) (subst (λ f. IsAsked words scenario rows f client.me w.seq ⊎ (IsAnswered words scenario rows f client.me w.seq ⊎ IsHeldAt words scenario rows f client.me w.seq)) (sym same) s)))
+          subst Later same (own_later (lead ∙ ap (λ (f : Frame). f.lead) (sym same)) (subst (λ f. IsAsked words scenario rows f client.me w.seq ⊎ (IsAnswered words scenario rows f client.me w.seq ⊎ IsHeldAt words scenario rows f client.me w.seq)) (sym same) s)))
       | inr f ↦ other_later frame (λ e. both_ways (same_draw frame.core.id k.frame.core.id) f (same_name frame.core.id k.frame.core.id e)) lead s
     ]
 

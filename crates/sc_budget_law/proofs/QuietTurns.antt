@@ -1,26 +1,24 @@
 -- In a plain journal each request that waits is on its way, or its answer is, or its call is at the leader that was asked.
-use Rattle.std.proofs.Common.{◌≡◌, ℕ, zero, suc, ◌+◌, ◌-◌, ◌<◌, ◌≤◌, eqb, Bool, true, false, cond, List, [], ◌∷◌, ◌++◌, length, map, drop, find, Option, Some, None, ◌⊎◌, inl, inr, refl, sym, ◌∙◌, ap, subst, arith}
+use Rattle.std.proofs.Common.{◌≡◌, ℕ, ◌+◌, ◌≤◌, eqb, true, false, List, [], ◌∷◌, ◌++◌, drop, find, Some, None, inl, inr, refl, sym, ◌∙◌, ap, subst, arith}
 use Rattle.std.proofs.lemmas.Bool.{cases_eq, both_ways}
-use Rattle.sc_base.specs.Among.{Among, Each}
+use Rattle.sc_base.specs.Among.{Among}
 use Rattle.sc_base.specs.Limits.{client_actor}
 use Rattle.sc_base.specs.declared.names.Draw.{Draw}
-use Rattle.sc_base.specs.declared.ops.Op.{Op}
 use Rattle.sc_cmd.specs.declared.orders.OrderLine.{OrderLine}
 use Rattle.sc_mail.specs.declared.bodies.AnswerBody.{AnswerBody}
 use Rattle.sc_mail.specs.declared.bodies.AnswerBody.TheVariants.{Value, NotLeader, NotMine, Gone, Stale}
 use Rattle.sc_mail.specs.declared.bodies.Mail.{Mail}
-use Rattle.sc_mail.specs.declared.bodies.MailBody.{MailBody}
-use Rattle.sc_mail.specs.declared.bodies.MailBody.TheVariants.{Request, Answer}
+use Rattle.sc_mail.specs.declared.bodies.MailBody.TheVariants.{Answer}
 use Rattle.sc_actor.specs.declared.actors.Seat.{Seat}
 use Rattle.sc_actor.specs.declared.rows.Event.{Event}
 use Rattle.sc_actor.specs.declared.rows.Event.TheVariants.{Deliver, Tick, Go, Told, Crash, Drop, Again}
 use Rattle.sc_actor.specs.declared.rows.Input.TheVariants.{Got, Go as GoInput}
 use Rattle.sc_actor.specs.declared.rows.Row.{Row}
-use Rattle.sc_actor.specs.Mail.{mails, is_delivery}
+use Rattle.sc_actor.specs.Mail.{mails}
 use Rattle.sc_actor.specs.Replay.{value, acted, input_of}
 use Rattle.sc_actor.specs.System.{System, row_of, has_gone, waiting, kth}
 use Rattle.sc_actor.proofs.ReplayLemmas.{mails-snoc}
-use Rattle.sc_node_table.specs.Node.{NodeState, is_node, node_table}
+use Rattle.sc_node_table.specs.Node.{is_node, node_table}
 use Rattle.sc_node_table.specs.Replica.{last_slot}
 use Rattle.sc_node_table.specs.Slots.{slots_ahead}
 use Rattle.sc_member.specs.Roster.{is_member}
@@ -35,8 +33,8 @@ use Rattle.sc_orderly_law.specs.Orderly.{IsTidy, IsOrderly, IsInOrder, rest, mai
 use Rattle.sc_orderly_law.specs.Owing.{owed_at_birth}
 use Rattle.sc_orderly_law.proofs.Resting.{TakesFirst, rest-row}
 use Rattle.sc_budget_law.specs.BetweenJournal.{replica_at}
-use Rattle.sc_budget_law.specs.Frames.{Frame, IsFrame}
-use Rattle.sc_budget_law.specs.PlainClient.{IsBegun, IsPlainClient, IsWaiting}
+use Rattle.sc_budget_law.specs.Frames.{Frame}
+use Rattle.sc_budget_law.specs.PlainClient.{IsBegun, IsWaiting}
 use Rattle.sc_budget_law.specs.PlainMail.{IsPlainMail}
 use Rattle.sc_budget_law.proofs.BetweenAll.{owing_of, IsNodeAt, IsClientAt, IsPlainJournal}
 use Rattle.sc_budget_law.proofs.BetweenClients as client_rows
@@ -48,7 +46,7 @@ use Rattle.sc_budget_law.proofs.BetweenViews.{Journal, replica_others, replica_i
 use Rattle.sc_budget_law.proofs.BetweenWhole.{of_player}
 use Rattle.sc_budget_law.proofs.Clients.{asking, DidAsk, DidEnd, DidIgnore}
 use Rattle.sc_budget_law.proofs.Knowing.{IsRound}
-use Rattle.sc_budget_law.proofs.QuietSought.{IsFinal, IsAsked, IsAnswered, IsHeldAt, IsSought, sent_left, others_left, own_left, behind_left}
+use Rattle.sc_budget_law.proofs.QuietSought.{IsFinal, IsSought, sent_left, others_left, own_left, behind_left}
 use Rattle.sc_budget_law.proofs.QuietSteps.{sought_stays, sought_node}
 use Rattle.sc_budget_law.proofs.Sends.{mail_of}
 
@@ -140,11 +138,14 @@ module _ (words : ℕ → ℕ → ℕ × ℕ) (scenario : Scenario) (stage : IsS
             name = s.name;
             lead = s.lead;
             where_ = elim (s.where_) [
-              | inl asked ↦ inl (asked.0, elim (cases_eq s.frame.lead me) [
-                | inl here ↦ (let mail : Mail = asking client.me s.frame.lead s.frame.core.id w.seq asked.0 in
-                  subst (λ x. Among mail (rest sys (rows ++ r ∷ []) x)) (sym here) (own_left words scenario rows r after refl mail (subst (λ x. Among mail (rest sys rows x)) here asked.1)))
-                | inr ne ↦ others_left words scenario rows r after s.frame.lead (asking client.me s.frame.lead s.frame.core.id w.seq asked.0) ne asked.1
-              ])
+              | inl asked ↦ inl (
+                asked.0,
+                elim (cases_eq s.frame.lead me) [
+                  | inl here ↦ (let mail : Mail = asking client.me s.frame.lead s.frame.core.id w.seq asked.0 in
+                      subst (λ x. Among mail (rest sys (rows ++ r ∷ []) x)) (sym here) (own_left words scenario rows r after refl mail (subst (λ x. Among mail (rest sys rows x)) here asked.1)))
+                  | inr ne ↦ others_left words scenario rows r after s.frame.lead (asking client.me s.frame.lead s.frame.core.id w.seq asked.0) ne asked.1
+                ],
+              )
               | inr other ↦ elim other [
                 | inl answered ↦ inr (inl (answered.0, answered.1, others_left words scenario rows r after (client_actor client.me) (mail_of s.frame.lead (client_actor client.me) (Answer s.frame.core.id w.seq answered.0)) mine answered.2))
                 | inr held ↦ inr (inr (held.0, replica s.frame.lead ∙ held.1, held.2))
@@ -300,7 +301,7 @@ module _ (words : ℕ → ℕ → ℕ × ℕ) (scenario : Scenario) (stage : IsS
         own_sought : (w : IsWaiting step.0) → IsSought words scenario turned step.0 w
         own_sought w = elim ((client_rows.takes words scenario stage round rows t j mine is_mine born number fine).does) [
           | inl ignored ↦ (let e : state ≡ step.0 = sym (ap (λ (p : ClientStep). p.0) ignored.after_is) in
-            subst (λ (x : ClientState). (w_ : IsWaiting x) → IsSought words scenario turned x w_) e (ignored_sought ignored) w)
+              subst (λ (x : ClientState). (w_ : IsWaiting x) → IsSought words scenario turned x w_) e (ignored_sought ignored) w)
           | inr did ↦ elim did [
             | inl asked ↦ asked_sought (Deliver number) fine step acted_is became_is then_ asked w
             | inr ended ↦ ended_sought (Deliver number) fine step acted_is became_is then_ ended w

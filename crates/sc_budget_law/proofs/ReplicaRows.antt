@@ -30,7 +30,8 @@ use Rattle.sc_budget_law.proofs.Leading.{IsHeld, IsSaid}
 use Rattle.sc_budget_law.proofs.Pumping.{call_is}
 use Rattle.sc_budget_law.proofs.Running.{IsRun}
 use Rattle.sc_budget_law.proofs.Sends.{mail_of}
-use Rattle.sc_budget_law.proofs.Voting.{accepted_state, accept_is, accepted_plain, accepted_owes, accepted_next, accepted_flights, accepted_held, accepted_slots, accepted_follower, accepted_leader, accepted_done, learnt_state, learn_is, learnt_none, learnt_plain, learnt_follower, learnt_next, follower_owes, IsCounted, accepted_counted, accepted_none}
+use Rattle.sc_budget_law.proofs.Accepting.{accepted_state, accept_is, accepted_plain, accepted_owes, accepted_next, accepted_flights, accepted_held, accepted_slots, accepted_follower, accepted_leader, accepted_done, learnt_state, learn_is, learnt_none, learnt_plain, learnt_follower, learnt_next, follower_owes}
+use Rattle.sc_budget_law.proofs.Voting.{IsCounted, accepted_counted, accepted_none}
 
 -- ---- when a mail comes
 

@@ -1,7 +1,6 @@
 -- What stands between the leader of a group and its nodes after some rows.
-use Rattle.std.specs.Prelude.{◌≡◌, ℕ, ◌+◌, ◌==◌, ◌≤◌, true, List, [], map, filter, Option, Some, None, if◌then◌else◌}
+use Rattle.std.specs.Prelude.{ℕ, ◌+◌, ◌==◌, List, [], map, filter, Option, Some, None, if◌then◌else◌}
 use Rattle.std.specs.Option.{option_map}
-use Rattle.sc_base.specs.Among.{Among, Each}
 use Rattle.sc_base.specs.declared.names.Draw.{Draw}
 use Rattle.sc_cmd.specs.declared.commands.Command.{Command}
 use Rattle.sc_cmd.specs.declared.orders.OrderLine.{OrderLine}
@@ -11,7 +10,7 @@ use Rattle.sc_actor.specs.Replay.{value}
 use Rattle.sc_paxos_words.specs.declared.flights.Flight.{Flight}
 use Rattle.sc_paxos_words.specs.Leaders.{flight_at}
 use Rattle.sc_paxos_words.specs.Votes.{kept_voters}
-use Rattle.sc_node_table.specs.Node.{NodeState, replica_of, is_node}
+use Rattle.sc_node_table.specs.Node.{replica_of, is_node}
 use Rattle.sc_node_table.specs.Replica.{ReplicaState, next}
 use Rattle.sc_scenario.specs.declared.scenarios.Scenario.{Scenario}
 use Rattle.sc_sound.specs.Players.{Player, player_table, node_seat, system_of, as_nodes}

@@ -1,5 +1,6 @@
 -- What is proved of plain scenarios at their budget.
 use Rattle.std.specs.Prelude.{◌≡◌, ℕ, ◌^◌, ◌≤◌, false, List}
+use Rattle.sc_base.specs.Limits.{most_requests}
 use Rattle.sc_cmd.specs.declared.orders.OrderLine.{OrderLine}
 use Rattle.sc_mail.specs.declared.bodies.Mail.{Mail}
 use Rattle.sc_mail.specs.Weight.{body_weight}
@@ -7,6 +8,7 @@ use Rattle.sc_actor.specs.Counted.{journal_bytes}
 use Rattle.sc_actor.specs.declared.rows.Row.{Row}
 use Rattle.sc_actor.specs.Walk.{unsettled}
 use Rattle.sc_scenario.specs.declared.scenarios.Scenario.{Scenario}
+use Rattle.sc_scenario.specs.Made.{made_scenario}
 use Rattle.sc_scenario.specs.Valid.{IsValid}
 use Rattle.sc_sound.specs.Players.{Lawful, Whole, as_nodes, schedule, system_of}
 use Rattle.sc_budget_law.specs.Budget.{IsAtBudget, AreAnswered}
@@ -31,3 +33,7 @@ PlainJournalsAreLight =
     (words : ℕ → ℕ → ℕ × ℕ) (scenario : Scenario) (journal : List (Row Mail OrderLine))
     → IsValid scenario → IsAtBudget scenario → Lawful as_nodes words scenario journal
     → journal_bytes (λ mail. body_weight mail.body) journal ≤ 2 ^ 30
+
+-- every made scenario is at its budget
+abbrev pub MadeScenariosAreAtBudget : Type 0
+MadeScenariosAreAtBudget = (n seed : ℕ) → n ≤ most_requests → IsAtBudget (made_scenario n seed)

@@ -5,7 +5,7 @@
 //! is so many deliveries in each line: for each request 32, and 4 for each group.
 #![tactic(auto)]
 
-ghost use Rattle.sc_budget_law.specs.Laws.{PlainJournalsAreLight, PlainLinesEndQuiet, PlainRequestsAreAnswered};
+ghost use Rattle.sc_budget_law.specs.Laws.{MadeScenariosAreAtBudget, PlainJournalsAreLight, PlainLinesEndQuiet, PlainRequestsAreAnswered};
 
 use sc_scenario::valid_scenarios_are_bounded;
 
@@ -34,3 +34,8 @@ pub fn plain_journals_are_light()
 {
     valid_scenarios_are_bounded();
 }
+
+/// Every made scenario of up to 1,000 requests a client is plain and at its budget.
+pub fn made_scenarios_are_at_budget()
+    ensures { MadeScenariosAreAtBudget }
+{}

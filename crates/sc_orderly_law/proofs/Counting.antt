@@ -17,7 +17,7 @@ use Rattle.sc_actor.specs.Walk.{IsLawful}
 use Rattle.sc_actor.proofs.PendingLemmas.{waiting_one}
 use Rattle.sc_actor.proofs.ReplayLemmas.{mails-snoc}
 use Rattle.sc_orderly_law.specs.Orderly.{IsPlainLine, IsInOrder, mail_with, is_born, deliveries, goes}
-use Rattle.sc_orderly_law.specs.Owing.{Owing, Lowers, SendsToActors, under_way, owed}
+use Rattle.sc_orderly_law.specs.Owing.{Owing, SendsToActors, under_way, owed}
 use Rattle.sc_orderly_law.proofs.Ordering.{orderly, by_rows}
 use Rattle.sc_orderly_law.proofs.Rests.{count_owes}
 use Rattle.sc_orderly_law.proofs.Resting.{after-row, is_born-from}

@@ -1,5 +1,5 @@
 -- A whole journal has passed each of its lines: after a line of many deliveries that was not cut off it was quiet, and who was to go before that line had gone.
-use Rattle.std.proofs.Common.{◌≡◌, ℕ, ◌+◌, ◌-◌, List, [], ◌∷◌, ◌++◌, Bool, true, false, true≢false, cond, eqb, eq-eqb, ◌&&◌, ◌||◌, not, find, fold, refl, sym, ◌∙◌, ap, subst, append_assoc, append-nil, Option, None, Some, ◌⊎◌, inl, inr}
+use Rattle.std.proofs.Common.{◌≡◌, ℕ, ◌+◌, ◌-◌, List, [], ◌∷◌, ◌++◌, Bool, true, false, true≢false, cond, eqb, eq-eqb, ◌&&◌, ◌||◌, not, find, refl, sym, ◌∙◌, ap, subst, append_assoc, append-nil, Option, None, Some, ◌⊎◌, inl, inr}
 use Rattle.std.specs.Prelude.{is_none}
 use Rattle.std.specs.List.{flat_map}
 use Rattle.std.specs.Option.{option_map}
@@ -7,7 +7,7 @@ use Rattle.std.proofs.Math.Bool.{or-false}
 use Rattle.std.proofs.lemmas.Bool.{or_left, or_right}
 use Rattle.std.proofs.lemmas.List.Folds.{list_any-append}
 use Rattle.std.proofs.lemmas.List.Sums.{fold-append}
-use Rattle.sc_base.specs.Among.{Among, Each}
+use Rattle.sc_base.specs.Among.{Among}
 use Rattle.sc_base.proofs.CommonLemmas.{map-some}
 use Rattle.sc_actor.specs.declared.actors.Seat.{Seat}
 use Rattle.sc_actor.specs.declared.rows.Row.{Row}
@@ -82,7 +82,7 @@ module _ {A M O : Type 0} (s : System A M O) where
         by true e over' = e
         by false e over' =
             (let some : is_none (acts s rows who Go) ≡ false = ap (λ o. is_none (option_map (λ (x : Seat A). row_of s.table x rows Go) o)) born in
-              absurd (true≢false (sym over' ∙ some)))
+            absurd (true≢false (sym over' ∙ some)))
 
     quiet_over : (rows : List (Row M O)) (many : Task O) → IsMany many → cuts s rows many ≡ false → is_quiet s rows ≡ true
     quiet_over rows (Settles left) is e = not_not (is_quiet s rows) e
@@ -121,7 +121,7 @@ module _ {A M O : Type 0} (s : System A M O) where
 
         by : (b : Bool) → is_over s rows task ≡ b → (cond b (onward s rows (front ++ many ∷ back) (skipped + skips task) (cut || cuts s rows task)) (record { tasks = task ∷ front ++ many ∷ back; rows = rows; skipped = skipped; unsettled = cut })).unsettled ≡ false
             → ((has_gone rows who ≡ true) ⊎ Among (Once (GoLine who)) front → (onward s rows (front ++ many ∷ back) (skipped + skips task) (cut || cuts s rows task)).unsettled ≡ false
-              → IsAhead rows (onward s rows (front ++ many ∷ back) (skipped + skips task) (cut || cuts s rows task)).tasks ⊎ ((is_quiet s rows ≡ true) × (has_gone rows who ≡ true)))
+            → IsAhead rows (onward s rows (front ++ many ∷ back) (skipped + skips task) (cut || cuts s rows task)).tasks ⊎ ((is_quiet s rows ≡ true) × (has_gone rows who ≡ true)))
             → IsAhead rows (cond b (onward s rows (front ++ many ∷ back) (skipped + skips task) (cut || cuts s rows task)) (record { tasks = task ∷ front ++ many ∷ back; rows = rows; skipped = skipped; unsettled = cut })).tasks ⊎ ((is_quiet s rows ≡ true) × (has_gone rows who ≡ true))
         by true over e more = more (left over goes) e
         by false open_ e more = inl (record { front = task ∷ front; many = many; back = back; is_many = is; tasks_are = refl; goes = goes })
@@ -141,7 +141,7 @@ module _ {A M O : Type 0} (s : System A M O) where
         let m = map-some (λ (x : Seat A). row_of s.table x rows Go) (find (λ other. eqb other.who who) s.births) row (unless-some (has_gone rows who) (acts s rows who Go) row e) in
         let number = find-who s.births who m.0 m.1 in
         let acts_ : (eqb row.who who && is_go row.event) ≡ true =
-            subst (λ (r : Row M O). (eqb r.who who && is_go r.event) ≡ true) m.2 (ap (λ b. b && true) (eq-eqb m.0.who who number)) in
+        subst (λ (r : Row M O). (eqb r.who who && is_go r.event) ≡ true) m.2 (ap (λ b. b && true) (eq-eqb m.0.who who number)) in
         list_any-append (λ (r : Row M O). eqb r.who who && is_go r.event) rows (row ∷ [])
         ∙ or_right (has_gone rows who) ((eqb row.who who && is_go row.event) || false) (or-false (eqb row.who who && is_go row.event) ∙ acts_)
 
@@ -198,7 +198,7 @@ module _ {A M O : Type 0} (s : System A M O) where
           let there : place.rows ≡ rows = place_after-rows s lines rows in
           let rest : rest_of_all place.tasks ≡ left.front ++ left.many ∷ left.back = ap rest_of_all a.tasks_are ∙ left.tasks_are in
           let same : place_after s lines (rows ++ row ∷ []) ≡ onward s (rows ++ row ∷ []) (left.front ++ left.many ∷ left.back) place.skipped place.unsettled =
-              step ∙ (ap (λ xs. onward s (xs ++ row ∷ []) (rest_of_all place.tasks) place.skipped place.unsettled) there ∙ ap (λ tasks. onward s (rows ++ row ∷ []) tasks place.skipped place.unsettled) rest) in
+          step ∙ (ap (λ xs. onward s (xs ++ row ∷ []) (rest_of_all place.tasks) place.skipped place.unsettled) there ∙ ap (λ tasks. onward s (rows ++ row ∷ []) tasks place.skipped place.unsettled) rest) in
           let ends = ap (λ (p : WalkPlace M O). p.unsettled) (sym same) ∙ settled (rows ++ row ∷ []) lawful in
           elim (passes (rows ++ row ∷ []) left.front left.many left.back place.skipped place.unsettled left.is_many left.goes ends) [
             | inl ahead ↦ inl (subst (λ (p : WalkPlace M O). IsAhead (rows ++ row ∷ []) p.tasks) (sym same) ahead)

@@ -1,3 +1,4 @@
+pub mod Answers
 pub mod Audited
 pub mod Played
 pub mod Refusals

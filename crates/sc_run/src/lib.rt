@@ -2,6 +2,7 @@
 //! else but its real input and output.
 #![tactic(auto)]
 
+mod answering;
 mod auditing;
 mod begun;
 mod done;
@@ -12,6 +13,7 @@ mod saying;
 mod showing;
 mod telling;
 
+pub use answering::runs_answer_within_budget;
 pub use auditing::{audit, lawful_journals_are_told};
 pub use begun::begin;
 pub use done::{Done, Text};

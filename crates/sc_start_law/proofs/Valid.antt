@@ -1,7 +1,7 @@
 -- Each valid scenario has one to sixteen groups in place, and its players are seated.
 use Rattle.std.proofs.Common.{◌≡◌, ◌-◌, ◌<◌, ◌≤◌, List, ◌∷◌, ◌++◌, length, map, Option, None, sym, ◌∙◌, ap, subst, arith}
 use Rattle.std.specs.List.{AllPairs}
-use Rattle.sc_base.specs.Among.{Among, Each}
+use Rattle.sc_base.specs.Among.{Among}
 use Rattle.sc_base.specs.declared.names.Draw.{Draw}
 use Rattle.sc_cmd.specs.declared.cores.Base.{Base}
 use Rattle.sc_node_table.specs.Slots.{numbers_from, slots_ahead}

@@ -1,0 +1,229 @@
+-- Accept and Learn at the replicas of a plain group.
+use Rattle.std.proofs.Common.{◌≡◌, ℕ, ◌+◌, ◌-◌, ◌≤◌, ◌&&◌, ◌||◌, not, eqb, true, false, cond, List, [], ◌∷◌, length, Some, None, refl, sym, ◌∙◌, ap, arith}
+use Rattle.std.specs.Prelude.{nat_le, nat_lt}
+use Rattle.std.specs.Option.{option_map}
+use Rattle.std.proofs.lemmas.Bool.{cond_both, cond-true, cond-false, eq-eqb, lt-leb, le-ltb, and_left}
+use Rattle.sc_base.specs.declared.names.Ballot.{Ballot}
+use Rattle.sc_base.specs.declared.ops.Op.{Op}
+use Rattle.sc_cmd.specs.declared.commands.Command.{Command}
+use Rattle.sc_cmd.specs.declared.commands.Command.TheVariants.{Call}
+use Rattle.sc_cmd.specs.declared.cores.Base.{Base}
+use Rattle.sc_cmd.specs.declared.cores.Core.{Core}
+use Rattle.sc_mail.specs.declared.bodies.Mail.{Mail}
+use Rattle.sc_mail.specs.declared.bodies.MailBody.TheVariants.{Accepted}
+use Rattle.sc_member.specs.Majority.{is_majority}
+use Rattle.sc_member.specs.Roster.{is_member}
+use Rattle.sc_paxos_words.specs.declared.answers.AcceptAnswer.{AcceptAnswer}
+use Rattle.sc_paxos_words.specs.declared.answers.AcceptAnswer.TheVariants as Asked
+use Rattle.sc_paxos_words.specs.declared.flights.Flight.{Flight}
+use Rattle.sc_paxos_words.specs.declared.reports.Report.{Report}
+use Rattle.sc_paxos_words.specs.Accepting.{accepted as accepted_by}
+use Rattle.sc_paxos_words.specs.Acceptors.{AcceptorState, may_accept, after_accept}
+use Rattle.sc_paxos_words.specs.Ballots.{below}
+use Rattle.sc_paxos_words.specs.Leaders.{flight_at, without_flight}
+use Rattle.sc_paxos_words.proofs.BallotLemmas.{at_least_itself}
+use Rattle.sc_machine_table.specs.Machine.{applied}
+use Rattle.sc_node_table.specs.Births.{ready_children, executed_children, learnt_children}
+use Rattle.sc_node_table.specs.Election.{stopped, saw}
+use Rattle.sc_node_table.specs.Execute.{entered, is_among, executed_one, executed_ready, all_ready, executed}
+use Rattle.sc_node_table.specs.Install.{install_to}
+use Rattle.sc_node_table.specs.Pump.{pumped_from, pumped}
+use Rattle.sc_node_table.specs.Replica.{ReplicaState, Place, name_of, next, members, settled, flying, forgotten, last_slot}
+use Rattle.sc_node_table.specs.Rows.{learn_row}
+use Rattle.sc_node_table.specs.Slots.{without_slot}
+use Rattle.sc_node_table.specs.Voting.{hinted, accepted_to, took, accept_row}
+use Rattle.sc_law_lemmas.proofs.Places.{cleared}
+use Rattle.sc_budget_law.specs.Frames.{Frame, IsFrame}
+use Rattle.sc_budget_law.specs.Owed.{replica_owes}
+use Rattle.sc_budget_law.specs.PlainMail.{Requests, IsPlainCall}
+use Rattle.sc_budget_law.specs.PlainNode.{AreTaken, IsPlainLeader, IsPlainFollower, IsPlainReplica, HasOffered}
+use Rattle.sc_budget_law.proofs.Entry.{entered_next, entered_plain, learnt_call}
+use Rattle.sc_budget_law.proofs.Leading.{IsHeld}
+use Rattle.sc_budget_law.proofs.Sends.{mail_of}
+use Rattle.sc_budget_law.proofs.Served.{IsServed, call_plain}
+
+-- ---- Accept
+
+module _ (begun : Requests) (frame : Frame) (is : IsFrame frame) (me : ℕ) (r : ReplicaState) (p : IsPlainReplica begun frame me r) where
+  -- a ballot that is not above the greatest seen, and that stops no leader
+  saw_same : (mails : List Mail) → (r.running && below r.leader.ballot frame.ballot) ≡ false → saw frame.ballot (r, mails) ≡ (r, mails)
+  unfolding saw
+  saw_same mails stays =
+      let same : below r.top frame.ballot ≡ false = ap (λ (b : Ballot). below b frame.ballot) p.top_is ∙ at_least_itself frame.ballot in
+      let seen : ReplicaState = cond (below r.top frame.ballot) (record r { top = frame.ballot }) r in
+      cond-false (r.running && below r.leader.ballot frame.ballot) (stopped (Some frame.ballot.node) (seen, mails)) (seen, mails) stays
+      ∙ ap (λ (x : ReplicaState). (x, mails)) (cond-false (below r.top frame.ballot) (record r { top = frame.ballot }) r same)
+
+  -- what is accepted, and the vote for it
+  pub accepted_state : ℕ → Command → ReplicaState
+  accepted_state slot command = record r { hint = Some frame.lead; acceptor = after_accept (record { slot = slot; ballot = frame.ballot; value = command }) r.acceptor }
+
+  hinted_is : (slot : ℕ) (command : Command) → hinted frame.ballot (record r { acceptor = after_accept (record { slot = slot; ballot = frame.ballot; value = command }) r.acceptor }) ≡ accepted_state slot command
+  unfolding accepted_state
+  hinted_is slot command =
+      let acceptor : AcceptorState Command = after_accept (record { slot = slot; ballot = frame.ballot; value = command }) r.acceptor in
+      let after : ReplicaState = record r { acceptor = acceptor } in
+      cond_both r.running after (record after { hint = Some frame.ballot.node }) (λ x. x ≡ record r { hint = Some frame.lead; acceptor = acceptor })
+      (λ _. ap (λ hint. record after { hint = hint }) p.hint_is) (λ _. ap (λ node. record after { hint = Some node }) is.own)
+
+  pub accept_is : (from slot : ℕ) (command : Command) → next r ≤ slot → (r.running && below r.leader.ballot frame.ballot) ≡ false
+      → accept_row from frame.ballot slot command (r, []) ≡ (accepted_state slot command, mail_of me from (Accepted frame.core.id frame.ballot slot) ∷ [])
+  unfolding accept_row took
+  accept_is from slot command high stays =
+      let report : Report Command = record { slot = slot; ballot = frame.ballot; value = command } in
+      let low = p.floor_low in
+      let may : may_accept r.acceptor frame.ballot ≡ true = ap (λ (b : Ballot). not (below frame.ballot b)) p.promised_is ∙ ap not (at_least_itself frame.ballot) in
+      ap (took from report) (saw_same [] stays)
+      ∙ cond-false (nat_le slot r.acceptor.floor) (install_to from (r, [])) (accepted_to from frame.ballot slot (accepted_by report r.acceptor) (r, [])) (lt-leb slot r.acceptor.floor (omega (arith, low, high)))
+      ∙ ap (λ (a : AcceptAnswer × AcceptorState Command). accepted_to from frame.ballot slot a (r, [])) (cond-true (may_accept r.acceptor frame.ballot) (Asked.Accepted, after_accept report r.acceptor) (Asked.Ignored r.acceptor.promised, r.acceptor) may)
+      ∙ ap (λ (x : ReplicaState). (x, mail_of r.me from (Accepted (name_of r) frame.ballot slot) ∷ [])) (hinted_is slot command)
+      ∙ ap (λ (core : Core). (accepted_state slot command, mail_of r.me from (Accepted core.id frame.ballot slot) ∷ [])) p.group.core_is
+      ∙ ap (λ who. (accepted_state slot command, mail_of who from (Accepted frame.core.id frame.ballot slot) ∷ [])) p.me_is
+
+  pub accepted_plain : (slot : ℕ) (command : Command) → IsPlainReplica begun frame me (accepted_state slot command)
+  unfolding accepted_state
+  accepted_plain slot command = record {
+    me_is = p.me_is;
+    group = p.group;
+    hint_is = refl;
+    top_is = p.top_is;
+    promised_is = refl;
+    floor_low = p.floor_low;
+    begins = p.begins;
+    sets_are = p.sets_are;
+    acts = p.acts;
+    waits = p.waits;
+  }
+
+  pub accepted_owes : (slot : ℕ) (command : Command) → replica_owes (accepted_state slot command) ≡ replica_owes r
+  unfolding accepted_state
+  accepted_owes slot command = refl
+
+  pub accepted_next : (slot : ℕ) (command : Command) → next (accepted_state slot command) ≡ next r
+  unfolding accepted_state
+  accepted_next slot command = refl
+
+  pub accepted_flights : (slot : ℕ) (command : Command) → (accepted_state slot command).leader.flights ≡ r.leader.flights
+  unfolding accepted_state
+  accepted_flights slot command = refl
+
+  pub accepted_held : (slot : ℕ) (command : Command) (c n : ℕ) → IsHeld r c n → IsHeld (accepted_state slot command) c n
+  unfolding accepted_state
+  accepted_held slot command c n h = record { number = h.number; op = h.op; later = h.later; where_ = h.where_ }
+
+  pub accepted_slots : (slot : ℕ) (command : Command) (taken : ℕ) → AreTaken r taken → AreTaken (accepted_state slot command) taken
+  unfolding accepted_state
+  accepted_slots slot command taken a = record { most = a.most; once = a.once }
+
+  pub accepted_follower : (slot : ℕ) (command : Command) → IsPlainFollower r → IsPlainFollower (accepted_state slot command)
+  unfolding accepted_state
+  accepted_follower slot command f = record { stopped = f.stopped; calls = f.calls; flights = f.flights; ready = f.ready }
+
+  pub accepted_leader : (slot taken : ℕ) (command : Command) → IsPlainLeader begun frame taken r → IsPlainLeader begun frame taken (accepted_state slot command)
+  unfolding accepted_state
+  accepted_leader slot taken command l = record {
+    running = l.running;
+    ballot_is = l.ballot_is;
+    may = λ s. ap (λ (b : Ballot). not (below r.leader.ballot b) && (r.leader.is_first || is_majority (frame.at s) r.leader.promisers)) (sym p.promised_is) ∙ l.may s;
+    open_ = l.open_;
+    calls = l.calls;
+    flights = l.flights;
+    ready = l.ready;
+    slots = record { most = l.slots.most; once = l.slots.once };
+  }
+
+  pub accepted_done : (slot taken : ℕ) (command : Command) → HasOffered taken r → HasOffered taken (accepted_state slot command)
+  unfolding accepted_state
+  accepted_done slot taken command d = record { executed = d.executed; offered = d.offered }
+
+  -- ---- Learn
+
+  module _ (f : IsPlainFollower r) (member : is_member frame.core.members frame.lead ≡ true) (client seq : ℕ) (op : Op) (call : IsPlainCall begun frame client seq op) (room : next r ≤ last_slot) where
+    serves : IsServed begun frame client seq op (applied r.group (Call client seq op))
+    serves = call_plain begun frame is client seq op r.group call p.group
+
+    pub learnt_state : ReplicaState
+    learnt_state = (cleared (next r) (entered (Call client seq op) r, [])).0
+
+    core_after : (entered (Call client seq op) r).group.core ≡ frame.core
+    unfolding entered forgotten
+    core_after = serves.group.core_is
+
+    stopped_after : (entered (Call client seq op) r).running ≡ false
+    unfolding entered forgotten
+    stopped_after = f.stopped
+
+    knows_after : is_among (members (entered (Call client seq op) r)) (entered (Call client seq op) r).hint ≡ true
+    unfolding entered forgotten
+    knows_after = ap (is_among (members (entered (Call client seq op) r))) p.hint_is ∙ ap (λ (core : Core). is_member core.members frame.lead) core_after ∙ member
+
+    flies_none : flying (entered (Call client seq op) r) (next r) ≡ None
+    unfolding entered forgotten
+    flies_none = ap (λ (fs : List (Flight Command)). option_map (λ (flight : Flight Command). flight.value) (flight_at (next r) fs)) f.flights
+
+    ready_none : learnt_state.ready ≡ []
+    unfolding learnt_state entered forgotten
+    ready_none = ap (λ (es : List (ℕ × Command)). without_slot es (next r)) f.ready
+
+    settled_not : settled learnt_state ≡ false
+    unfolding learnt_state entered forgotten
+    settled_not = and_left r.running _ f.stopped
+
+    one_is : executed_one false (Call client seq op) (r, []) ≡ (learnt_state, [])
+    unfolding learnt_state
+    one_is = learnt_call client seq op r [] (ap (λ (core : Core). core.members) (core_after ∙ sym p.group.core_is)) stopped_after (ap (λ (core : Core). core.gone) core_after ∙ is.stands) knows_after flies_none
+
+    rest_is : pumped (all_ready (learnt_state, [])) ≡ (learnt_state, [])
+    unfolding executed_ready pumped
+    rest_is =
+        ap (λ (es : List (ℕ × Command)). pumped (executed_ready es (learnt_state, []))) ready_none
+        ∙ cond-false (settled learnt_state && nat_le (next learnt_state) last_slot) (pumped_from (next learnt_state) learnt_state.sets (learnt_state, [])) (learnt_state, []) (and_left (settled learnt_state) _ settled_not)
+
+    pub learn_is : (from slot : ℕ) → slot ≡ next r → learn_row from slot (Call client seq op) (r, []) ≡ (learnt_state, [])
+    unfolding learn_row executed
+    learn_is from slot e =
+        cond-false (nat_lt last_slot slot) (r, []) _ (le-ltb last_slot slot (omega (arith, e, room)))
+        ∙ cond-true (eqb slot (next r)) (executed false (Call client seq op) (r, [])) _ (eq-eqb slot (next r) e)
+        ∙ ap (λ (q : Place). pumped (all_ready q)) one_is
+        ∙ rest_is
+
+    -- it makes no child
+    pub learnt_none : (slot : ℕ) (made : List Base) → slot ≡ next r → learnt_children slot (Call client seq op) (r, []) made ≡ made
+    unfolding learnt_children executed_children ready_children
+    learnt_none slot made e =
+        cond-false (nat_lt last_slot slot) made _ (le-ltb last_slot slot (omega (arith, e, room)))
+        ∙ cond-true (eqb slot (next r)) (executed_children false (Call client seq op) (r, []) made) made (eq-eqb slot (next r) e)
+        ∙ ap (λ (q : Place). ready_children q.0.ready q made) one_is
+        ∙ ap (λ (es : List (ℕ × Command)). ready_children es (learnt_state, []) made) ready_none
+
+    pub learnt_plain : IsPlainReplica begun frame me learnt_state
+    unfolding learnt_state entered forgotten
+    learnt_plain = (let q = entered_plain begun frame is me (Call client seq op) r serves.group p in record {
+      me_is = q.me_is;
+      group = q.group;
+      hint_is = q.hint_is;
+      top_is = q.top_is;
+      promised_is = q.promised_is;
+      floor_low = q.floor_low;
+      begins = q.begins;
+      sets_are = q.sets_are;
+      acts = q.acts;
+      waits = q.waits;
+    })
+
+    pub learnt_follower : IsPlainFollower learnt_state
+    unfolding learnt_state entered forgotten
+    learnt_follower = record { stopped = f.stopped; calls = f.calls; flights = ap (without_flight (next r)) f.flights; ready = ap (λ (es : List (ℕ × Command)). without_slot es (next r)) f.ready }
+
+    pub learnt_next : next learnt_state ≡ next r + 1
+    unfolding learnt_state
+    learnt_next = entered_next (Call client seq op) r
+
+-- one that does not lead owes nothing
+pub follower_owes : (r : ReplicaState) → IsPlainFollower r → replica_owes r ≡ 0
+follower_owes r f =
+    let calls = ap length f.calls in
+    let flights = ap length f.flights in
+    let ready = ap length f.ready in
+    let runs = cond-false r.running (next r - 1) 0 f.stopped in
+    omega (arith, calls, flights, ready, runs)

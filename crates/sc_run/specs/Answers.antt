@@ -1,0 +1,48 @@
+-- A plain scenario at its budget is answered, where no device fails and memory is not short.
+use Rattle.std.specs.Prelude.{◌≡◌, ◌⊎◌, ℕ, List, Option, None, Some, Ok}
+use Rattle.sc_edges.specs.Causes.{Rose}
+use Rattle.sc_edges.specs.Uses.{SourceUse, SinkUse}
+use Rattle.sc_cmd.specs.declared.orders.OrderLine.{OrderLine}
+use Rattle.sc_mail.specs.declared.bodies.Mail.{Mail}
+use Rattle.sc_actor.specs.declared.rows.Row.{Row}
+use Rattle.sc_scenario.specs.Grammar.{verdict_of}
+use Rattle.sc_scenario.specs.Made.{made_scenario}
+use Rattle.sc_scenario.specs.declared.scenarios.Scenario.{Scenario}
+use Rattle.sc_budget_law.specs.Budget.{IsAtBudget, AreAnswered}
+use Rattle.sc_words.specs.Subcommands.{subcommand_by}
+use Rattle.sc_words.specs.declared.subcommands.Subcommand.{Subcommand}
+use Rattle.sc_words.specs.declared.subcommands.Subcommand.TheVariants as ask
+use Rattle.sc_run.specs.declared.done.Done.{Done}
+use Rattle.sc_run.specs.Run.{Runs}
+
+-- the input, which the source tells, is the text of this scenario
+abbrev pub IsText : SourceUse → Scenario → Type 0
+IsText source scenario = (input : List ℕ) × (source.left ≡ Some input) × (verdict_of input ≡ Ok scenario)
+
+-- the scenario that is to be run: that of the input, or the one that is made
+abbrev pub IsAskedFor : Option Subcommand → SourceUse → Scenario → Type 0
+IsAskedFor None source scenario = ⊥
+IsAskedFor (Some ask.Run) source scenario = IsText source scenario
+IsAskedFor (Some ask.Journal) source scenario = IsText source scenario
+IsAskedFor (Some ask.Audit) source scenario = ⊥
+IsAskedFor (Some ask.Pool) source scenario = IsText source scenario
+IsAskedFor (Some (ask.Scan sight)) source scenario = IsText source scenario
+IsAskedFor (Some (ask.Make n seed)) source scenario = scenario ≡ made_scenario n seed
+
+-- the status is 0, and in the journal that is handed back every request of a client that is served is answered
+pub record AnswersAll (scenario : Scenario) (done : Done) : Type 0 where
+  pub status : done.status ≡ 0
+  pub journal : List (Row Mail OrderLine)
+  pub journal_is : done.journal ≡ Some journal
+  pub answered : AreAnswered scenario journal
+
+-- Where words ask for a scenario that is plain and at its budget, and no fault of the source or the sink rose, a run answers all; or memory was short.
+abbrev pub AnswersWithinBudget : List (List ℕ) → SourceUse → SinkUse → Done → Type 0
+AnswersWithinBudget words source sink done =
+    (scenario : Scenario) → IsAskedFor (subcommand_by words) source scenario → IsAtBudget scenario
+    → (Rose source.faults_before source.faults_after → ⊥) → (Rose sink.faults_before sink.faults_after → ⊥)
+    → AnswersAll scenario done ⊎ (done.status ≡ 8)
+
+-- whatever runs answers within the budget
+abbrev pub RunsAnswerWithinBudget : Type 0
+RunsAnswerWithinBudget = (words : List (List ℕ)) (source : SourceUse) (sink : SinkUse) (done : Done) → Runs words source sink done → AnswersWithinBudget words source sink done
