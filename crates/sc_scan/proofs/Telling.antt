@@ -1,13 +1,13 @@
 -- What a scan tells, where rows make one map and entries are logs.
-use Rattle.std.proofs.Common.{◌≡◌, ◌≢◌, ℕ, ◌^◌, ◌<◌, ◌⊎◌, inl, inr, List, [], ◌∷◌, ◌++◌, map, length, find, Option, Some, None, refl, sym, ◌∙◌, ap, subst}
-use Rattle.std.specs.Prelude.{IsTrue, ◌↔◌, AllPairs}
-use Rattle.std.specs.List.{filter, flat_map}
+use Rattle.std.proofs.Common.{◌≡◌, ℕ, inl, inr, List, [], ◌∷◌, map, length, find, Option, Some, None, refl, sym, ◌∙◌, ap, subst}
+use Rattle.std.specs.Prelude.{IsTrue}
+use Rattle.std.specs.List.{filter}
 use Rattle.std.specs.Option.{option_map}
 use Rattle.std.proofs.lemmas.List.{length-map}
 use Rattle.std.proofs.lemmas.List.Sums.{length-filter}
 use Rattle.std.specs.FinMap.{empty, entries, get}
-use Rattle.sc_base.specs.Among.{Among, Each}
-use Rattle.sc_base.specs.Arc.{Arc, IsArc, holds}
+use Rattle.sc_base.specs.Among.{Among}
+use Rattle.sc_base.specs.Arc.{Arc, holds}
 use Rattle.sc_base.specs.Text.{pos_of}
 use Rattle.sc_base.specs.Same.{same_draw}
 use Rattle.sc_base.specs.declared.names.Draw.{Draw}
@@ -24,15 +24,15 @@ use Rattle.sc_ring_law.proofs.Finds.{Pairwise, all_pairs, pairwise_from}
 use Rattle.sc_machine_table.specs.Group.{Group}
 use Rattle.sc_entries.specs.declared.LogEntry.{LogEntry}
 use Rattle.sc_entries.specs.Effective.{effective, effective_by}
-use Rattle.sc_entries.specs.Worlds.{StoreWorld, named_group}
+use Rattle.sc_entries.specs.Worlds.{StoreWorld}
 use Rattle.sc_sound.specs.Players.{Ahead}
-use Rattle.sc_sound.specs.GroupsOf.{birth_at, entries_at, groups_at, is_birth_of, log_at, log_by, state_at, world_at}
-use Rattle.sc_sound.specs.Logs.{decided_log, decided_state}
+use Rattle.sc_sound.specs.GroupsOf.{birth_at, entries_at, groups_at, is_birth_of, log_at, log_by, world_at}
+use Rattle.sc_sound.specs.Logs.{decided_state}
 use Rattle.sc_sound.specs.Soundness.{IsOneMap}
 use Rattle.sc_journal_law.specs.Findings.{AreItsLogs}
 use Rattle.sc_scan.specs.declared.walking.Part.{Part}
 use Rattle.sc_scan.specs.declared.scans.Shown.{Shown}
-use Rattle.sc_scan.specs.Laws.{ShareNothing, EntriesCountLogs, HasMap, IsOfItsLog, TellsStore, IsWithinCut, ScansTell, ShareArc, WalksShareArcs}
+use Rattle.sc_scan.specs.Laws.{ShareNothing, EntriesCountLogs, HasMap, IsOfItsLog, IsWithinCut, ScansTell, ShareArc, WalksShareArcs}
 use Rattle.sc_scan.specs.Order.{Pair, ordered}
 use Rattle.sc_scan.specs.Scan.{entries_in, pairs_in, scan_at, scan_of, shown}
 use Rattle.sc_scan.specs.Scan as scan

@@ -1,15 +1,15 @@
 -- The walk of an arc through a ring that covers.
-use Rattle.std.proofs.Common.{◌≡◌, ℕ, zero, suc, ◌+◌, ◌-◌, ◌%◌, ◌^◌, ◌<◌, ◌≤◌, Bool, true, false, ◌⊎◌, inl, inr, List, [], ◌∷◌, ◌++◌, find, Option, Some, None, refl, sym, ◌∙◌, ap, ap₂, subst, arith, append-nil, append_assoc}
-use Rattle.std.specs.Prelude.{IsTrue, min, ◌==◌, AllPairs}
+use Rattle.std.proofs.Common.{◌≡◌, ℕ, zero, suc, ◌+◌, ◌-◌, ◌^◌, ◌<◌, ◌≤◌, Bool, true, false, inl, inr, List, [], ◌∷◌, ◌++◌, find, Option, Some, None, refl, sym, ◌∙◌, ap, ap₂, subst, arith, append-nil, append_assoc}
+use Rattle.std.specs.Prelude.{IsTrue, min, ◌==◌}
 use Rattle.std.proofs.lemmas.Bool.{cases_Bool, cond-true, cond-false, ltb-true, lt-ltb, cases_lt, ne_eqb}
-use Rattle.sc_base.specs.Among.{Among, Each}
+use Rattle.sc_base.specs.Among.{Among}
 use Rattle.sc_base.specs.Arc.{Arc, IsArc, holds, offset, end_of}
-use Rattle.sc_paxos_words.proofs.ListLemmas.{Each-among, Each-from, find_found}
+use Rattle.sc_paxos_words.proofs.ListLemmas.{Each-from, find_found}
 use Rattle.sc_ring_law.proofs.Finds.{Pairwise, all_pairs}
 use Rattle.sc_entries.specs.declared.Cut.{Cut}
 use Rattle.sc_entries.specs.Rings.{Covers}
 use Rattle.sc_scan.specs.declared.walking.Part.{Part}
-use Rattle.sc_scan.specs.Laws.{ShareNothing, IsWithinCut, ShareArc, WalksShareArcs}
+use Rattle.sc_scan.specs.Laws.{ShareNothing, IsWithinCut, WalksShareArcs}
 use Rattle.sc_scan.specs.Walk.{first_part, holds_start, left_behind, parts_from, parts_in, reach, walk}
 use Rattle.sc_scan.proofs.Circle.{behind, beyond, end_fits, fewer, near}
 

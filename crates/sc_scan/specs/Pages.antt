@@ -1,5 +1,5 @@
 -- Pages of a list of pairs.
-use Rattle.std.specs.Prelude.{ℕ, ◌<◌, ◌-◌, Bool, nat_lt, nat_eq, List, [], ◌∷◌, length, take, if◌then◌else◌, Option, Some, None, slice_get}
+use Rattle.std.specs.Prelude.{ℕ, ◌-◌, nat_lt, nat_eq, List, [], ◌∷◌, length, take, if◌then◌else◌, Option, Some, None, slice_get}
 use Rattle.std.specs.Option.{option_map}
 use Rattle.std.specs.Cmp.Lexicographic.{pointwise}
 use Rattle.sc_scan.specs.Order.{Pair}

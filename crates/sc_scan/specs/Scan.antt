@@ -1,5 +1,5 @@
 -- What an arc of the circle holds, part by part: each part with the number of entries of its group's log, and its pairs in order, by the group's effective record.
-use Rattle.std.specs.Prelude.{ℕ, ◌+◌, Bool, List, [], ◌∷◌, map, length, count_by, Option, Some, None}
+use Rattle.std.specs.Prelude.{ℕ, List, [], map, length, count_by, Option, Some, None}
 use Rattle.std.specs.List.{flat_map}
 use Rattle.std.specs.FinMap.{entries}
 use Rattle.sc_base.specs.Arc.{Arc}
