@@ -2,8 +2,10 @@
 ghost use Rattle.std.specs.Prelude.{◌≡◌, ◌≤◌, ◌+◌, map, false, string_bytes};
 ghost use Rattle.sc_words.specs.Subcommands.{reads_input};
 ghost use Rattle.sc_wants.specs.Inputs.{most_takes};
+ghost use Rattle.sc_run.specs.Answers.{AnswersWithinBudget};
 ghost use Rattle.sc_run.specs.Run.{Runs};
 
+use crate::answering::runs_answer_within_budget;
 use crate::done::{Done, Text};
 use crate::saying::say;
 use sc_actor::Gate;
@@ -14,14 +16,8 @@ use std::alloc::Global;
 use std::sync::Wait;
 use std::thread::Threads;
 
-/// Reads a scenario or makes one, as the words ask, runs it and prints its report, or its journal
-/// behind it; or reads a stored journal and prints whether it is lawful.
-///
-/// The words are those behind the program's name. Each line of output is one call of the sink, and
-/// the source is called 16,777,218 times at most, after the word `audit` 268,435,458 times. A fault
-/// of the sink wins over the status that the text belongs to. The gate is passed before each row
-/// that delivers a mail.
-pub fn run<S: Source, K: Sink, G: Gate, R: Threads + Wait + Sync>(
+// What the words ask for, said and printed.
+fn say_and_print<S: Source, K: Sink, G: Gate, R: Threads + Wait + Sync>(
     rt: &R,
     alloc: Global,
     words: &Vec<String>,
@@ -72,4 +68,66 @@ pub fn run<S: Source, K: Sink, G: Gate, R: Threads + Wait + Sync>(
         journal,
         parties,
     }
+}
+
+/// Reads a scenario or makes one, as the words ask, runs it and prints its report, or its journal
+/// behind it; or reads a stored journal and prints whether it is lawful.
+///
+/// The words are those behind the program's name. Each line of output is one call of the sink, and
+/// the source is called 16,777,218 times at most, after the word `audit` 268,435,458 times. A fault
+/// of the sink wins over the status that the text belongs to. The gate is passed before each row
+/// that delivers a mail.
+///
+/// Where the scenario is plain and at its budget and no fault of the source or the sink rises, the
+/// status is 0, or 8 where memory is short; with 0 every request of a client whose go line has a
+/// line of deliveries after it is answered.
+pub fn run<S: Source, K: Sink, G: Gate, R: Threads + Wait + Sync>(
+    rt: &R,
+    alloc: Global,
+    words: &Vec<String>,
+    input: &mut S,
+    output: &mut K,
+    gate: &G,
+) -> Done
+    ensures runs { Runs (map string_bytes words.now.items)
+        (record {
+          left = S.left input.old;
+          faults_before = S.faults input.old;
+          faults_after = S.faults input.new;
+        })
+        (record {
+          held_before = K.held output.old;
+          held_after = K.held output.new;
+          pieces_before = K.pieces output.old;
+          pieces_after = K.pieces output.new;
+          faults_before = K.faults output.old;
+          faults_after = K.faults output.new;
+          calls_before = K.calls output.old;
+          calls_after = K.calls output.new;
+        })
+        result }
+    ensures budget { AnswersWithinBudget (map string_bytes words.now.items)
+        (record {
+          left = S.left input.old;
+          faults_before = S.faults input.old;
+          faults_after = S.faults input.new;
+        })
+        (record {
+          held_before = K.held output.old;
+          held_after = K.held output.new;
+          pieces_before = K.pieces output.old;
+          pieces_after = K.pieces output.new;
+          faults_before = K.faults output.old;
+          faults_after = K.faults output.new;
+          calls_before = K.calls output.old;
+          calls_after = K.calls output.new;
+        })
+        result }
+    ensures unread { reads_input (map string_bytes words.now.items) ≡ false →
+        input.new ≡ input.old }
+    ensures takes { S.calls input.new ≤ S.calls input.old
+        + most_takes (map string_bytes words.now.items) }
+{
+    runs_answer_within_budget();
+    say_and_print(rt, alloc, words, input, output, gate)
 }

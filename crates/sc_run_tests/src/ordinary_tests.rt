@@ -92,3 +92,16 @@ fn four_groups_serve_sixteen_clients(rt: HostRuntime) {
     forget(input);
     forget(wanted);
 }
+
+// 3072 deliveries are granted to 64 requests of four groups: 32 for each request, and 4 more for
+// each request and group.
+#[test]
+fn the_budget_suffices(rt: HostRuntime) {
+    let input = scenario(&rt, rt.alloc(), b"free 3072 4\n");
+    let wanted = report(&rt, rt.alloc());
+    let given = ("run", input.as_slice(), 0, 0);
+    let report = Wanted::Lawful(wanted.as_slice());
+    assert!(rt; comes(&rt, rt.alloc(), given, report, &Open));
+    forget(input);
+    forget(wanted);
+}
