@@ -1,9 +1,7 @@
 //! What a run promises of a plain scenario at its budget.
 ghost use Rattle.sc_run.specs.Answers.{RunsAnswerWithinBudget};
 
-use sc_budget_law::{
-    plain_journals_are_answered, plain_journals_are_light, plain_lines_end_quiet,
-};
+use sc_budget_law::{plain_journals_are_answered, plain_journals_are_light, plain_lines_end_quiet};
 
 /// Whatever a run prints and hands back, where the scenario that was asked for is plain and at its
 /// budget, and no fault of the source or the sink rose: the status is 0, or 8 where memory was
