@@ -38,7 +38,7 @@ fn first_rows(rows: &[Row<Mail, OrderLine>], most: u32) -> &[Row<Mail, OrderLine
     }
 }
 
-// The text of a scan of rows.
+// The text of a scan of so many first rows as are asked for.
 fn lines_of(
     alloc: Global,
     scenario: &Scenario,
@@ -46,13 +46,16 @@ fn lines_of(
     sight: Sight,
 ) -> Result<Sequence<ReportLine>, OutOfMemory>
     requires { 1 ≤ sight.most }
-    ensures lines { IfOk result (λ lines. lines ≡ scan_lines sight.most (length rows.now)
-        (scan_of (world_at as_nodes scenario.now.groups rows.now)
-        (entries_in (entries_at as_nodes scenario.now.groups rows.now)) sight.arc)) }
+    ensures lines { IfOk result (λ lines. lines ≡
+        scan_lines sight.most (length (take sight.rows rows.now))
+        (scan_of (world_at as_nodes scenario.now.groups (take sight.rows rows.now))
+        (entries_in (entries_at as_nodes scenario.now.groups (take sight.rows rows.now)))
+        sight.arc)) }
     ensures arc { IfOk result (λ _. IsArc sight.arc × (sight.arc.lo < 2 ^ 32)) }
 {
-    let shown = scan(alloc, scenario.groups.as_slice(), rows, &sight.arc)?;
-    scan_lines(alloc, sight.most, rows.len() as u64, shown.as_slice())
+    let first = first_rows(rows, sight.rows);
+    let shown = scan(alloc, scenario.groups.as_slice(), first, &sight.arc)?;
+    scan_lines(alloc, sight.most, first.len() as u64, shown.as_slice())
 }
 
 /// What an arc holds after the first rows of a scenario that was played to its end, or what is told
@@ -85,8 +88,7 @@ pub fn show<G: Gate, R: Threads + Wait + Sync>(
                 parties,
                 ..
             } = left;
-            let rows = first_rows(journal.as_slice(), sight.rows);
-            let lines = lines_of(alloc, scenario, rows, sight)?;
+            let lines = lines_of(alloc, scenario, journal.as_slice(), sight)?;
             let text = Text {
                 lines,
                 journal: Some(journal),

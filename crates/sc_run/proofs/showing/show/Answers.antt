@@ -1,5 +1,12 @@
-use Rattle.std.proofs.Common.{subst, sym, ◌∙◌, ap, refl, Some}
+use Rattle.std.proofs.Common.{◌≡◌, List, length, take, subst, sym, ◌∙◌, ap, refl, Some}
 use Rattle.std.specs.Prelude.{IfSome}
+use Rattle.sc_actor.specs.declared.rows.Row.{Row}
+use Rattle.sc_cmd.specs.declared.orders.OrderLine.{OrderLine}
+use Rattle.sc_mail.specs.declared.bodies.Mail.{Mail}
+use Rattle.sc_scan.specs.Scan.{entries_in, scan_of}
+use Rattle.sc_scan.specs.Text.{scan_lines}
+use Rattle.sc_sound.specs.GroupsOf.{entries_at, world_at}
+use Rattle.sc_sound.specs.Players.{as_nodes}
 use Rattle.sc_statuses.specs.Causes.{said_by}
 use Rattle.sc_run.specs.declared.done.Text.{Text}
 use Rattle.sc_run.specs.Played.{IsPlayed, HasPlayedToEnd}
@@ -13,9 +20,13 @@ pub returns-in_ok-lines-in-Ended : goal.returns-in_ok-lines-in-Ended
 returns-in_ok-lines-in-Ended g c =
     let left = c.in_ok-left.left in let scenario = c.args.scenario.now in let sight = c.args.sight in
     let text : Text = record { lines = c.in_ok-lines-in-Ended.lines; journal = Some left.journal; parties = left.parties } in
-    let ended : HasPlayedToEnd scenario journal_limit c.in-Ended.unsettled c.in-Ended.quiet c.in-Ended.skipped left.journal left.parties = subst (IsPlayed scenario journal_limit left.journal left.parties) c.in-Ended.is c.in_ok-left.ensures in
+    let ended : HasPlayedToEnd scenario journal_limit c.in-Ended.unsettled c.in-Ended.quiet c.in-Ended.skipped left.journal left.parties =
+    subst (IsPlayed scenario journal_limit left.journal left.parties) c.in-Ended.is c.in_ok-left.ensures in
     let shows : ShowsScan scenario sight left.journal text.lines =
     shows_scan c.scans_tell.ensures c.entries_count_logs.ensures c.valid_entries_are_logs.ensures scenario c.requires.valid left.journal ended.lawful ended.sound sight
-    c.in_ok-lines-in-Ended.ensures.arc.0 c.in_ok-lines-in-Ended.ensures.arc.1 ? ? text.lines c.in_ok-lines-in-Ended.ensures.lines in
+    c.in_ok-lines-in-Ended.ensures.arc.0 c.in_ok-lines-in-Ended.ensures.arc.1 (take sight.rows left.journal) refl text.lines
+    (subst (λ (rows : List (Row Mail OrderLine)). text.lines ≡ scan_lines sight.most (length (take sight.rows rows))
+    (scan_of (world_at as_nodes scenario.groups (take sight.rows rows)) (entries_in (entries_at as_nodes scenario.groups (take sight.rows rows))) sight.arc))
+    c.as_slice.ensures c.in_ok-lines-in-Ended.ensures.lines) in
     subst (λ begun. IfSome begun (λ said. Comes (ShowsScan scenario sight) scenario said text)) (sym (sym c.in-Some.is ∙ (c.said_by.ensures ∙ ap said_by c.in-Ended.is)))
     (comes_ended (ShowsScan scenario sight) scenario c.in-Ended.unsettled c.in-Ended.quiet c.in-Ended.skipped left.journal left.parties text ended shows refl refl)
