@@ -2,4 +2,4 @@ mod Plays
 mod Readings
 mod Shown
 pub mod Told
-mod Answering
+mod WithinBudget

@@ -74,7 +74,7 @@ ops_short seed n before zero lt few = subst (Each IsShortOp) (sym (no_ops seed n
 ops_short seed n before (suc k) lt few =
     subst (Each IsShortOp) (sym (ops_more seed n before k))
     (Each-push IsShortOp (made_ops seed n before k) (made_op (two_words seed (before * n + k)) (before + 1) (k + 1)) (ops_short seed n before k lt (omega (arith, few)))
-      (op_short (two_words seed (before * n + k)) (before + 1) (k + 1) (omega (arith, lt)) (omega (arith, few))))
+    (op_short (two_words seed (before * n + k)) (before + 1) (k + 1) (omega (arith, lt)) (omega (arith, few))))
 
 clients_bounded : (seed n : ℕ) → n ≤ most_requests → All IsBoundedClient (made_clients seed n 16)
 clients_bounded seed n few =

@@ -1,4 +1,4 @@
-use Rattle.sc_run.proofs.Answering.{answers_within}
+use Rattle.sc_run.proofs.WithinBudget.{answers_within}
 use Rattle.sc_run.proofs.answering.runs_answer_within_budget.Goals as goal
 
 pub returns : goal.returns
