@@ -1,18 +1,23 @@
 //! Two nodes and a client, driven by hand.
-ghost use Rattle.std.specs.Prelude.{◌≡◌, ◌<◌, ◌≤◌, ◌^◌, [], true, false, length, IfOk, OnOk};
+ghost use Rattle.std.specs.Prelude.{◌≡◌, ◌<◌, ◌≤◌, ◌^◌, [], true, false, length, IfOk, OnOk, MatchResult};
 ghost use Rattle.sc_actor.specs.Mail.{mails};
 ghost use Rattle.sc_base.specs.Limits.{most_requests};
 ghost use Rattle.sc_client_table.specs.Client.{born_client};
 ghost use Rattle.sc_node_table.specs.Node.{are_in_order, born_node};
 ghost use Rattle.sc_node_table.specs.Slots.{slots_ahead};
+ghost use Rattle.sc_scenario.specs.Valid.{IsValid};
+ghost use Rattle.sc_world.specs.Replays.{IsFault};
+ghost use Rattle.sc_world.specs.Worlds.{StandsFor};
 
-use crate::steps::act;
-use sc_actor::{Event, Input, Journal};
+use crate::steps::{Log, act, deliver};
+use sc_actor::{Event, Input};
 use sc_base::{Dup, Op, OutOfMemory, Sequence};
 use sc_client::ClientCore;
 use sc_cmd::{Base, OrderLine, Route};
 use sc_mail::{DESK, Mail, client_number};
 use sc_node::NodeCore;
+use sc_scenario::Scenario;
+use sc_world::{ReplayFault, World, replay_rows};
 use std::alloc::Global;
 
 /// What `Hand::run` plays: a group of two nodes, and a client that puts once. The client starts,
@@ -20,20 +25,17 @@ use std::alloc::Global;
 pub const SCENARIO: &[u8] =
     b"scatter 1\nnodes 2\ngroup 0 1 2\nclient 1\nput a x\nend\ngo 1\nsettle 1000\n";
 
-/// Two nodes and a client, the rows of what they did, and the wire: copies of all mail that they
-/// sent, of which the mail of number n stands at place n - 1.
+/// Two nodes and a client, and what they did.
 #[derive(Drop)]
 pub struct Hand {
     pub first: NodeCore,
     pub second: NodeCore,
     pub client: ClientCore,
-    pub rows: Journal<Mail, OrderLine>,
-    pub wire: Sequence<Mail>,
+    pub log: Log<Mail, OrderLine>,
 }
 
 impl Hand {
     /// Nodes 1 and 2 at the birth of groups, and client 1 with its requests, which knows one group.
-    /// Nothing was done yet.
     pub fn born(
         alloc: Global,
         groups: &Sequence<Base>,
@@ -47,71 +49,64 @@ impl Hand {
         ensures second { IfOk result (λ hand.
             hand.second ≡ born_node slots_ahead 2 groups.now false) }
         ensures client { IfOk result (λ hand. hand.client ≡ born_client 1 requests.now known) }
-        ensures idle { IfOk result (λ hand. (hand.rows ≡ []) × (hand.wire ≡ [])) }
+        ensures idle { IfOk result (λ hand. (hand.log.rows ≡ []) × (hand.log.wire ≡ [])) }
     {
         Ok(Hand {
             first: NodeCore::born(alloc, 1, groups, false)?,
             second: NodeCore::born(alloc, 2, groups, false)?,
             client: ClientCore::born(alloc, 1, requests.dup(alloc)?, known)?,
-            rows: Journal::new(alloc),
-            wire: Sequence::new(alloc),
+            log: Log::new(alloc),
         })
     }
 
-    // The actor with a number takes the input of an event.
-    fn step(
-        &mut self,
-        alloc: Global,
-        who: u32,
-        event: Event<OrderLine>,
-        input: &Input<Mail, OrderLine>,
-    ) -> Result<(), OutOfMemory>
-        requires carried { self.old.wire ≡ mails self.old.rows }
-        ensures carried { OnOk result (self.new.wire ≡ mails self.new.rows) }
+    // The mail at a place goes to whom it is for. What is for the desk makes no row.
+    fn serve(&mut self, alloc: Global, place: usize) -> Result<(), OutOfMemory>
+        requires place { place < length self.old.log.wire }
+        requires few { length self.old.log.wire < 2 ^ 31 }
+        requires carried { self.old.log.wire ≡ mails self.old.log.rows }
+        ensures carried { OnOk result (self.new.log.wire ≡ mails self.new.log.rows) }
     {
-        let Hand {
-            first,
-            second,
-            client,
-            rows,
-            wire,
-        } = self;
-        match who {
-            1 => act(alloc, who, first, event, input, rows, wire),
-            2 => act(alloc, who, second, event, input, rows, wire),
-            _ => act(alloc, who, client, event, input, rows, wire),
+        match self.log.wire.at(place).to {
+            DESK => Ok(()),
+            1 => deliver(alloc, 1, &mut self.first, place, &mut self.log),
+            2 => deliver(alloc, 2, &mut self.second, place, &mut self.log),
+            who => deliver(alloc, who, &mut self.client, place, &mut self.log),
         }
-    }
-
-    // The mail at a place goes to whom it is for. What is for the desk is read there, without a row.
-    fn deliver(&mut self, alloc: Global, place: usize) -> Result<(), OutOfMemory>
-        requires place { place < length self.old.wire }
-        requires few { length self.old.wire < 2 ^ 31 }
-        requires carried { self.old.wire ≡ mails self.old.rows }
-        ensures carried { OnOk result (self.new.wire ≡ mails self.new.rows) }
-    {
-        let mail = self.wire.at(place);
-        let to = mail.to;
-        if to == DESK {
-            return Ok(());
-        }
-        let input = Input::Got(mail.dup(alloc)?);
-        self.step(alloc, to, Event::Deliver(place as u32 + 1), &input)
     }
 
     /// The client starts, and mail is delivered in the order in which it was sent, at most so
     /// often.
     pub fn run(&mut self, alloc: Global, most: u32) -> Result<(), OutOfMemory>
-        requires carried { self.old.wire ≡ mails self.old.rows }
-        ensures carried { OnOk result (self.new.wire ≡ mails self.new.rows) }
+        requires carried { self.old.log.wire ≡ mails self.old.log.rows }
+        ensures carried { OnOk result (self.new.log.wire ≡ mails self.new.log.rows) }
     {
-        self.step(alloc, client_number(1), Event::Go, &Input::Go)?;
+        let who = client_number(1);
+        let client = &mut self.client;
+        act(alloc, who, client, Event::Go, &Input::Go, &mut self.log)?;
         for place in 0..most as usize {
-            if place >= self.wire.len() || self.wire.len() >= 1 << 31 {
+            if place >= self.log.wire.len() || self.log.wire.len() >= 1 << 31 {
                 break;
             }
-            self.deliver(alloc, place)?;
+            self.serve(alloc, place)?;
         }
         Ok(())
+    }
+
+    /// Audits the rows, however they were made: the world that they leave, where they are a lawful
+    /// journal of a scenario, of which each first part is then sound; else which row, from 1, is
+    /// the first that is not lawful. The scenario is one that some text is, and rows and their
+    /// mails are fewer than 2^31 each.
+    pub fn audited<'a>(
+        &'a self,
+        alloc: Global,
+        scenario: &'a Scenario,
+    ) -> Result<World<'a>, ReplayFault>
+        requires valid { IsValid scenario.now }
+        requires few_rows { length self.now.log.rows < 2 ^ 31 }
+        requires few_mails { length (mails self.now.log.rows) < 2 ^ 31 }
+        ensures { MatchResult result (λ world. StandsFor scenario.now self.now.log.rows world)
+            (λ fault. IsFault scenario.now self.now.log.rows fault) }
+    {
+        replay_rows(alloc, scenario, &self.log.rows)
     }
 }

@@ -3,12 +3,8 @@
 //! of the rows. `docs/LIBRARY.md` goes through it.
 #![tactic(auto)]
 
-mod audits;
-#[cfg(test)]
-mod by_hand_tests;
 mod hand;
 mod steps;
 
-pub use audits::sound_rows;
 pub use hand::{Hand, SCENARIO};
-pub use steps::act;
+pub use steps::{Log, act, deliver};

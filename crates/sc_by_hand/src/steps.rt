@@ -1,12 +1,32 @@
-//! One step of an actor, the row of it, and what the transport is given.
-ghost use Rattle.std.specs.Prelude.{◌≡◌, ◌++◌, ◌∷◌, [], OnOk, OnErr};
+//! One step of an actor, the row of it, and what is on the wire afterwards.
+ghost use Rattle.std.specs.Prelude.{◌≡◌, ◌<◌, ◌+◌, ◌++◌, ◌^◌, ◌∷◌, [], length, OnOk, OnErr};
 ghost use Rattle.sc_actor.specs.Mail.{mails};
 
 use sc_actor::{Actor, Event, Input, Journal, Row, journals_grow};
 use sc_base::{Dup, OutOfMemory, Sequence};
 use std::alloc::Global;
 
-// The transport is given copies of mails that were sent.
+/// The rows of what actors did, and the wire: copies of all mail that the rows have sent, of which
+/// the mail of number n stands at place n - 1.
+#[derive(Drop)]
+pub struct Log<M, O> {
+    pub rows: Journal<M, O>,
+    pub wire: Sequence<M>,
+}
+
+impl<M, O> Log<M, O> {
+    /// Nothing was done yet.
+    pub fn new(alloc: Global) -> Log<M, O>
+        ensures { (result.rows ≡ []) × (result.wire ≡ []) }
+    {
+        Log {
+            rows: Journal::new(alloc),
+            wire: Sequence::new(alloc),
+        }
+    }
+}
+
+// The wire is given copies of mails that were sent.
 fn hand_over<M: Dup + Drop>(
     alloc: Global,
     sent: &[M],
@@ -21,26 +41,44 @@ fn hand_over<M: Dup + Drop>(
 }
 
 /// The actor with a number takes the input of an event by its table. What it sends is put on the
-/// wire, which holds all mail that the rows have sent, and the row of it is added. After want of
-/// memory no row is, and the actor and the wire may only be dropped.
+/// wire, and the row of it is added. After want of memory no row is, and the actor and the log may
+/// only be dropped.
 pub fn act<A: Actor>(
     alloc: Global,
     who: u32,
     actor: &mut A,
     event: Event<A::Order>,
     input: &Input<A::Mail, A::Order>,
-    rows: &mut Journal<A::Mail, A::Order>,
-    wire: &mut Sequence<A::Mail>,
+    log: &mut Log<A::Mail, A::Order>,
 ) -> Result<(), OutOfMemory>
-    requires carried { wire.old ≡ mails rows.old }
+    requires carried { log.old.wire ≡ mails log.old.rows }
     ensures actor { OnOk result (actor.new ≡ (A.table actor.old input.now).0) }
-    ensures row { OnOk result (rows.new ≡ rows.old
+    ensures row { OnOk result (log.new.rows ≡ log.old.rows
         ++ record { who = who; event = event; sent = (A.table actor.old input.now).1 } ∷ []) }
-    ensures carried { OnOk result (wire.new ≡ mails rows.new) }
-    ensures unchanged { OnErr result (rows.new ≡ rows.old) }
+    ensures carried { OnOk result (log.new.wire ≡ mails log.new.rows) }
+    ensures unchanged { OnErr result (log.new.rows ≡ log.old.rows) }
 {
     journals_grow::<A>();
     let sent = actor.step(alloc, input)?;
-    hand_over(alloc, sent.as_slice(), wire)?;
-    rows.push(Row { who, event, sent })
+    hand_over(alloc, sent.as_slice(), &mut log.wire)?;
+    log.rows.push(Row { who, event, sent })
+}
+
+/// The actor with a number gets the mail at a place of the wire. After want of memory the actor and
+/// the log may only be dropped.
+pub fn deliver<A: Actor>(
+    alloc: Global,
+    who: u32,
+    actor: &mut A,
+    place: usize,
+    log: &mut Log<A::Mail, A::Order>,
+) -> Result<(), OutOfMemory>
+    requires place { place < length log.old.wire }
+    requires few { length log.old.wire < 2 ^ 31 }
+    requires carried { log.old.wire ≡ mails log.old.rows }
+    ensures carried { OnOk result (log.new.wire ≡ mails log.new.rows) }
+{
+    let mail = log.wire.at(place).dup(alloc)?;
+    let event = Event::Deliver(place as u32 + 1);
+    act(alloc, who, actor, event, &Input::Got(mail), log)
 }

@@ -4,4 +4,4 @@ use Rattle.sc_by_hand.proofs.hand.Hand.run.Given as goal
 
 -- the wire holds what the rows have sent
 abbrev pub invariant-loop-place : goal.invariant-loop-place
-invariant-loop-place l = l.self.wire ≡ mails l.self.rows
+invariant-loop-place l = l.self.log.wire ≡ mails l.self.log.rows
