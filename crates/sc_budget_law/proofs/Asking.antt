@@ -25,7 +25,7 @@ use Rattle.sc_budget_law.specs.Owed.{replica_owes}
 use Rattle.sc_budget_law.specs.PlainMail.{Requests, IsPlainCommand, IsPlainCall}
 use Rattle.sc_budget_law.specs.PlainNode.{IsPlainLeader, IsPlainReplica, HasOffered}
 use Rattle.sc_budget_law.proofs.Leading.{early_taken, IsHeld, Leads}
-use Rattle.sc_budget_law.proofs.Running.{IsRun, pumped_run}
+use Rattle.sc_budget_law.proofs.Executing.{IsRun, pumped_run}
 use Rattle.sc_budget_law.proofs.Sends.{mail_of, among_push, last_among}
 
 some_is : {A : Type 0} {x y : A} → Some x ≡ Some y → x ≡ y

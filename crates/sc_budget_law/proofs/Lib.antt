@@ -26,6 +26,7 @@ mod Sends
 mod Leading
 mod Pumping
 mod Running
+mod Executing
 mod Asking
 mod Flights
 mod Accepting

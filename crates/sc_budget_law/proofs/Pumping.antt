@@ -278,7 +278,7 @@ module _ (begun : Requests) (frame : Frame) (is : IsFrame frame) (first free : â
   call_is (Join node order) p = absurd p
   call_is (Leave node order) p = absurd p
   call_is (Split at child order) p = absurd p
-  call_is (Begin tx body order) p = absurd p
+  call_is (Begin tx _ order) p = absurd p
   call_is (Prepared tx offer) p = absurd p
   call_is (RecordVote tx vote by) p = absurd p
   call_is (GiveUp tx) p = absurd p

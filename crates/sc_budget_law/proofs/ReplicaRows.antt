@@ -28,7 +28,7 @@ use Rattle.sc_budget_law.specs.PlainNode.{AreTaken, IsPlainLeader, IsPlainFollow
 use Rattle.sc_budget_law.proofs.Asking.{request_refused, request_run}
 use Rattle.sc_budget_law.proofs.Leading.{IsHeld, IsSaid}
 use Rattle.sc_budget_law.proofs.Pumping.{call_is}
-use Rattle.sc_budget_law.proofs.Running.{IsRun}
+use Rattle.sc_budget_law.proofs.Executing.{IsRun}
 use Rattle.sc_budget_law.proofs.Sends.{mail_of}
 use Rattle.sc_budget_law.proofs.Accepting.{accepted_state, accept_is, accepted_plain, accepted_owes, accepted_next, accepted_flights, accepted_held, accepted_slots, accepted_follower, accepted_leader, accepted_done, learnt_state, learn_is, learnt_none, learnt_plain, learnt_follower, learnt_next, follower_owes}
 use Rattle.sc_budget_law.proofs.Voting.{IsCounted, accepted_counted, accepted_none}

@@ -30,7 +30,7 @@ use Rattle.sc_budget_law.proofs.Counts.{found_one, one_if, one_if_most, one_yes,
 use Rattle.sc_budget_law.proofs.Flights.{others_out, voted_length, voted_count, voted_each, voted_value, voted_others, voted_here, only_flight, no_flight_at, HasVoted, vote_kept, numbered_get, numbered_past}
 use Rattle.sc_budget_law.proofs.Leading.{in_range, range_before, range_behind, early_taken, flights_at, IsHeld, Leads}
 use Rattle.sc_budget_law.proofs.Pumping.{call_is}
-use Rattle.sc_budget_law.proofs.Running.{IsRun, executed_none, executed_run, some_taken}
+use Rattle.sc_budget_law.proofs.Executing.{IsRun, executed_none, executed_run, some_taken}
 
 some_is : {A : Type 0} {x y : A} → Some x ≡ Some y → x ≡ y
 some_is e = cc

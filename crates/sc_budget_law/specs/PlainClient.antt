@@ -20,8 +20,6 @@ use Rattle.sc_sound.specs.Players.{Player, player_table, client_seat, route_of}
 use Rattle.sc_sound.specs.declared.roles.Role.TheVariants.{Node, Client}
 use Rattle.sc_budget_law.specs.Frames.{Frame}
 use Rattle.sc_budget_law.specs.Owed.{begun_ones}
-use Rattle.sc_budget_law.specs.PlainMail.{Requests}
-use Rattle.sc_budget_law.specs.PlainNode.{IsPlainNode}
 
 -- what a client knows of a group when it hears of it
 abbrev pub way_of : Frame → Draw × Way
@@ -71,8 +69,3 @@ pub record IsBegun (scenario : Scenario) (rows : List (Row Mail OrderLine)) (cli
   pub from_one : 1 ≤ seq
   pub op_is : slice_get asks.ops (seq - 1) ≡ Some op
   pub low : seq ≤ begun_of (value player_table (client_seat (route_of first) asks) rows)
-
--- what a player of a plain journal is
-abbrev pub IsPlainPlayer : Requests → List Frame → Player → Bool → Type 0
-IsPlainPlayer begun frames (Node node) gone = IsPlainNode begun frames node
-IsPlainPlayer begun frames (Client client) gone = (asks : Asks) × IsPlainClient frames asks gone client

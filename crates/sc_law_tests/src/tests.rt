@@ -1,5 +1,9 @@
 //! Each function that carries a law takes no input and answers nothing: calling it shows that its
 //! contract can be met.
+use sc_budget_law::{
+    made_scenarios_are_at_budget, plain_journals_are_answered, plain_journals_are_light,
+    plain_lines_end_quiet,
+};
 use sc_draws_law::{
     a_journal_that_draws, counters_part_names, drawn_names_are_new, logs_name_what_was_drawn,
     names_have_one_owner, orders_are_allowed,
@@ -137,4 +141,12 @@ fn the_laws_of_refusals_are_called() {
 fn the_laws_of_queues_are_called() {
     steps_keep_one_call();
     queues_keep_one_call();
+}
+
+#[test]
+fn the_laws_of_plain_scenarios_are_called() {
+    plain_lines_end_quiet();
+    plain_journals_are_answered();
+    plain_journals_are_light();
+    made_scenarios_are_at_budget();
 }
