@@ -55,7 +55,7 @@ fn have_keys(list: &[(Key, Value)], keys: &[u8]) -> bool {
         return false;
     }
     for (i, pair) in list.iter().enumerate() {
-        if i < keys.len() && pair.0.bytes() != [keys[i]] {
+        if i < keys.len() && pair.0.bytes() != [keys[i]].as_slice() {
             return false;
         }
     }
@@ -64,7 +64,7 @@ fn have_keys(list: &[(Key, Value)], keys: &[u8]) -> bool {
 
 fn is_page(page: &Page, keys: &[u8], next: Option<u8>) -> bool {
     let goes_on = match (&page.next, next) {
-        (Some(key), Some(byte)) => key.bytes() == [byte],
+        (Some(key), Some(byte)) => key.bytes() == [byte].as_slice(),
         (None, None) => true,
         _ => false,
     };
