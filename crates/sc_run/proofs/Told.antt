@@ -42,7 +42,7 @@ pub told : FilesHaveOneVerdict → LawfulFilesAreTold
 told one file scenario rows is lawful source left what text (inl (inl fails)) = inr fails.said_is
 told one file scenario rows is lawful source left what text (inl (inr names)) = absurd (not_bad one file scenario rows is source left what text names)
 told one file scenario rows is lawful source left what text (inr reads) =
-    elim reads.audits as (λ _. SaysYes what) [ inl yes ↦ inl yes.said_is | inr no ↦ absurd (not_unlawful file scenario rows is lawful source left what text reads.scenario reads.rows reads.read no) ]
+    elim reads.audits as (λ _. SaysYes what) [ inl lawful_is ↦ inl lawful_is.said_is | inr bad ↦ absurd (not_unlawful file scenario rows is lawful source left what text reads.scenario reads.rows reads.read bad) ]
 
 pub printed_told : FilesHaveOneVerdict → PrintedFilesAreFiles → PrintedJournalsAreTold
 printed_told one files bytes scenario rows printed read reports few source left what text says =

@@ -78,3 +78,24 @@ pub fn play_pool<G: Gate, R: Threads + Wait + Sync>(
 {
     play_by(rt, alloc, Way::Queue, scenario, company, gate)
 }
+
+// Plays a scenario, its lines of many workers in rounds or by a pool.
+pub(crate) fn play_in<G: Gate, R: Threads + Wait + Sync>(
+    rt: &R,
+    alloc: Global,
+    way: Way,
+    scenario: &Scenario,
+    company: &mut Company<Party>,
+    gate: &G,
+) -> Played
+    requires valid { IsValid scenario.now }
+    requires opened { HasOpened (births as_nodes scenario.now) company.old }
+    ensures kept { result ≢ OutOfMemory → StaysWhole company.old company.new }
+    ensures played { IsPlayed scenario.now company.old.net.limit (seen company.new.net)
+        (map (λ s. s.actor) company.new.shells.items) result }
+{
+    match way {
+        Way::Runs => play(rt, alloc, scenario, company, gate),
+        Way::Queue => play_pool(rt, alloc, scenario, company, gate),
+    }
+}

@@ -1,21 +1,17 @@
 //! A scenario played whole, and its report.
-ghost use Rattle.std.specs.Prelude.{◌≡◌, ◌≢◌, ◌≤◌, ◌^◌, map, IfOk};
-ghost use Rattle.sc_actor.specs.declared.schedules.Played.TheVariants.{OutOfMemory};
-ghost use Rattle.sc_exchange.specs.Ports.{seen};
-ghost use Rattle.sc_drive.specs.Working.{HasOpened, StaysWhole};
-ghost use Rattle.sc_sound.specs.Players.{births, as_nodes};
+ghost use Rattle.std.specs.Prelude.{◌≤◌, ◌^◌, IfOk};
 ghost use Rattle.sc_scenario.specs.Valid.{IsValid};
 ghost use Rattle.sc_run.specs.Played.{IsPlayed};
 ghost use Rattle.sc_run.specs.Run.{Comes, ShowsFile, ShowsReport};
 
 use crate::begun::begin;
 use crate::done::Text;
-use crate::played::{play, play_pool};
+use crate::played::play_in;
 use crate::telling::tells_full;
 use sc_actor::{Gate, Journal, Played};
 use sc_base::{OutOfMemory, Sequence};
 use sc_cmd::OrderLine;
-use sc_drive::{Company, close};
+use sc_drive::close;
 use sc_journal_file::file_lines;
 use sc_mail::Mail;
 use sc_report::lines;
@@ -34,27 +30,6 @@ pub struct Left {
     pub played: Played,
     pub journal: Journal<Mail, OrderLine>,
     pub parties: Sequence<Party>,
-}
-
-// Plays a scenario, its lines of many workers in rounds or by a pool.
-fn play_in<G: Gate, R: Threads + Wait + Sync>(
-    rt: &R,
-    alloc: Global,
-    way: Way,
-    scenario: &Scenario,
-    company: &mut Company<Party>,
-    gate: &G,
-) -> Played
-    requires valid { IsValid scenario.now }
-    requires opened { HasOpened (births as_nodes scenario.now) company.old }
-    ensures kept { result ≢ OutOfMemory → StaysWhole company.old company.new }
-    ensures played { IsPlayed scenario.now company.old.net.limit (seen company.new.net)
-        (map (λ s. s.actor) company.new.shells.items) result }
-{
-    match way {
-        Way::Runs => play(rt, alloc, scenario, company, gate),
-        Way::Queue => play_pool(rt, alloc, scenario, company, gate),
-    }
 }
 
 /// Begins a scenario within a limit of counted bytes of at most 2^30, plays it, takes the shells

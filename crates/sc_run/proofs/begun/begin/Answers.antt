@@ -20,5 +20,5 @@ open-requires-clause-numbered c κs =
     (c.valid_scenarios_can_play.ensures c.args.scenario.now c.requires.valid).numbered
 
 pub returns-clause-opened : goal.returns-clause-opened
-returns-clause-opened g c =
+returns-clause-opened c =
     subst (λ seats. IfOk c.open.result (HasOpened seats)) c.in_ok-seats.ensures c.open.ensures.opened

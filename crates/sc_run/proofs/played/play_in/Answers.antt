@@ -1,4 +1,4 @@
-use Rattle.sc_run.proofs.reporting.play_in.Goals as goal
+use Rattle.sc_run.proofs.played.play_in.Goals as goal
 
 pub returns-in-Runs-clause-kept : goal.returns-in-Runs-clause-kept
 returns-in-Runs-clause-kept g c = c.play.ensures.kept

@@ -1,0 +1,14 @@
+use Rattle.std.proofs.lemmas.Result.{IfOk-weaker}
+use Rattle.sc_edges.specs.Uses.{SourceUse}
+use Rattle.sc_run.proofs.Readings.{reported, refused_scenario}
+use Rattle.sc_run.proofs.saying.report_input.Goals as goal
+
+pub returns-in-Ok-clause-says : goal.returns-in-Ok-clause-says
+returns-in-Ok-clause-says g c =
+    let source : SourceUse = record { left = g.S.Source.left c.args.input.now; faults_before = g.S.Source.faults c.args.input.now; faults_after = g.S.Source.faults c.scenario_in.new.input } in
+    IfOk-weaker c.report.result _ _ (λ begun comes. reported source begun.0 begun.1 c.in-Ok.scenario c.in-Ok.ensures.read comes) c.report.ensures
+
+pub returns-in-Err-clause-says : goal.returns-in-Err-clause-says
+returns-in-Err-clause-says g c =
+    let source : SourceUse = record { left = g.S.Source.left c.args.input.now; faults_before = g.S.Source.faults c.args.input.now; faults_after = g.S.Source.faults c.scenario_in.new.input } in
+    IfOk-weaker c.refuse.result _ _ (λ begun tells. refused_scenario source begun.0 begun.1 c.in-Err.fault c.in-Err.ensures.read tells) c.refuse.ensures
