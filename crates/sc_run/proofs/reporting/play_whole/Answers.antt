@@ -27,3 +27,8 @@ pub close-requires-clause-rows : goal.close-requires-clause-rows
 close-requires-clause-rows g c κs within =
     let went_on : c.play_in-played.result ≢ OutOfMemory = search rules in
     (c.play_in-played.ensures.kept went_on).rows
+
+pub close-requires-clause-net : goal.close-requires-clause-net
+close-requires-clause-net g c κs within =
+    let went_on : c.play_in-played.result ≢ OutOfMemory = search rules in
+    (c.play_in-played.ensures.kept went_on).stays.who ∙ c.in_ok-company.ensures.opened.birth.crew.first
