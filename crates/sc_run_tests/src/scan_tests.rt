@@ -1,6 +1,7 @@
 //! Scans: worked rows, and scans of worked scenarios, after a third, two thirds and all of their rows, beside a plain list
 //! into which their histories are put from the beginning; and the same after each row of a merge, of
 //! a boundary that moves and of a member that is handed over.
+ghost use Rattle.std.specs.Prelude.{◌<◌};
 ghost use Rattle.sc_scenario.specs.Valid.{IsValid};
 
 use crate::replay_tests::{played, scenario_of};
