@@ -34,7 +34,7 @@ use Rattle.sc_scan.specs.declared.walking.Part.{Part}
 use Rattle.sc_scan.specs.declared.scans.Shown.{Shown}
 use Rattle.sc_scan.specs.Laws.{ShareNothing, EntriesCountLogs, HasMap, IsOfItsLog, IsWithinCut, ScansTell, ShareArc, WalksShareArcs}
 use Rattle.sc_scan.specs.Order.{Pair, ordered}
-use Rattle.sc_scan.specs.Scan.{entries_in, pairs_in, scan_at, scan_of, shown}
+use Rattle.sc_scan.specs.Scan.{entries_in, pairs_in, scan_of, shown}
 use Rattle.sc_scan.specs.Scan as scan
 use Rattle.sc_scan.specs.Walk.{parts_in}
 use Rattle.sc_scan.proofs.Pairs.{KeysDiffer, entries_differ, entry_found, found_entry, found_in_part, from_order, in_order, order_differs, pairwise_append, part_found}
