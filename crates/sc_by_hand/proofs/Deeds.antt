@@ -68,12 +68,12 @@ Carried hand = hand.log.wire ≡ mails hand.log.rows
 -- what a property of each actor's deed says of any deed
 deed_case : (P : Hand → Type 0) (hand : Hand) (deed : Deed) → P (after_first hand deed) → P (after_second hand deed) → P (after_client hand deed) → P (after_deed hand deed)
 deed_case P hand deed first second client = elim (cases_Bool (deed.0 == 1)) [
-      inl t ↦ subst P (sym (cond-true (deed.0 == 1) (after_first hand deed) _ t)) first
-    | inr f ↦ subst P (sym (cond-false (deed.0 == 1) (after_first hand deed) _ f)) (elim (cases_Bool (deed.0 == 2)) [
-          inl t ↦ subst P (sym (cond-true (deed.0 == 2) (after_second hand deed) _ t)) second
-        | inr u ↦ subst P (sym (cond-false (deed.0 == 2) (after_second hand deed) _ u)) client
-        ])
-    ]
+  | inl t ↦ subst P (sym (cond-true (deed.0 == 1) (after_first hand deed) _ t)) first
+  | inr f ↦ subst P (sym (cond-false (deed.0 == 1) (after_first hand deed) _ f)) (elim (cases_Bool (deed.0 == 2)) [
+    | inl t ↦ subst P (sym (cond-true (deed.0 == 2) (after_second hand deed) _ t)) second
+    | inr u ↦ subst P (sym (cond-false (deed.0 == 2) (after_second hand deed) _ u)) client
+  ])
+]
 
 carries : (hand : Hand) (deed : Deed) → Carried (after_deed hand deed)
 carries hand deed = deed_case Carried hand deed refl refl refl

@@ -91,7 +91,8 @@ impl Hand {
         ensures carried { OnOk result (self.new.log.wire ≡ mails self.new.log.rows) }
     {
         let who = client_number(1);
-        act(alloc, who, &mut self.client, Event::Go, &Input::Go, &mut self.log)
+        let client = &mut self.client;
+        act(alloc, who, client, Event::Go, &Input::Go, &mut self.log)
     }
 
     /// The client starts, and the first `most` mails are delivered in the order in which they are

@@ -81,9 +81,9 @@ pub fn deliver<A: Actor>(
     ensures actor { OnOk result (actor.new
         ≡ (acted A.table actor.old (input_of (mails log.old.rows) (Deliver (place + 1)))).0) }
     ensures row { OnOk result (log.new.rows ≡ log.old.rows ++ record {
-        who = who;
-        event = Deliver (place + 1);
-        sent = (acted A.table actor.old (input_of (mails log.old.rows) (Deliver (place + 1)))).1
+      who = who;
+      event = Deliver (place + 1);
+      sent = (acted A.table actor.old (input_of (mails log.old.rows) (Deliver (place + 1)))).1;
     } ∷ []) }
     ensures carried { OnOk result (log.new.wire ≡ mails log.new.rows) }
     ensures unchanged { OnErr result (log.new.rows ≡ log.old.rows) }

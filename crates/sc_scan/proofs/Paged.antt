@@ -78,7 +78,7 @@ next_page (suc most) front [] once some more = absurd (omega (arith, more))
 next_page (suc most) front (first ∷ rest) once some more =
     let e : (first ∷ take most rest) ++ drop most rest ≡ first ∷ rest = ap (λ list. first ∷ list) (take-append-drop most rest) in
     let k : after_key (last_key (first ∷ take most rest)) (front ++ ((first ∷ take most rest) ++ drop most rest)) ≡ drop most rest =
-        behind_page_last front first (take most rest) (drop most rest) (subst (λ list. HaveKeysOnce (front ++ list)) (sym e) once) in
+    behind_page_last front first (take most rest) (drop most rest) (subst (λ list. HaveKeysOnce (front ++ list)) (sym e) once) in
     ap (λ key. after_key key (front ++ first ∷ rest)) (key_of (suc most) (first ∷ rest) more)
     ∙ ap (λ list. after_key (last_key (first ∷ take most rest)) (front ++ list)) (sym e)
     ∙ k
@@ -103,23 +103,23 @@ walked zero most all front (pair ∷ rest) after parts begins once some enough =
 walked (suc many) most all front rest after parts begins once some enough =
     let page_then = λ (left : List Pair). take most left ++ flat (behind_page (next_key most left) (pages_from many most all)) in
     ap page_then begins ∙ elim (cases_Bool (nat_lt most (length rest))) [
-      inl t ↦ (
-        let more : most < length rest = ltb-true most (length rest) t in
-        let k = has_key most rest some more in
-        let e : all ≡ (front ++ take most rest) ++ drop most rest = parts ∙ ap (λ list. front ++ list) (sym (take-append-drop most rest)) ∙ sym (seam front (take most rest) (drop most rest)) in
-        let goes_on : after_key (next_key most rest) all ≡ drop most rest =
-            ap (after_key (next_key most rest)) parts ∙ next_page most front rest (subst HaveKeysOnce parts once) some more in
-        let begins_then : after_key (Some k.0) all ≡ drop most rest = ap (λ key. after_key key all) (sym k.1) ∙ goes_on in
-        let fewer : length (drop most rest) ≤ many = omega (arith, length-drop most rest, enough, some, more) in
-        let goes : flat (pages_from many most all (Some k.0)) ≡ drop most rest = walked many most all (front ++ take most rest) (drop most rest) (Some k.0) e begins_then once some fewer in
-        ap (λ key. take most rest ++ flat (behind_page key (pages_from many most all))) k.1
-        ∙ ap (λ list. take most rest ++ list) goes
-        ∙ take-append-drop most rest)
-    | inr f ↦ (
-        let within : length rest ≤ most = ltb-false most (length rest) f in
-        ap (λ key. take most rest ++ flat (behind_page key (pages_from many most all))) (last_page most rest within)
-        ∙ append-nil (take most rest)
-        ∙ take_all most rest within)
+      | inl t ↦ (
+          let more : most < length rest = ltb-true most (length rest) t in
+          let k = has_key most rest some more in
+          let e : all ≡ (front ++ take most rest) ++ drop most rest = parts ∙ ap (λ list. front ++ list) (sym (take-append-drop most rest)) ∙ sym (seam front (take most rest) (drop most rest)) in
+          let goes_on : after_key (next_key most rest) all ≡ drop most rest =
+          ap (after_key (next_key most rest)) parts ∙ next_page most front rest (subst HaveKeysOnce parts once) some more in
+          let begins_then : after_key (Some k.0) all ≡ drop most rest = ap (λ key. after_key key all) (sym k.1) ∙ goes_on in
+          let fewer : length (drop most rest) ≤ many = omega (arith, length-drop most rest, enough, some, more) in
+          let goes : flat (pages_from many most all (Some k.0)) ≡ drop most rest = walked many most all (front ++ take most rest) (drop most rest) (Some k.0) e begins_then once some fewer in
+          ap (λ key. take most rest ++ flat (behind_page key (pages_from many most all))) k.1
+          ∙ ap (λ list. take most rest ++ list) goes
+          ∙ take-append-drop most rest)
+      | inr f ↦ (
+          let within : length rest ≤ most = ltb-false most (length rest) f in
+          ap (λ key. take most rest ++ flat (behind_page key (pages_from many most all))) (last_page most rest within)
+          ∙ append-nil (take most rest)
+          ∙ take_all most rest within)
     ]
 
 all_pages : (most many : ℕ) (all : List Pair) → HaveKeysOnce all → 0 < most → length all ≤ many → flat_map (λ page. page) (pages_from many most all None) ≡ all
