@@ -27,9 +27,7 @@ use Rattle.sc_budget_law.specs.PlainNode.{IsPlainLeader, IsPlainReplica, HasOffe
 use Rattle.sc_budget_law.proofs.Leading.{early_taken, IsHeld, Leads}
 use Rattle.sc_budget_law.proofs.Executing.{IsRun, pumped_run}
 use Rattle.sc_budget_law.proofs.Sends.{mail_of, among_push, last_among}
-
-some_is : {A : Type 0} {x y : A} → Some x ≡ Some y → x ≡ y
-some_is e = cc
+use Rattle.sc_budget_law.proofs.Lists.{some_is}
 
 -- ---- the calls of a client in a queue
 

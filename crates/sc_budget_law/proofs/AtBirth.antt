@@ -30,18 +30,20 @@ use Rattle.sc_scenario.specs.declared.scenarios.Scenario.{Scenario}
 use Rattle.sc_sound.specs.Players.{Player, node_seat, client_seat, route_of, system_of, as_nodes}
 use Rattle.sc_client_table.specs.Client.{born_client}
 use Rattle.sc_orderly_law.specs.Owing.{owed_at_birth}
+use Rattle.sc_paxos_law.proofs.Among.{from_map}
 use Rattle.sc_budget_law.specs.Budget.{requests_of, budget_of}
 use Rattle.sc_budget_law.specs.Frames.{Frame, frame_of}
 use Rattle.sc_budget_law.specs.Owed.{replica_owes, player_owes}
 use Rattle.sc_budget_law.specs.PlainClient.{way_of, IsBegun, IsPlainClient}
 use Rattle.sc_budget_law.specs.PlainMail.{Requests}
 use Rattle.sc_budget_law.specs.PlainNode.{AreTaken, IsPlainReplica, IsSettled, IsPlainOf, IsPlainNode}
-use Rattle.sc_budget_law.proofs.BetweenStage.{frames_of, stage, from_mapped, to_mapped, of_groups}
+use Rattle.sc_budget_law.proofs.BetweenStage.{frames_of, stage, of_groups}
 use Rattle.sc_budget_law.specs.BetweenJournal.{replica_at, next_in, votes_in}
 use Rattle.sc_budget_law.proofs.BetweenAll.{owing_of, IsPlainJournal}
 use Rattle.sc_budget_law.proofs.BetweenGroups.{IsGroupAt}
 use Rattle.sc_budget_law.proofs.Leading.{in_range, range_before, range_behind}
 use Rattle.sc_budget_law.proofs.Counts.{one_if, one_no}
+use Rattle.sc_budget_law.proofs.Lists.{map_among}
 
 -- ---- a replica at birth
 
@@ -215,11 +217,11 @@ module _ (scenario : Scenario) (bounded : IsBounded scenario) where
   node_at_birth begun me = record {
     replicas = born_each (IsPlainOf begun (frames_of scenario) me) me scenario.groups (λ base a. (let f = fresh base a in record {
       frame = frame_of base;
-      is_frame = to_mapped frame_of scenario.groups base a;
+      is_frame = map_among frame_of scenario.groups base a;
       plain = born_plain begun me base f.0 f.1;
       settled = born_settled begun me base;
     }));
-    has = λ frame slot a m. (let b = from_mapped frame_of scenario.groups frame a in
+    has = λ frame slot a m. (let b = from_map frame_of scenario.groups frame a in
         let found = born_found me scenario.groups b.0 b.1 (ap (λ (f : Frame). is_member (f.at slot) me) b.2 ∙ m) in
         (born_replica slots_ahead me found.0, ap (λ (f : Frame). replica_of f.core.id (born_replicas slots_ahead me scenario.groups)) (sym b.2) ∙ found.1));
   }
@@ -281,7 +283,7 @@ module _ (scenario : Scenario) (bounded : IsBounded scenario) where
   -- the replica of a node that votes in the group
   first_found : (frame : Frame) → Among frame (frames_of scenario) → (slot me : ℕ) → is_member (frame.at slot) me ≡ true → (b : Base) × (replica_at scenario [] frame.core.id me ≡ Some (born_replica slots_ahead me b))
   first_found frame a slot me m =
-      let b = from_mapped frame_of scenario.groups frame a in
+      let b = from_map frame_of scenario.groups frame a in
       let found = born_found me scenario.groups b.0 b.1 (ap (λ (f : Frame). is_member (f.at slot) me) b.2 ∙ m) in
       let is = (stage scenario bounded).are frame a in (
         found.0,

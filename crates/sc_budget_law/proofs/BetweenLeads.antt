@@ -1,9 +1,9 @@
 -- What a row of a leader does, as marks: of what the leader executed and offered in it.
-use Rattle.std.proofs.Common.{◌≡◌, ℕ, ◌+◌, ◌-◌, ◌<◌, ◌≤◌, ◌||◌, eqb, Bool, true, cond, List, [], ◌∷◌, ◌++◌, map, Option, Some, None, ◌⊎◌, inl, inr, refl, sym, ◌∙◌, ap, subst, arith}
+use Rattle.std.proofs.Common.{◌≡◌, ℕ, ◌+◌, ◌-◌, ◌<◌, ◌≤◌, eqb, Bool, true, cond, List, [], ◌∷◌, ◌++◌, map, Option, Some, None, ◌⊎◌, inl, inr, refl, sym, ◌∙◌, ap, subst, arith}
 use Rattle.std.specs.Prelude.{find}
 use Rattle.std.specs.Option.{option_map}
 use Rattle.std.specs.List.{filter}
-use Rattle.std.proofs.lemmas.Bool.{cases_lt, cases_Bool, cond_both, cond-true, cond-false, eqb-true, eq-eqb, ne_eqb}
+use Rattle.std.proofs.lemmas.Bool.{cases_lt, cond_both, cond-true, cond-false, eqb-true, eq-eqb, ne_eqb}
 use Rattle.sc_base.specs.Among.{Among, Each}
 use Rattle.sc_base.specs.Same.{same_draw}
 use Rattle.sc_base.specs.declared.names.Draw.{Draw}
@@ -19,6 +19,7 @@ use Rattle.sc_paxos_words.specs.Votes.{kept_voters}
 use Rattle.sc_paxos_words.proofs.ListLemmas.{Each-among, find_found}
 use Rattle.sc_node_table.specs.Replica.{Place, next}
 use Rattle.sc_node_table.specs.Slots.{numbers_from}
+use Rattle.sc_paxos_law.proofs.Among.{member-among}
 use Rattle.sc_budget_law.specs.Frames.{Frame}
 use Rattle.sc_budget_law.specs.Between.{Mark, Asks, Votes, Tells, Other, mark_of, mark, told, View}
 use Rattle.sc_budget_law.specs.BetweenJournal.{voters_in, marks_for}
@@ -239,13 +240,9 @@ module _ (begun : Requests) (frame : Frame) (first free : ℕ) (flights held : L
                   inl (record {
                     from = omega (arith, b, least);
                     none = new.1;
-                    asks = λ node m. (let offer = k.offers slot node new.0 range.1 (among_member node (frame.at slot) m) in
+                    asks = λ node m. (let offer = k.offers slot node new.0 range.1 (member-among (frame.at slot) node m) in
                         subst (λ x. Among x (sends node)) (cond-true (same_draw name name) (Asks slot) Other (same_name name name refl))
                         (mark_among name node place.1 (mail_of frame.lead node (Accept name frame.ballot slot offer.0)) refl offer.1));
                   }))
             ]);
       }
-    where
-      among_member : (node : ℕ) (members : List ℕ) → is_member members node ≡ true → Among node members
-      among_member node [] m = cc
-      among_member node (x ∷ members) m = elim (cases_Bool (eqb x node)) [ inl t ↦ inl (eqb-true x node t) | inr f ↦ inr (among_member node members (sym (ap (λ b. b || is_member members node) f) ∙ m)) ]

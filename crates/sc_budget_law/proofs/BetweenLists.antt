@@ -1,7 +1,7 @@
 -- Marks in order: the first is taken, and others come behind.
-use Rattle.std.proofs.Common.{◌≡◌, ℕ, zero, suc, ◌+◌, ◌≤◌, max, List, [], ◌∷◌, ◌++◌, ◌⊎◌, inl, inr, refl, sym, ◌∙◌, ap, subst, arith}
+use Rattle.std.proofs.Common.{◌≡◌, ℕ, zero, suc, ◌+◌, ◌≤◌, max, List, [], ◌∷◌, ◌++◌, inl, inr, refl, sym, ◌∙◌, ap, subst, arith}
 use Rattle.sc_base.specs.Among.{Among, Each}
-use Rattle.sc_paxos_words.proofs.ListLemmas.{Each-append}
+use Rattle.sc_paxos_words.proofs.ListLemmas.{Each-append, Each-weaker}
 use Rattle.sc_node_table.specs.Slots.{numbers_from}
 use Rattle.sc_budget_law.specs.Between.{Mark, Asks, Votes, Tells, Other, AreInOrder, IsBelow, told}
 use Rattle.sc_budget_law.specs.BetweenRows.{IsNew, IsOther}
@@ -75,14 +75,10 @@ more_below from to le (Votes node slot) e = omega (arith, e, le)
 more_below from to le (Tells slot) e = omega (arith, e, le)
 more_below from to le Other e = tt
 
-each_by : {X : Type 0} (P Q : X → Type 0) → ((x : X) → P x → Q x) → (xs : List X) → Each P xs → Each Q xs
-each_by P Q f [] e = tt
-each_by P Q f (x ∷ xs) e = (f x e.0, each_by P Q f xs e.1)
-
 -- all that is under way after a row is below its bound
 pub below-append : (from to : ℕ) (xs ys : List Mark) → from ≤ to → Each (IsBelow from) xs → Each (IsNew from to) ys → Each (IsBelow to) (xs ++ ys)
 below-append from to xs ys le old new =
-    Each-append (IsBelow to) xs ys (each_by (IsBelow from) (IsBelow to) (more_below from to le) xs old) (each_by (IsNew from to) (IsBelow to) (new_below from to le) ys new)
+    Each-append (IsBelow to) xs ys (Each-weaker (IsBelow from) (IsBelow to) (more_below from to le) xs old) (Each-weaker (IsNew from to) (IsBelow to) (new_below from to le) ys new)
 
 pub below-among : (bound : ℕ) (marks : List Mark) (mark : Mark) → Each (IsBelow bound) marks → Among mark marks → IsBelow bound mark
 below-among bound [] mark e a = absurd a
@@ -91,7 +87,7 @@ below-among bound (m ∷ marks) mark e (inr a) = below-among bound marks mark e.
 
 -- nothing of a group is new
 pub other-new : (from to : ℕ) (marks : List Mark) → Each IsOther marks → Each (IsNew from to) marks
-other-new from to marks e = each_by IsOther (IsNew from to) (λ m is. subst (IsNew from to) (sym is) tt) marks e
+other-new from to marks e = Each-weaker IsOther (IsNew from to) (λ m is. subst (IsNew from to) (sym is) tt) marks e
 
 -- .. and asks for nothing
 pub other-asks : (marks : List Mark) (mark : Mark) → Each IsOther marks → (mark ≡ Other → ⊥) → Among mark marks → ⊥
@@ -124,19 +120,3 @@ numbers-append from (suc one) two =
     (let a : suc one + two ≡ suc (one + two) = omega arith in
     let b : from + suc one ≡ from + 1 + one = omega arith in
     rw (a, b) (ap (λ t. from ∷ t) (numbers-append (from + 1) one two)))
-
--- ---- elements
-
-pub among-left : {X : Type 0} (x : X) (xs ys : List X) → Among x xs → Among x (xs ++ ys)
-among-left x [] ys a = absurd a
-among-left x (y ∷ xs) ys (inl same) = inl same
-among-left x (y ∷ xs) ys (inr a) = inr (among-left x xs ys a)
-
-pub among-right : {X : Type 0} (x : X) (xs ys : List X) → Among x ys → Among x (xs ++ ys)
-among-right x [] ys a = a
-among-right x (y ∷ xs) ys a = inr (among-right x xs ys a)
-
-pub among-split : {X : Type 0} (x : X) (xs ys : List X) → Among x (xs ++ ys) → Among x xs ⊎ Among x ys
-among-split x [] ys a = inr a
-among-split x (y ∷ xs) ys (inl same) = inl (inl same)
-among-split x (y ∷ xs) ys (inr a) = elim (among-split x xs ys a) [ inl b ↦ inl (inr b) | inr b ↦ inr b ]

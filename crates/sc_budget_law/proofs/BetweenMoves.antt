@@ -4,10 +4,11 @@ use Rattle.std.proofs.lemmas.Bool.{cases_eq}
 use Rattle.sc_base.specs.Among.{Among, Each}
 use Rattle.sc_member.specs.Roster.{is_member}
 use Rattle.sc_node_table.specs.Slots.{numbers_from}
+use Rattle.sc_paxos_law.proofs.Among.{Among-left, Among-right, Among-either}
 use Rattle.sc_budget_law.specs.Frames.{Frame}
 use Rattle.sc_budget_law.specs.Between.{Mark, Asks, Votes, Tells, Other, AreInOrder, IsBelow, told, View, IsLearning, IsVoting, IsBetween}
 use Rattle.sc_budget_law.specs.BetweenRows.{IsNew, IsIdle, Accepts, Learns, IsCount, IsElsewhere, IsOffered, IsCounted, Leads, Moves, IsTaken}
-use Rattle.sc_budget_law.proofs.BetweenLists.{order-lower, order-tail, order-asks, order-append, order-raise, order-new, below-append, below-among, other-new, other-asks, asks≢other, votes≢other, told-append, told-other, numbers-append, among-left, among-right, among-split}
+use Rattle.sc_budget_law.proofs.BetweenLists.{order-lower, order-tail, order-asks, order-append, order-raise, order-new, below-append, below-among, other-new, other-asks, asks≢other, votes≢other, told-append, told-other, numbers-append}
 
 -- ---- what is left after the first is taken
 
@@ -76,16 +77,16 @@ module _ (frame : Frame) (now after : View) (node : ℕ) (taken : Mark) (sent ma
   -- what is under way to one was so before and is not taken, or is sent
   came : (who : ℕ) (mark : Mark) → Among mark (marks' who) → Among mark (marks who) ⊎ Among mark (sent who)
   came who mark a = elim (cases_eq who node) [
-    | inl is ↦ (let b = among-split mark left (sent node) (subst (Among mark) (ap marks' is ∙ own) a) in
+    | inl is ↦ (let b = Among-either mark left (sent node) (subst (Among mark) (ap marks' is ∙ own) a) in
         elim b [ inl c ↦ inl (subst (λ n. Among mark (marks n)) (sym is) (left_among taken (marks node) left mark takes c)) | inr c ↦ inr (subst (λ n. Among mark (sent n)) (sym is) c) ])
-    | inr ne ↦ among-split mark (marks who) (sent who) (subst (Among mark) (others who ne) a)
+    | inr ne ↦ Among-either mark (marks who) (sent who) (subst (Among mark) (others who ne) a)
   ]
 
   -- what is sent is under way after it
   goes : (who : ℕ) (mark : Mark) → Among mark (sent who) → Among mark (marks' who)
   goes who mark a = elim (cases_eq who node) [
-    | inl is ↦ subst (Among mark) (sym (ap marks' is ∙ own)) (among-right mark left (sent node) (subst (λ n. Among mark (sent n)) is a))
-    | inr ne ↦ subst (Among mark) (sym (others who ne)) (among-right mark (marks who) (sent who) a)
+    | inl is ↦ subst (Among mark) (sym (ap marks' is ∙ own)) (Among-right mark left (sent node) (subst (λ n. Among mark (sent n)) is a))
+    | inr ne ↦ subst (Among mark) (sym (others who ne)) (Among-right mark (marks who) (sent who) a)
   ]
 
   -- what was under way is so still, unless it was taken
@@ -93,9 +94,9 @@ module _ (frame : Frame) (now after : View) (node : ℕ) (taken : Mark) (sent ma
   stays who mark a = elim (cases_eq who node) [
     | inl is ↦ elim (among_left taken (marks node) left mark takes (subst (λ n. Among mark (marks n)) is a)) [
       | inl same ↦ inl (is, same)
-      | inr b ↦ inr (subst (Among mark) (sym (ap marks' is ∙ own)) (among-left mark left (sent node) b))
+      | inr b ↦ inr (subst (Among mark) (sym (ap marks' is ∙ own)) (Among-left mark left (sent node) b))
     ]
-    | inr ne ↦ inr (subst (Among mark) (sym (others who ne)) (among-left mark (marks who) (sent who) a))
+    | inr ne ↦ inr (subst (Among mark) (sym (others who ne)) (Among-left mark (marks who) (sent who) a))
   ]
 
   -- the order of the mail of each
@@ -287,7 +288,7 @@ module _ (frame : Frame) (now after : View) (node : ℕ) (taken : Mark) (sent ma
         }
       where
         undone_node : Leads frame now after node taken sent → (slot : ℕ) → Among (Asks slot) (marks' node) → after.voters slot ≡ Some []
-        undone_node i slot a = elim (among-split (Asks slot) left (sent node) (subst (Among (Asks slot)) own a)) [
+        undone_node i slot a = elim (Among-either (Asks slot) left (sent node) (subst (Among (Asks slot)) own a)) [
           | inl b ↦ i.kept slot [] (was.undone slot (subst (λ n. Among (Asks slot) (marks n)) i.leads (left_among taken (marks node) left (Asks slot) takes b)))
               (elsewhere (now.next node) taken (marks node) left slot takes (was.order node) b)
           | inr b ↦ i.offered slot b

@@ -1,6 +1,6 @@
 -- How a plain journal begins: the frames of the groups of a valid scenario, and its seats.
-use Rattle.std.proofs.Common.{◌≡◌, ℕ, zero, suc, ◌+◌, ◌-◌, ◌<◌, ◌≤◌, ◌||◌, eqb, leb, true, List, [], ◌∷◌, ◌++◌, length, map, inl, inr, refl, sym, ◌∙◌, ap, subst, arith}
-use Rattle.std.proofs.lemmas.Bool.{and_from, le-leb, eq-eqb, eqb-true, cases_Bool, or_left}
+use Rattle.std.proofs.Common.{◌≡◌, ℕ, zero, suc, ◌+◌, ◌-◌, ◌<◌, ◌≤◌, eqb, leb, true, List, [], ◌∷◌, ◌++◌, length, map, inl, inr, refl, sym, ◌∙◌, ap, subst, arith}
+use Rattle.std.proofs.lemmas.Bool.{and_from, le-leb, eq-eqb, or_left}
 use Rattle.sc_base.specs.Among.{Among}
 use Rattle.sc_base.specs.Limits.{most_nodes}
 use Rattle.sc_base.specs.declared.names.Draw.{Draw}
@@ -17,8 +17,8 @@ use Rattle.sc_scenario.specs.declared.scenarios.Scenario.{Scenario}
 use Rattle.sc_sound.specs.Players.{node_seat, client_seat, client_seats, route_of, births, as_nodes}
 use Rattle.sc_start_law.proofs.Seats.{all_apart}
 use Rattle.sc_start_law.proofs.Starts.{bases_from, first_and_others}
+use Rattle.sc_paxos_law.proofs.Among.{Among-either, from_map, member-among}
 use Rattle.sc_budget_law.specs.Frames.{Frame, frame_of, IsFrame, AreNamedApart}
-use Rattle.sc_budget_law.proofs.BetweenLists.{among-split}
 
 -- the frames of the groups of a scenario
 abbrev pub frames_of : Scenario → List Frame
@@ -38,28 +38,13 @@ pub record IsStage (scenario : Scenario) : Type 0 where
   pub once : (one other : Asks) → Among one scenario.clients → Among other scenario.clients → one.client ≡ other.client → one ≡ other
   pub seats_apart : are_apart (births as_nodes scenario) ≡ true
 
--- a mapped element is that of one
-pub from_mapped : {X Y : Type 0} (f : X → Y) (xs : List X) (y : Y) → Among y (map f xs) → (x : X) × Among x xs × (f x ≡ y)
-from_mapped f [] y a = absurd a
-from_mapped f (x ∷ xs) y (inl e) = (x, inl refl, e)
-from_mapped f (x ∷ xs) y (inr a) = let r = from_mapped f xs y a in (r.0, inr r.1, r.2)
-
-pub to_mapped : {X Y : Type 0} (f : X → Y) (xs : List X) (x : X) → Among x xs → Among (f x) (map f xs)
-to_mapped f [] x a = absurd a
-to_mapped f (y ∷ xs) x (inl e) = inl (ap f e)
-to_mapped f (y ∷ xs) x (inr a) = inr (to_mapped f xs x a)
-
-member_among : (node : ℕ) (members : List ℕ) → is_member members node ≡ true → Among node members
-member_among node [] m = cc
-member_among node (x ∷ members) m = elim (cases_Bool (eqb x node)) [ inl t ↦ inl (eqb-true x node t) | inr f ↦ inr (member_among node members (sym (ap (λ b. b || is_member members node) f) ∙ m)) ]
-
 least_in : (members : List ℕ) → 1 ≤ length members → is_member members (least_of members) ≡ true
 least_in [] some = absurd (omega (arith, some))
 least_in (x ∷ members) some = or_left (eqb x x) (is_member members x) (eq-eqb x x refl)
 
 of_up_to : (lines : List GroupLine) (n : ℕ) (base : Base) → Among base (bases_up_to lines n) → (k : ℕ) × (k < n) × (base_at lines k ≡ base)
 of_up_to lines zero base a = absurd a
-of_up_to lines (suc n) base a = elim (among-split base (bases_up_to lines n) (base_at lines n ∷ []) a) [
+of_up_to lines (suc n) base a = elim (Among-either base (bases_up_to lines n) (base_at lines n ∷ []) a) [
   | inl b ↦ (let r = of_up_to lines n base b in let low = r.1 in (r.0, omega (arith, low), r.2))
   | inr (inl e) ↦ (n, omega arith, e)
   | inr (inr e) ↦ absurd e
@@ -78,7 +63,7 @@ module _ (scenario : Scenario) (bounded : IsBounded scenario) where
   within : (k : ℕ) → k < length bounded.starts → (node : ℕ) → is_member (group_at bounded.starts k).members node ≡ true → (1 ≤ node) × (node ≤ scenario.nodes)
   within k low node m =
       let members = (group_at bounded.starts k).members in
-      Each-among (IsUpTo scenario.nodes) members node (Each-from_All (IsUpTo scenario.nodes) members (line_bounded k low).members_in) (member_among node members m)
+      Each-among (IsUpTo scenario.nodes) members node (Each-from_All (IsUpTo scenario.nodes) members (line_bounded k low).members_in) (member-among members node m)
 
   frame_at : (k : ℕ) → k < length bounded.starts → IsFrame (frame_of (base_at bounded.starts k))
   frame_at k low =
@@ -95,7 +80,7 @@ module _ (scenario : Scenario) (bounded : IsBounded scenario) where
 
   pub frame_is : (frame : Frame) → Among frame (frames_of scenario) → (k : ℕ) × (k < length bounded.starts) × (frame_of (base_at bounded.starts k) ≡ frame)
   frame_is frame a =
-      let b = from_mapped frame_of scenario.groups frame a in
+      let b = from_map frame_of scenario.groups frame a in
       let g = of_groups b.0 b.1 in
       (g.0, g.1, ap frame_of g.2 ∙ b.2)
 

@@ -27,6 +27,7 @@ use Rattle.sc_scenario.specs.declared.scenarios.Scenario.{Scenario}
 use Rattle.sc_sound.specs.Players.{Player, player_table, node_seat, client_seat, route_of, births, system_of, as_nodes}
 use Rattle.sc_sound.specs.declared.roles.Role.TheVariants.{Node}
 use Rattle.sc_orderly_law.specs.Owing.{owed, owed_at_birth}
+use Rattle.sc_paxos_law.proofs.Among.{Among-left}
 use Rattle.sc_budget_law.specs.BetweenJournal.{replica_at, next_in}
 use Rattle.sc_budget_law.specs.Frames.{Frame}
 use Rattle.sc_budget_law.specs.Owed.{replica_owes, player_owes}
@@ -35,10 +36,10 @@ use Rattle.sc_budget_law.specs.PlainMail.{IsPlainMail}
 use Rattle.sc_budget_law.specs.PlainNode.{IsSettled}
 use Rattle.sc_budget_law.proofs.BetweenAll.{owing_of, IsNodeAt, IsClientAt, IsPlainJournal}
 use Rattle.sc_budget_law.proofs.BetweenBegun.{IsMore, mail_more, node_more}
-use Rattle.sc_budget_law.proofs.BetweenLists.{among-left}
-use Rattle.sc_budget_law.proofs.BetweenStage.{frames_of, IsStage, to_mapped}
+use Rattle.sc_budget_law.proofs.BetweenStage.{frames_of, IsStage}
 use Rattle.sc_budget_law.proofs.BetweenViews.{Journal, replica_is}
 use Rattle.sc_budget_law.proofs.NodeRows.{of_frame}
+use Rattle.sc_budget_law.proofs.Lists.{map_among}
 
 -- ---- lists
 
@@ -83,7 +84,7 @@ module _ (words : ℕ → ℕ → ℕ × ℕ) (scenario : Scenario) (stage : IsS
   pub node_born : (me : ℕ) → 1 ≤ me → me ≤ scenario.nodes → Among (nseat me) (births as_nodes scenario)
   node_born me one most =
       subst (Among (nseat me)) (sym stage.seats)
-      (among-left (nseat me) (map nseat (numbers_from 1 scenario.nodes)) (map cseat scenario.clients) (to_mapped nseat (numbers_from 1 scenario.nodes) me (to_numbers 1 scenario.nodes me one (omega (arith, most)))))
+      (Among-left (nseat me) (map nseat (numbers_from 1 scenario.nodes)) (map cseat scenario.clients) (map_among nseat (numbers_from 1 scenario.nodes) me (to_numbers 1 scenario.nodes me one (omega (arith, most)))))
 
   pub node_number : (me : ℕ) → 1 ≤ me → me ≤ scenario.nodes → is_node me ≡ true
   node_number me one most = (let all = stage.nodes in and_from (leb 1 me) (leb me most_nodes) (le-leb 1 me one) (le-leb me most_nodes (omega (arith, most, all))))

@@ -19,10 +19,10 @@ use Rattle.sc_orderly_law.specs.Owing.{owed_at_birth}
 use Rattle.sc_orderly_law.proofs.Ordering.{orderly, by_rows}
 use Rattle.sc_orderly_law.proofs.Resting.{tidy}
 use Rattle.sc_actor.proofs.WalkLemmas.{lawful-prefix}
+use Rattle.sc_paxos_law.proofs.Among.{Among-either, from_map}
 use Rattle.sc_budget_law.proofs.BetweenAll.{owing_of, IsPlainJournal}
 use Rattle.sc_budget_law.proofs.BetweenClients.{client_event}
-use Rattle.sc_budget_law.proofs.BetweenLists.{among-split}
-use Rattle.sc_budget_law.proofs.BetweenStage.{frames_of, IsStage, from_mapped}
+use Rattle.sc_budget_law.proofs.BetweenStage.{frames_of, IsStage}
 use Rattle.sc_budget_law.proofs.BetweenSteps.{in_numbers}
 use Rattle.sc_budget_law.proofs.BetweenTurns.{node_event}
 use Rattle.sc_budget_law.proofs.BetweenViews.{Journal}
@@ -55,13 +55,13 @@ module _ (words : ℕ → ℕ → ℕ × ℕ) (scenario : Scenario) (stage : IsS
   of_player rows row o =
       let found = find_found (λ (other : Seat Player). eqb other.who o.seat.who) (births as_nodes scenario) o.seat o.born in
       let there = subst (Among o.seat) stage.seats found.0 in
-      elim (among-split o.seat (map nseat (numbers_from 1 scenario.nodes)) (map cseat scenario.clients) there) [
-        | inl a ↦ (let from = from_mapped nseat (numbers_from 1 scenario.nodes) o.seat a in
+      elim (Among-either o.seat (map nseat (numbers_from 1 scenario.nodes)) (map cseat scenario.clients) there) [
+        | inl a ↦ (let from = from_map nseat (numbers_from 1 scenario.nodes) o.seat a in
             let bounds = in_numbers 1 scenario.nodes from.0 from.1 in
             let low = bounds.0 in
             let high = bounds.1 in
             inl (record { me = from.0; one = low; most = omega (arith, high); seat_is = sym from.2 }))
-        | inr a ↦ (let from = from_mapped cseat scenario.clients o.seat a in inr (record { asks = from.0; is_asks = from.1; seat_is = sym from.2 }))
+        | inr a ↦ (let from = from_map cseat scenario.clients o.seat a in inr (record { asks = from.0; is_asks = from.1; seat_is = sym from.2 }))
       ]
 
   module _ (round : IsRound (frames_of scenario)) (few : owed_at_birth (system_of as_nodes words scenario) (owing_of scenario) + 16 ≤ last_slot) where

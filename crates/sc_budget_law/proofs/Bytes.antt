@@ -1,9 +1,8 @@
 -- How many bytes a plain journal counts: few enough, so that it is never full.
-use Rattle.std.proofs.Common.{◌≡◌, ℕ, zero, suc, ◌+◌, ◌-◌, ◌*◌, ◌≤◌, List, [], ◌∷◌, ◌++◌, length, Option, Some, None, inl, inr, refl, ap, arith, length-append}
-use Rattle.std.specs.Prelude.{slice_get}
+use Rattle.std.proofs.Common.{◌≡◌, ℕ, ◌+◌, ◌-◌, ◌*◌, ◌≤◌, List, [], ◌∷◌, length, Option, Some, None, refl, ap, arith, length-append}
 use Rattle.std.specs.List.{sum_by}
 use Rattle.std.proofs.lemmas.List.Sums.{sum_by-cons}
-use Rattle.sc_base.specs.Among.{Among, Each}
+use Rattle.sc_base.specs.Among.{Each}
 use Rattle.sc_base.specs.declared.ops.Op.{Op}
 use Rattle.sc_base.specs.declared.ops.Op.TheVariants.{Get, Put, Del, Add, Cas}
 use Rattle.sc_cmd.specs.Weight.{op_weight, value_weight, command_weight}
@@ -20,10 +19,12 @@ use Rattle.sc_actor.specs.declared.rows.Row.{Row}
 use Rattle.sc_actor.specs.Mail.{mails}
 use Rattle.sc_scenario.specs.Valid.{IsShortOp, IsBounded, IsBoundedClient}
 use Rattle.sc_scenario.specs.declared.scenarios.Scenario.{Scenario}
-use Rattle.sc_paxos_words.proofs.ListLemmas.{Each-among, Each-from_All}
+use Rattle.sc_paxos_words.proofs.ListLemmas.{Each-among, Each-from_All, Each-split}
+use Rattle.sc_paxos_law.proofs.Among.{place_among}
 use Rattle.sc_budget_law.specs.Frames.{Frame}
 use Rattle.sc_budget_law.specs.PlainClient.{IsBegun}
 use Rattle.sc_budget_law.specs.PlainMail.{Requests, written_by, IsWrittenValue, IsPlainCommand, IsPlainBody, IsPlainMail}
+use Rattle.sc_budget_law.proofs.Lists.{some_is}
 
 -- ---- what a mail weighs
 
@@ -33,9 +34,6 @@ op_light (Put key value) s = (let a = s.0 in let b = s.1 in omega (arith, a, b))
 op_light (Del key) s = omega arith
 op_light (Add key value) s = (let a = s.0 in let b = s.1 in omega (arith, a, b))
 op_light (Cas key expect value) s = (let a = s.0 in let b = s.1 in let c = s.2 in omega (arith, a, b, c))
-
-some_is : {A : Type 0} {x y : A} → Some x ≡ Some y → x ≡ y
-some_is e = cc
 
 value_light : (op : Op) (value : List ℕ) → IsShortOp op → written_by op ≡ Some value → length value ≤ 256
 value_light (Get key) value s e = cc
@@ -103,15 +101,11 @@ mails_low (mail ∷ sent) e =
     let rest = mails_low sent e.1 in
     omega (arith, sum, here, rest)
 
-each_first : {X : Type 0} (P : X → Type 0) (xs ys : List X) → Each P (xs ++ ys) → Each P xs × Each P ys
-each_first P [] ys e = (tt, e)
-each_first P (x ∷ xs) ys e = (let rest = each_first P xs ys e.1 in ((e.0, rest.0), rest.1))
-
 -- 64 for each row, and 832 at most for each mail
 pub bytes_low : (rows : List (Row Mail OrderLine)) → Each (λ mail. body_weight mail.body ≤ 576) (mails rows) → journal_bytes (λ mail. body_weight mail.body) rows ≤ 64 * length rows + 832 * length (mails rows)
 bytes_low [] e = omega arith
 bytes_low (row ∷ rows) e =
-    let parts = each_first (λ mail. body_weight mail.body ≤ 576) row.sent (mails rows) e in
+    let parts = Each-split (λ mail. body_weight mail.body ≤ 576) row.sent (mails rows) e in
     let sum = sum_by-cons (row_bytes (λ mail. body_weight mail.body)) row rows in
     let here = mails_low row.sent parts.0 in
     let rest = bytes_low rows parts.1 in
@@ -120,12 +114,7 @@ bytes_low (row ∷ rows) e =
 
 -- ---- the requests of valid scenarios are short
 
-at_among : {X : Type 0} (xs : List X) (k : ℕ) (x : X) → slice_get xs k ≡ Some x → Among x xs
-at_among [] k x e = cc
-at_among (y ∷ xs) zero x e = (let same : y ≡ x = cc in inl same)
-at_among (y ∷ xs) (suc k) x e = inr (at_among xs k x e)
-
 pub begun_short : (scenario : Scenario) (bounded : IsBounded scenario) (rows : List (Row Mail OrderLine)) (client seq : ℕ) (op : Op) → IsBegun scenario rows client seq op → IsShortOp op
 begun_short scenario bounded rows client seq op b =
     let asks = Each-among IsBoundedClient scenario.clients b.asks (Each-from_All IsBoundedClient scenario.clients bounded.clients) b.is_asks in
-    Each-among IsShortOp b.asks.ops op asks.2 (at_among b.asks.ops (seq - 1) op b.op_is)
+    Each-among IsShortOp b.asks.ops op asks.2 (place_among b.asks.ops (seq - 1) op b.op_is)

@@ -34,9 +34,7 @@ use Rattle.sc_budget_law.specs.PlainClient.{way_of, IsWaiting, IsResting, IsPlai
 use Rattle.sc_budget_law.specs.PlainMail.{Requests, IsPlainBody, IsPlainMail}
 use Rattle.sc_budget_law.proofs.Knowing.{IsRound, chosen_frame, target_leads, one_chosen, known_grows, front_frames}
 use Rattle.sc_budget_law.proofs.Sends.{mail_of}
-
-some_is : {A : Type 0} {x y : A} → Some x ≡ Some y → x ≡ y
-some_is e = cc
+use Rattle.sc_budget_law.proofs.Lists.{some_is}
 
 -- the mail of a client's request
 abbrev pub asking : ℕ → ℕ → Draw → ℕ → Op → Mail

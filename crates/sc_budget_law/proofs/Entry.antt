@@ -27,7 +27,7 @@ use Rattle.sc_node_table.specs.Replica.{ReplicaState, Place, name_of, next, memb
 use Rattle.sc_node_table.specs.Slots.{rest_of, numbers_from, slots_ahead}
 use Rattle.sc_node_table.specs.Spoken.{before_of, spoken, spoken_mails, told_begun, went_on}
 use Rattle.sc_law_lemmas.proofs.Places.{cleared}
-use Rattle.sc_budget_law.proofs.Sends.{member_or_among}
+use Rattle.sc_paxos_law.proofs.Among.{among-member}
 use Rattle.sc_budget_law.specs.Frames.{Frame, IsFrame}
 use Rattle.sc_budget_law.specs.PlainMail.{Requests}
 use Rattle.sc_budget_law.specs.PlainNode.{IsPlainGroup, IsPlainReplica}
@@ -40,7 +40,7 @@ none_passes p (x ∷ xs) f = cond-false (p x) (x ∷ filter p xs) (filter p xs) 
 
 -- no member is new
 none_new : (before now : List ℕ) → now ≡ before → filter (λ node. not (is_member before node)) now ≡ []
-none_new before now e = none_passes (λ node. not (is_member before node)) now (λ x a. ap not (ap (λ xs. is_member xs x) (sym e) ∙ member_or_among x now a))
+none_new before now e = none_passes (λ node. not (is_member before node)) now (λ x a. ap not (ap (λ xs. is_member xs x) (sym e) ∙ among-member now x a))
 
 -- ---- the log
 

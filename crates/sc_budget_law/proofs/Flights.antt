@@ -12,12 +12,10 @@ use Rattle.sc_paxos_words.specs.Leaders.{flight_at, without_flight}
 use Rattle.sc_paxos_words.specs.Votes.{kept_voters, add_voter, voters_after, with_voters}
 use Rattle.sc_paxos_words.proofs.ListLemmas.{Among-filter}
 use Rattle.sc_node_table.specs.Slots.{numbers_from}
+use Rattle.sc_paxos_law.proofs.Among.{member-among, among-member}
 use Rattle.sc_budget_law.proofs.Counts.{one_yes, one_no, count-cons}
 use Rattle.sc_budget_law.proofs.Leading.{flights_at}
-use Rattle.sc_budget_law.proofs.Sends.{member_among, member_or_among}
-
-some_is : {A : Type 0} {x y : A} → Some x ≡ Some y → x ≡ y
-some_is e = cc
+use Rattle.sc_budget_law.proofs.Lists.{some_is}
 
 -- ---- the flights
 
@@ -116,14 +114,14 @@ among_right (y ∷ xs) ys x a = inr (among_right xs ys x a)
 -- a set with one more has that one, and those that it had
 pub with_own : (members : List ℕ) (node : ℕ) → is_member (with_member members node) node ≡ true
 with_own members node =
-    member_or_among node (with_member members node) (among_right (filter (λ member. ltb member node) members) (node ∷ filter (λ member. ltb node member) members) node (inl refl))
+    among-member (with_member members node) node (among_right (filter (λ member. ltb member node) members) (node ∷ filter (λ member. ltb node member) members) node (inl refl))
 
 pub with_kept : (members : List ℕ) (node who : ℕ) → is_member members who ≡ true → is_member (with_member members node) who ≡ true
 with_kept members node who m =
-    let a = member_among who members m in
+    let a = member-among members who m in
     let low : List ℕ = filter (λ member. ltb member node) members in
     let high : List ℕ = filter (λ member. ltb node member) members in
-    member_or_among who (with_member members node) (elim (cases_order who node) [
+    among-member (with_member members node) who (elim (cases_order who node) [
       | inl same ↦ among_right low (node ∷ high) who (inl (sym same))
       | inr o ↦ elim o [
         | inl lt ↦ among_left low (node ∷ high) who (Among-filter (λ member. ltb member node) members who a (lt-ltb who node lt))
@@ -190,13 +188,13 @@ vote_kept members node voters is m are undecided =
     with_new : (l : List ℕ) → AreMembers members (Some l) → is_member l node ≡ false → HasVoted members node (Some l) (Some (with_member l node))
     with_new l are out =
         let longer = with_one l node out in
-        let more = one_more_passes (is_member l) (is_member (with_member l node)) node members (λ who k. with_kept l node who k) out (with_own l node) (member_among node members m) in
+        let more = one_more_passes (is_member l) (is_member (with_member l node)) node members (λ who k. with_kept l node who k) out (with_own l node) (member-among members node m) in
         record { members_still = omega (arith, longer, more, are); kept = λ who k. with_kept l node who k; own = with_own l node }
 
     added : (voters : Option (List ℕ)) → AreMembers members voters → is_majority members (kept_voters voters) ≡ false → HasVoted members node voters (add_voter node voters)
     added None are undecided =
         let zero_ = none members in
-        let more = one_more_passes (is_member []) (is_member (node ∷ [])) node members (λ who k. cc) refl (or_left (eqb node node) false (eq-eqb node node refl)) (member_among node members m) in
+        let more = one_more_passes (is_member []) (is_member (node ∷ [])) node members (λ who k. cc) refl (or_left (eqb node node) false (eq-eqb node node refl)) (member-among members node m) in
         record { members_still = omega (arith, more); kept = λ who k. cc; own = or_left (eqb node node) false (eq-eqb node node refl) }
     added (Some l) are undecided =
         cond_both (is_member l node || eqb (length l) 9) (Some l) (Some (with_member l node)) (HasVoted members node (Some l))

@@ -15,8 +15,10 @@ use Rattle.sc_paxos_words.proofs.ListLemmas.{Each-among}
 use Rattle.sc_lookup.specs.declared.ways.Way.{Way}
 use Rattle.sc_lookup.specs.Ways.{far, target_of}
 use Rattle.sc_lookup.specs.Known.{KnownGroups, way_to, nearer, better, chosen, target_in, changed, starting, group_learnt, told_not_mine}
+use Rattle.sc_paxos_law.proofs.Among.{from_map}
 use Rattle.sc_budget_law.specs.Frames.{Frame, AreNamedApart}
 use Rattle.sc_budget_law.specs.PlainClient.{way_of}
+use Rattle.sc_budget_law.proofs.Lists.{map_among}
 
 -- ---- the nearest
 
@@ -89,16 +91,6 @@ parts_of [] x e = absurd e
 parts_of {X} (y ∷ xs) x (inl same) = ([], xs, ap (λ (z : X). z ∷ xs) same)
 parts_of {X} (y ∷ xs) x (inr e) = (let r = parts_of xs x e in (y ∷ r.0, r.1, ap (λ (l : List X). y ∷ l) r.2))
 
-pub among_map : {X Y : Type 0} (f : X → Y) (xs : List X) (y : Y) → Among y (map f xs) → (x : X) × Among x xs × (f x ≡ y)
-among_map f [] y a = absurd a
-among_map f (x ∷ xs) y (inl same) = (x, inl refl, same)
-among_map f (x ∷ xs) y (inr a) = (let r = among_map f xs y a in (r.0, inr r.1, r.2))
-
-pub map_among : {X Y : Type 0} (f : X → Y) (xs : List X) (x : X) → Among x xs → Among (f x) (map f xs)
-map_among f [] x a = absurd a
-map_among f (y ∷ xs) x (inl same) = inl (ap f same)
-map_among f (y ∷ xs) x (inr a) = inr (map_among f xs x a)
-
 pub among_first : {X : Type 0} (xs ys : List X) (x : X) → Among x xs → Among x (xs ++ ys)
 among_first [] ys x a = absurd a
 among_first (y ∷ xs) ys x (inl same) = inl same
@@ -164,7 +156,7 @@ module _ (frames : List Frame) (round : IsRound frames) (reached : ℕ) (low : r
   pub chosen_frame : (p : ℕ) (group : Draw) → chosen p (map way_of front) ≡ Some group → IsChosenFrame p group
   chosen_frame p group e =
       let c = chosen_is p (map way_of front) group e in
-      let f = among_map way_of front c.entry c.stands in
+      let f = from_map way_of front c.entry c.stands in
       record {
         frame = f.0;
         is_frame = f.1;

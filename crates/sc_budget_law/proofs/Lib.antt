@@ -1,3 +1,4 @@
+mod Lists
 mod Made
 pub mod BetweenWhole
 pub mod BetweenClients

@@ -53,12 +53,13 @@ use Rattle.sc_budget_law.specs.PlainClient.{IsBegun}
 use Rattle.sc_budget_law.specs.PlainMail.{IsPlainBody, IsPlainMail}
 use Rattle.sc_budget_law.proofs.AtBirth.{birth_within, few_clients, journal_at_birth}
 use Rattle.sc_budget_law.proofs.BetweenAll.{owing_of, IsPlainJournal}
-use Rattle.sc_budget_law.proofs.BetweenStage.{frames_of, IsStage, stage, to_mapped}
+use Rattle.sc_budget_law.proofs.BetweenStage.{frames_of, IsStage, stage}
 use Rattle.sc_budget_law.proofs.BetweenSteps.{node_born}
 use Rattle.sc_budget_law.proofs.BetweenWhole.{plain_journal}
 use Rattle.sc_budget_law.proofs.Bytes.{mail_light, begun_short, bytes_low}
 use Rattle.sc_budget_law.proofs.Ends.{lines_plain, far_from_last, some_owed}
 use Rattle.sc_budget_law.proofs.Round.{round}
+use Rattle.sc_budget_law.proofs.Lists.{map_among}
 
 -- ---- mail is for actors
 
@@ -79,7 +80,7 @@ module _ (words : ℕ → ℕ → ℕ × ℕ) (scenario : Scenario) (stage : IsS
       born_among (births as_nodes scenario) (client_seat (route_of stage.first) asks)
       (subst (Among (client_seat (route_of stage.first) asks)) (sym stage.seats)
       (seat_right (map (node_seat as_nodes scenario.groups scenario.policy) (numbers_from 1 scenario.nodes)) (map (client_seat (route_of stage.first)) scenario.clients) (client_seat (route_of stage.first) asks)
-      (to_mapped (client_seat (route_of stage.first)) scenario.clients asks a)))
+      (map_among (client_seat (route_of stage.first)) scenario.clients asks a)))
     where
       seat_right : (xs ys : List (Seat Player)) (x : Seat Player) → Among x ys → Among x (xs ++ ys)
       seat_right [] ys x a = a

@@ -27,13 +27,14 @@ use Rattle.sc_node_table.specs.Mails.{sent_all, answered}
 use Rattle.sc_node_table.specs.Pump.{Found, is_act, serves_calls, waits, refused_by, turned_down, next_call, from_calls, from_acts, from_queues, found_by, found_for, offered, pumped_from, pumped}
 use Rattle.sc_node_table.specs.Replica.{ReplicaState, Place, name_of, next, first_set, settled, may_offer, taken_at, under_way, open_slots, is_idle, last_slot}
 use Rattle.sc_node_table.specs.Slots.{numbers_from, slots_ahead}
+use Rattle.sc_paxos_law.proofs.Among.{among-member}
 use Rattle.sc_budget_law.specs.Frames.{Frame, IsFrame}
 use Rattle.sc_budget_law.specs.Owed.{mail_owes, replica_owes}
 use Rattle.sc_budget_law.specs.PlainMail.{Requests, IsPlainCommand, IsPlainCall}
 use Rattle.sc_budget_law.specs.PlainNode.{takers, IsPlainFlight, IsPlainLeader, IsPlainReplica}
 use Rattle.sc_budget_law.proofs.Counts.{one_if, one_yes, one_no, count-push}
 use Rattle.sc_budget_law.proofs.Leading.{in_range, range_yes, range_behind, range_more, takes, takes_not, no_acts, IsHeld, IsToldOf, IsSaid, IsNew, later_row, Leads}
-use Rattle.sc_budget_law.proofs.Sends.{mail_of, all_each, all_owed, all_learns, all_kept, all_reached, among_push, last_among, member_or_among}
+use Rattle.sc_budget_law.proofs.Sends.{mail_of, all_each, all_owed, all_learns, all_kept, all_reached, among_push, last_among}
 
 -- ---- what is found in the queue
 
@@ -191,7 +192,7 @@ module _ (begun : Requests) (frame : Frame) (is : IsFrame frame) (first free : �
         (Each-weaker (IsSaid begun frame first free (next r) (next r + taken)) (IsSaid begun frame first free (next r) (next r + (taken + 1)))
         (λ mail s. record { plain = s.plain; in_row = later_row first free (next r) (next r + taken) (next r) (next r + (taken + 1)) mail.body (omega arith) (omega arith) s.in_row }) mails k.said)
         (λ node a. record {
-          plain = (name_is, k.leader.ballot_is, record { from_is = k.plain.me_is; to_in = member_or_among node (frame.at slot) a; is_call = calls_plain.0 });
+          plain = (name_is, k.leader.ballot_is, record { from_is = k.plain.me_is; to_in = among-member (frame.at slot) node a; is_call = calls_plain.0 });
           in_row = (omega (arith, at, more), omega (arith, at));
         })
 

@@ -40,6 +40,7 @@ use Rattle.sc_orderly_law.proofs.Ordering.{orderly, by_rows}
 use Rattle.sc_orderly_law.proofs.Passing.{IsManyLine, was_quiet}
 use Rattle.sc_orderly_law.proofs.Resting.{tidy, quiet-empty, is_born-from}
 use Rattle.sc_orderly_law.proofs.Seats.{seat_found}
+use Rattle.sc_paxos_law.proofs.Among.{Among-right}
 use Rattle.sc_budget_law.specs.Between.{Asks as AsksFor, Votes, mark, IsVoting}
 use Rattle.sc_budget_law.specs.BetweenJournal.{votes_in, replica_at, marks_at}
 use Rattle.sc_budget_law.specs.Budget.{budget_of, delivers}
@@ -49,8 +50,7 @@ use Rattle.sc_budget_law.specs.PlainClient.{IsBegun, IsWaiting}
 use Rattle.sc_budget_law.specs.PlainNode.{IsLeading, IsSettled}
 use Rattle.sc_budget_law.proofs.AtBirth.{journal_at_birth}
 use Rattle.sc_budget_law.proofs.BetweenAll.{owing_of, IsPlainJournal}
-use Rattle.sc_budget_law.proofs.BetweenLists.{among-right}
-use Rattle.sc_budget_law.proofs.BetweenStage.{frames_of, IsStage, to_mapped, stage}
+use Rattle.sc_budget_law.proofs.BetweenStage.{frames_of, IsStage, stage}
 use Rattle.sc_budget_law.proofs.BetweenSteps.{node_number, node_born}
 use Rattle.sc_budget_law.proofs.BetweenViews.{Journal, replica_is}
 use Rattle.sc_budget_law.proofs.BetweenWhole.{plain_journal}
@@ -63,6 +63,7 @@ use Rattle.sc_budget_law.proofs.QuietLeader.{leader_idle}
 use Rattle.sc_budget_law.proofs.QuietTurns.{AreSought, sought_row}
 use Rattle.sc_budget_law.proofs.Round.{round}
 use Rattle.sc_budget_law.proofs.Sends.{mail_of}
+use Rattle.sc_budget_law.proofs.Lists.{map_among}
 
 abbrev as_player : ClientState → Player
 as_player client = Client client
@@ -129,7 +130,7 @@ module _ (words : ℕ → ℕ → ℕ × ℕ) (scenario : Scenario) (stage_ : Is
     seat_born seat a = is_born-from sys seat.who seat (seat_found (births as_nodes scenario) seat stage_.seats_apart a)
 
     pub client_born : (asks : Asks) → Among asks scenario.clients → Among (client_seat (route_of stage_.first) asks) (births as_nodes scenario)
-    client_born asks a = subst (Among (cseat asks)) (sym stage_.seats) (among-right (cseat asks) (map (node_seat as_nodes scenario.groups scenario.policy) (numbers_from 1 scenario.nodes)) (map cseat scenario.clients) (to_mapped cseat scenario.clients asks a))
+    client_born asks a = subst (Among (cseat asks)) (sym stage_.seats) (Among-right (cseat asks) (map (node_seat as_nodes scenario.groups scenario.policy) (numbers_from 1 scenario.nodes)) (map cseat scenario.clients) (map_among cseat scenario.clients asks a))
 
     module _ (rows : Journal) (lawful : IsLawful (system_of as_nodes words scenario) lines rows) (quiet : is_quiet (system_of as_nodes words scenario) rows ≡ true) where
       nothing_left : (seat : Seat Player) → Among seat (births as_nodes scenario) → rest (system_of as_nodes words scenario) rows seat.who ≡ []
@@ -255,7 +256,7 @@ all_answered all_bounded end_quiet words scenario journal valid at lawful whole 
     ap (map line_of) served.lines_are ∙ (map-append line_of served.before (Go asks.client ∷ served.after) ∙ sym (append_assoc (map line_of served.before) (line.Go (client_actor asks.client) ∷ []) (map line_of served.after))) in
     let rest_is : map line_of served.after ≡ map line_of d.0 ++ line_of d.1 ∷ map line_of d.2 = ap (map line_of) d.3 ∙ map-append line_of d.0 (d.1 ∷ d.2) in
     let was = was_quiet sys (client_actor asks.client) seat born (schedule scenario) (λ rows l. end_quiet words scenario rows valid at l) start (map line_of served.after) lines
-    (among-right (line.Go (client_actor asks.client)) (map line_of served.before) (line.Go (client_actor asks.client) ∷ []) (inl refl)) (map line_of d.0) (line_of d.1) (map line_of d.2) rest_is (many_line d.1 d.4) journal lawful whole in
+    (Among-right (line.Go (client_actor asks.client)) (map line_of served.before) (line.Go (client_actor asks.client) ∷ []) (inl refl)) (map line_of d.0) (line_of d.1) (map line_of d.2) rest_is (many_line d.1 d.4) journal lawful whole in
     let begins : IsLawful sys (schedule scenario) was.before = lawful-prefix sys (schedule scenario) was.before was.after (subst (λ l. IsLawful sys (schedule scenario) l) was.rows_are lawful) in
     let then_ = all_replies words scenario s few (round scenario bounded) (schedule scenario) plain birth was.before begins was.quiet asks a was.gone in
     let more = replies_more seat was.before was.after in

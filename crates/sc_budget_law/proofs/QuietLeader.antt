@@ -11,13 +11,13 @@ use Rattle.sc_paxos_words.specs.declared.flights.Flight.{Flight}
 use Rattle.sc_paxos_words.specs.Votes.{kept_voters}
 use Rattle.sc_paxos_words.proofs.ListLemmas.{Each-among, find_found}
 use Rattle.sc_node_table.specs.Replica.{ReplicaState, next}
+use Rattle.sc_paxos_law.proofs.Among.{among-member}
 use Rattle.sc_budget_law.specs.BetweenJournal.{voters_in}
 use Rattle.sc_budget_law.specs.Frames.{Frame, IsFrame}
 use Rattle.sc_budget_law.specs.PlainMail.{Requests}
 use Rattle.sc_budget_law.specs.PlainNode.{takers, IsPlainFlight, IsLeading}
 use Rattle.sc_budget_law.proofs.Counts.{one_yes, one_no, count-cons, find_some}
 use Rattle.sc_budget_law.proofs.Leading.{in_range, range_yes, range_before, range_behind, IsHeld}
-use Rattle.sc_budget_law.proofs.Sends.{member_or_among}
 
 count_among : {X : Type 0} (p : X → Bool) (xs : List X) (x : X) → Among x xs → p x ≡ true → 1 ≤ count_by p xs
 count_among p [] x a t = absurd a
@@ -48,7 +48,7 @@ module _ (begun : Requests) (frame : Frame) (is : IsFrame frame) (r : ReplicaSta
       let voters = kept_voters found.0.voters in
       let kept : voters_in r.leader.flights (next r) ≡ Some voters = ap (λ (o : Option (Flight Command)). option_map (λ (flight : Flight Command). kept_voters flight.voters) o) found.1 in
       let members = frame.at (next r) in
-      let all = all_voted members voters (λ node a. votes (next r) voters kept node (member_or_among node members a)) in
+      let all = all_voted members voters (λ node a. votes (next r) voters kept node (among-member members node a)) in
       let least = (is.rosters (next r)).some in
       let yes_ : is_majority members voters ≡ true = lt-ltb (length members) (2 * votes_of members voters) (omega (arith, all, least)) in
       both_ways (is_majority members voters) (ap (λ slot. is_majority (frame.at slot) voters) (sym at) ∙ plain.undecided) yes_

@@ -23,12 +23,12 @@ use Rattle.sc_scenario.specs.declared.scenarios.Scenario.{Scenario}
 use Rattle.sc_sound.specs.Players.{player_table, client_seat, route_of, system_of, as_nodes}
 use Rattle.sc_sound.specs.declared.roles.Role.TheVariants.{Client}
 use Rattle.sc_orderly_law.specs.Orderly.{rest, mail_for, taken}
+use Rattle.sc_paxos_law.proofs.Among.{Among-left, Among-right}
 use Rattle.sc_budget_law.specs.BetweenJournal.{replica_at}
 use Rattle.sc_budget_law.specs.Frames.{Frame, IsFrame}
 use Rattle.sc_budget_law.specs.Owed.{answer_owes, waiting_ones}
 use Rattle.sc_budget_law.specs.PlainClient.{IsBegun, IsWaiting, begun_of}
 use Rattle.sc_budget_law.specs.PlainMail.{Requests, IsPlainAnswer, IsPlainBody}
-use Rattle.sc_budget_law.proofs.BetweenLists.{among-left, among-right}
 use Rattle.sc_budget_law.proofs.BetweenStage.{frames_of, IsStage}
 use Rattle.sc_budget_law.proofs.BetweenViews.{Journal}
 use Rattle.sc_budget_law.proofs.Clients.{asking}
@@ -103,13 +103,13 @@ module _ (words : ℕ → ℕ → ℕ × ℕ) (scenario : Scenario) where
       (after : (who : ℕ) → rest (system_of as_nodes words scenario) (rows ++ row ∷ []) who ≡ drop (taken who row) (rest (system_of as_nodes words scenario) rows who) ++ mail_for (system_of as_nodes words scenario) who row.sent) where
     -- what is sent to one is left of its mail
     pub sent_left : (who : ℕ) (mail : Mail) → mail.to ≡ who → Among mail row.sent → Among mail (left (rows ++ row ∷ []) who)
-    sent_left who mail to a = subst (Among mail) (sym (after who)) (among-right mail (drop (taken who row) (left rows who)) (mail_for (system_of as_nodes words scenario) who row.sent) (filter_among who row.sent mail to a))
+    sent_left who mail to a = subst (Among mail) (sym (after who)) (Among-right mail (drop (taken who row) (left rows who)) (mail_for (system_of as_nodes words scenario) who row.sent) (filter_among who row.sent mail to a))
 
     -- what is left of the mail of one who does not act stays
     pub others_left : (who : ℕ) (mail : Mail) → (who ≡ row.who → ⊥) → Among mail (left rows who) → Among mail (left (rows ++ row ∷ []) who)
     others_left who mail ne a =
         let none : drop (taken who row) (left rows who) ≡ left rows who = ap (λ b. drop (cond (b && is_delivery row.event) 1 0) (left rows who)) (ne_eqb row.who who (λ e. ne (sym e))) ∙ at_zero (left rows who) in
-        subst (Among mail) (sym (after who)) (among-left mail (drop (taken who row) (left rows who)) (mail_for (system_of as_nodes words scenario) who row.sent) (subst (Among mail) (sym none) a))
+        subst (Among mail) (sym (after who)) (Among-left mail (drop (taken who row) (left rows who)) (mail_for (system_of as_nodes words scenario) who row.sent) (subst (Among mail) (sym none) a))
       where
         at_zero : (xs : List Mail) → drop 0 xs ≡ xs
         at_zero [] = refl
@@ -122,7 +122,7 @@ module _ (words : ℕ → ℕ → ℕ × ℕ) (scenario : Scenario) where
         ap (λ b. drop (cond (b && is_delivery row.event) 1 0) (left rows row.who)) (eq-eqb row.who row.who refl) ∙ (ap (λ b. drop (cond b 1 0) (left rows row.who)) delivers ∙ ap (drop 1) is) in
         elim (subst (Among mail) is a) [
           | inl same ↦ inl same
-          | inr b ↦ inr (subst (Among mail) (sym (after row.who)) (among-left mail (drop (taken row.who row) (left rows row.who)) (mail_for (system_of as_nodes words scenario) row.who row.sent) (subst (Among mail) (sym one) b)))
+          | inr b ↦ inr (subst (Among mail) (sym (after row.who)) (Among-left mail (drop (taken row.who row) (left rows row.who)) (mail_for (system_of as_nodes words scenario) row.who row.sent) (subst (Among mail) (sym one) b)))
         ]
 
     -- what is left of the mail of one who acts and takes nothing stays
@@ -130,7 +130,7 @@ module _ (words : ℕ → ℕ → ℕ × ℕ) (scenario : Scenario) where
     own_left none mail a =
         let all : drop (taken row.who row) (left rows row.who) ≡ left rows row.who =
         ap (λ b. drop (cond (b && is_delivery row.event) 1 0) (left rows row.who)) (eq-eqb row.who row.who refl) ∙ (ap (λ b. drop (cond b 1 0) (left rows row.who)) none ∙ at_zero (left rows row.who)) in
-        subst (Among mail) (sym (after row.who)) (among-left mail (drop (taken row.who row) (left rows row.who)) (mail_for (system_of as_nodes words scenario) row.who row.sent) (subst (Among mail) (sym all) a))
+        subst (Among mail) (sym (after row.who)) (Among-left mail (drop (taken row.who row) (left rows row.who)) (mail_for (system_of as_nodes words scenario) row.who row.sent) (subst (Among mail) (sym all) a))
       where
         at_zero : (xs : List Mail) → drop 0 xs ≡ xs
         at_zero [] = refl

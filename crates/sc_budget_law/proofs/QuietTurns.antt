@@ -32,13 +32,13 @@ use Rattle.sc_sound.specs.declared.roles.Role.TheVariants.{Node, Client}
 use Rattle.sc_orderly_law.specs.Orderly.{IsTidy, IsOrderly, IsInOrder, rest, mail_for, taken}
 use Rattle.sc_orderly_law.specs.Owing.{owed_at_birth}
 use Rattle.sc_orderly_law.proofs.Resting.{TakesFirst, rest-row}
+use Rattle.sc_paxos_law.proofs.Among.{Among-right}
 use Rattle.sc_budget_law.specs.BetweenJournal.{replica_at}
 use Rattle.sc_budget_law.specs.Frames.{Frame}
 use Rattle.sc_budget_law.specs.PlainClient.{IsBegun, IsWaiting}
 use Rattle.sc_budget_law.specs.PlainMail.{IsPlainMail}
 use Rattle.sc_budget_law.proofs.BetweenAll.{owing_of, IsNodeAt, IsClientAt, IsPlainJournal}
 use Rattle.sc_budget_law.proofs.BetweenClients as client_rows
-use Rattle.sc_budget_law.proofs.BetweenLists.{among-right}
 use Rattle.sc_budget_law.proofs.BetweenStage.{frames_of, IsStage}
 use Rattle.sc_budget_law.proofs.BetweenSteps.{node_number, client_number, value_others}
 use Rattle.sc_budget_law.proofs.BetweenTurns as node_rows
@@ -49,9 +49,7 @@ use Rattle.sc_budget_law.proofs.Knowing.{IsRound}
 use Rattle.sc_budget_law.proofs.QuietSought.{IsFinal, IsSought, sent_left, others_left, own_left, behind_left}
 use Rattle.sc_budget_law.proofs.QuietSteps.{sought_stays, sought_node}
 use Rattle.sc_budget_law.proofs.Sends.{mail_of}
-
-some_is : {A : Type 0} {x y : A} → Some x ≡ Some y → x ≡ y
-some_is e = cc
+use Rattle.sc_budget_law.proofs.Lists.{some_is}
 
 abbrev as_player : ClientState → Player
 as_player client = Client client
@@ -209,7 +207,7 @@ module _ (words : ℕ → ℕ → ℕ × ℕ) (scenario : Scenario) (stage : IsS
             let r = row_of player_table (cseat mine) rows event in
             let request : Mail = asking step.0.me d.target d.group d.seq d.op in
             let there : Among request r.sent = subst (Among request) (sym (sent_is ∙ d.sends)) (inl refl) in
-            let all : Among request (mails later) = subst (Among request) (sym (mails-snoc rows r)) (among-right request (mails rows) r.sent there) in
+            let all : Among request (mails later) = subst (Among request) (sym (mails-snoc rows r)) (Among-right request (mails rows) r.sent there) in
             let m = Each-among (IsPlainMail (IsBegun scenario later) (frames_of scenario)) (mails later) request then_.sent all in
             let seq : d.seq ≡ w.seq = some_is (sym d.waits ∙ w.waits) in
             let pair : (d.group, d.target) ≡ (w.group, w.target) = some_is (sym d.asked ∙ w.asked) in

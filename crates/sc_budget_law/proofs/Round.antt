@@ -14,9 +14,7 @@ use Rattle.sc_scenario.specs.declared.scenarios.Scenario.{Scenario}
 use Rattle.sc_budget_law.specs.Frames.{Frame, frame_of}
 use Rattle.sc_budget_law.proofs.BetweenStage.{frames_of, stage, frame_is}
 use Rattle.sc_budget_law.proofs.Knowing.{IsBefore, IsRound}
-
-some_is : {A : Type 0} {x y : A} → Some x ≡ Some y → x ≡ y
-some_is e = cc
+use Rattle.sc_budget_law.proofs.Lists.{some_is}
 
 -- ---- places of a list
 

@@ -19,6 +19,7 @@ use Rattle.sc_node_table.specs.Mails.{answer_to, sent_others}
 use Rattle.sc_node_table.specs.Replica.{ReplicaState, Place, name_of, next, members, forgotten}
 use Rattle.sc_node_table.specs.Slots.{at_slot, without_slot, numbers_from, slots_ahead}
 use Rattle.sc_law_lemmas.proofs.Places.{cleared}
+use Rattle.sc_paxos_law.proofs.Among.{among-member}
 use Rattle.sc_budget_law.specs.Frames.{Frame, IsFrame}
 use Rattle.sc_budget_law.specs.Owed.{mail_owes, replica_owes}
 use Rattle.sc_budget_law.specs.PlainMail.{Requests, IsPlainCommand, IsPlainCall}
@@ -26,7 +27,7 @@ use Rattle.sc_budget_law.specs.PlainNode.{takers, IsPlainFlight, IsPlainLeader, 
 use Rattle.sc_budget_law.proofs.Counts.{one_if, one_yes, one_no, entries_at, out_none, out_length, out_here, out_other, out_each, out_among, at_found, at_only}
 use Rattle.sc_budget_law.proofs.Entry.{entered_next, entered_plain, told_after, counted_call}
 use Rattle.sc_budget_law.proofs.Leading.{in_range, range_yes, range_less, flights_at, IsHeld, IsToldOf, IsSaid, later_row, Leads}
-use Rattle.sc_budget_law.proofs.Sends.{learns_to, mail_of, owed_push, learns_push, last_among, others_each, others_kept, others_owed, learns_one, member_counts, member_or_among, numbers_push, roster_rises, among_push}
+use Rattle.sc_budget_law.proofs.Sends.{learns_to, mail_of, owed_push, learns_push, last_among, others_each, others_kept, others_owed, learns_one, member_counts, numbers_push, roster_rises, among_push}
 use Rattle.sc_budget_law.proofs.Served.{IsServed, call_plain}
 
 module _ (begun : Requests) (frame : Frame) (is : IsFrame frame) (first free : ℕ) (held : List (Flight Command)) (bound : ℕ) (wanted : ℕ → ℕ → Type 0) where
@@ -211,7 +212,7 @@ module _ (begun : Requests) (frame : Frame) (is : IsFrame frame) (first free : �
         (λ mail s. record { plain = s.plain; in_row = later_row first free (next r) (next r + (taken + 1)) (next after) (next after + taken) mail.body (omega (arith, up)) (omega (arith, up)) s.in_row }) mails k.said)
         (record { plain = (refl, record { client = client; op = op; from_is = refl; to_is = refl; is_begun = is_call.is_begun; says = serves.says }); in_row = tt }))
         (λ node a ne. record {
-          plain = (refl, record { from_is = refl; to_in = member_or_among node frame.core.members a; other = ne; is_call = is_call });
+          plain = (refl, record { from_is = refl; to_in = among-member frame.core.members node a; other = ne; is_call = is_call });
           in_row = (low, omega (arith, up));
         })
 

@@ -1,7 +1,7 @@
 -- What the same mail to several nodes adds: what holds of each mail, what is owed, and which slots are learnt.
 use Rattle.std.proofs.Common.{◌≡◌, ℕ, zero, suc, ◌+◌, ◌*◌, ◌<◌, ◌≤◌, ◌||◌, eqb, true, false, cond, List, [], ◌∷◌, ◌++◌, length, count_by, sum_by, inl, inr, refl, sym, ◌∙◌, ap, subst, arith, append-nil}
 use Rattle.std.specs.List.{flat_map, AllPairs}
-use Rattle.std.proofs.lemmas.Bool.{cond_both, cond-true, cond-false, eqb-true, eqb-false, eq-eqb, ne_eqb, or_cases, or_parts, or_right, cases_eq}
+use Rattle.std.proofs.lemmas.Bool.{cond_both, cond-true, cond-false, eqb-true, eqb-false, eq-eqb, ne_eqb, or_cases, or_parts, cases_eq}
 use Rattle.std.proofs.lemmas.List.Concat.{flat_map-append}
 use Rattle.std.proofs.lemmas.List.Kept.{AllPairs-from_increasing}
 use Rattle.std.proofs.lemmas.List.Sums.{sum_by_push}
@@ -150,15 +150,6 @@ member_counts x [] e = cc
 member_counts x (y ∷ xs) e =
     let c = count-cons (λ z. eqb z x) y xs in
     elim (or_cases (eqb y x) (is_member xs x) e) [ inl t ↦ (let one = one_yes (eqb y x) t in omega (arith, c, one)) | inr m ↦ (let more = member_counts x xs m in omega (arith, c, more)) ]
-
-pub member_among : (x : ℕ) (xs : List ℕ) → is_member xs x ≡ true → Among x xs
-member_among x [] e = cc
-member_among x (y ∷ xs) e = elim (or_cases (eqb y x) (is_member xs x) e) [ inl t ↦ inl (eqb-true y x t) | inr m ↦ inr (member_among x xs m) ]
-
-pub member_or_among : (x : ℕ) (xs : List ℕ) → Among x xs → is_member xs x ≡ true
-member_or_among x [] a = absurd a
-member_or_among x (y ∷ xs) (inl same) = ap (λ b. b || is_member xs x) (eq-eqb y x same)
-member_or_among x (y ∷ xs) (inr a) = or_right (eqb y x) (is_member xs x) (member_or_among x xs a)
 
 none_below : (x : ℕ) (xs : List ℕ) → Each (λ y. x < y) xs → is_member xs x ≡ false
 none_below x [] e = refl

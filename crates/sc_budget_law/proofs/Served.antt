@@ -26,6 +26,7 @@ use Rattle.sc_budget_law.specs.Frames.{Frame, IsFrame}
 use Rattle.sc_budget_law.specs.Owed.{answer_owes}
 use Rattle.sc_budget_law.specs.PlainMail.{Requests, written_by, IsWrittenValue, IsPlainCall, IsPlainAnswer}
 use Rattle.sc_budget_law.specs.PlainNode.{IsPlainGroup}
+use Rattle.sc_budget_law.proofs.Lists.{some_is}
 
 -- what a key has after an operation is what it had, or what the operation writes
 abbrev Had : Op → Contents → Contents → Type 0
@@ -60,9 +61,6 @@ pub record IsServed (begun : Requests) (frame : Frame) (client seq : ℕ) (op : 
   pub says : IsPlainAnswer begun frame client seq op answer
   pub owes : answer_owes answer ≡ 1
 
-some_same : {A : Type 0} {x y : A} → Some x ≡ Some y → x ≡ y
-some_same e = cc
-
 module _ (begun : Requests) (frame : Frame) (is : IsFrame frame) where
   done_plain : (client seq : ℕ) (op : Op) (group : Group) → begun client seq op → IsPlainGroup begun frame group → IsServed begun frame client seq op (done group client seq op)
   done_plain client seq op group b g = record {
@@ -72,11 +70,11 @@ module _ (begun : Requests) (frame : Frame) (is : IsFrame frame) where
           cond_both _ (Some (record { seq = seq; reply = reply_of op group.pairs })) (get group.clients who) (λ o. o ≡ Some note → (p : Op) × begun who note.seq p)
           (λ t k. (let tied : eqb who client ≡ true = sym (unsigned_tied who client) ∙ t in
           let at : client ≡ who = sym (eqb-true who client tied) in
-          let same : seq ≡ note.seq = ap (λ (o : Noted). o.seq) (some_same k) in
+          let same : seq ≡ note.seq = ap (λ (o : Noted). o.seq) (some_is k) in
           (op, subst (λ n. begun who n op) same (subst (λ w. begun w seq op) at b)))) (λ _ k. g.noted who note k) (sym (get-insert nat_cmp_total group.clients client (record { seq = seq; reply = reply_of op group.pairs }) who) ∙ e);
       replied = λ who note e value v.
           cond_both _ (Some (record { seq = seq; reply = reply_of op group.pairs })) (get group.clients who) (λ o. o ≡ Some note → IsWrittenValue begun value)
-          (λ t k. (let same : reply_of op group.pairs ≡ note.reply = ap (λ (o : Noted). o.reply) (some_same k) in
+          (λ t k. (let same : reply_of op group.pairs ≡ note.reply = ap (λ (o : Noted). o.reply) (some_is k) in
           g.stored (key_of op) value (ap (λ (reply : Reply). reply.old) same ∙ v))) (λ _ k. g.replied who note k value v)
           (sym (get-insert nat_cmp_total group.clients client (record { seq = seq; reply = reply_of op group.pairs }) who) ∙ e);
       stored = λ key value e.

@@ -31,9 +31,7 @@ use Rattle.sc_budget_law.proofs.Flights.{others_out, voted_length, voted_count, 
 use Rattle.sc_budget_law.proofs.Leading.{in_range, range_before, range_behind, early_taken, flights_at, IsHeld, Leads}
 use Rattle.sc_budget_law.proofs.Pumping.{call_is}
 use Rattle.sc_budget_law.proofs.Executing.{IsRun, executed_none, executed_run, some_taken}
-
-some_is : {A : Type 0} {x y : A} → Some x ≡ Some y → x ≡ y
-some_is e = cc
+use Rattle.sc_budget_law.proofs.Lists.{some_is}
 
 -- ---- Accepted
 

@@ -1,8 +1,11 @@
 //! Two nodes and a client, driven by hand.
-ghost use Rattle.std.specs.Prelude.{◌≡◌, ◌<◌, ◌≤◌, ◌^◌, [], true, false, length, IfOk, OnOk, MatchResult};
+ghost use Rattle.std.specs.Prelude.{◌≡◌, ◌<◌, ◌≤◌, ◌+◌, ◌^◌, [], true, false, length, fold, slice_get, Some, IfOk, OnOk, MatchResult};
 ghost use Rattle.sc_actor.specs.Mail.{mails};
-ghost use Rattle.sc_base.specs.Limits.{most_requests};
+ghost use Rattle.sc_actor.specs.declared.rows.Event.TheVariants.{Go};
+ghost use Rattle.sc_base.specs.Limits.{client_actor, most_requests};
+ghost use Rattle.sc_by_hand.specs.Deeds.{after_deed, deeds_of, delivery};
 ghost use Rattle.sc_client_table.specs.Client.{born_client};
+ghost use Rattle.sc_mail.specs.declared.bodies.Mail.{Mail};
 ghost use Rattle.sc_node_table.specs.Node.{are_in_order, born_node};
 ghost use Rattle.sc_node_table.specs.Slots.{slots_ahead};
 ghost use Rattle.sc_scenario.specs.Valid.{IsValid};
@@ -14,7 +17,7 @@ use sc_actor::{Event, Input};
 use sc_base::{Dup, Op, OutOfMemory, Sequence};
 use sc_client::ClientCore;
 use sc_cmd::{Base, OrderLine, Route};
-use sc_mail::{DESK, Mail, client_number};
+use sc_mail::{Mail, client_number};
 use sc_node::NodeCore;
 use sc_scenario::Scenario;
 use sc_world::{ReplayFault, World, replay_rows};
@@ -50,6 +53,7 @@ impl Hand {
             hand.second ≡ born_node slots_ahead 2 groups.now false) }
         ensures client { IfOk result (λ hand. hand.client ≡ born_client 1 requests.now known) }
         ensures idle { IfOk result (λ hand. (hand.log.rows ≡ []) × (hand.log.wire ≡ [])) }
+        ensures carried { IfOk result (λ hand. hand.log.wire ≡ mails hand.log.rows) }
     {
         Ok(Hand {
             first: NodeCore::born(alloc, 1, groups, false)?,
@@ -59,32 +63,51 @@ impl Hand {
         })
     }
 
-    // The mail at a place goes to whom it is for. What is for the desk makes no row.
+    // The mail at a place goes to whom it is for. What is for another, as for the desk, makes no row.
     fn serve(&mut self, alloc: Global, place: usize) -> Result<(), OutOfMemory>
         requires place { place < length self.old.log.wire }
-        requires few { length self.old.log.wire < 2 ^ 31 }
+        requires few { place + 1 < 2 ^ 32 }
         requires carried { self.old.log.wire ≡ mails self.old.log.rows }
+        ensures deed { (mail : Mail) → slice_get self.old.log.wire place ≡ Some mail →
+            OnOk result (self.new ≡ fold after_deed self.old (delivery (place + 1) mail)) }
         ensures carried { OnOk result (self.new.log.wire ≡ mails self.new.log.rows) }
     {
-        match self.log.wire.at(place).to {
-            DESK => Ok(()),
-            1 => deliver(alloc, 1, &mut self.first, place, &mut self.log),
-            2 => deliver(alloc, 2, &mut self.second, place, &mut self.log),
-            who => deliver(alloc, who, &mut self.client, place, &mut self.log),
+        let who = self.log.wire.at(place).to;
+        if who == 1 {
+            deliver(alloc, who, &mut self.first, place, &mut self.log)
+        } else if who == 2 {
+            deliver(alloc, who, &mut self.second, place, &mut self.log)
+        } else if who == client_number(1) {
+            deliver(alloc, who, &mut self.client, place, &mut self.log)
+        } else {
+            Ok(())
         }
     }
 
-    /// The client starts, and mail is delivered in the order in which it was sent, at most so
-    /// often.
-    pub fn run(&mut self, alloc: Global, most: u32) -> Result<(), OutOfMemory>
+    // The client starts.
+    fn begin(&mut self, alloc: Global) -> Result<(), OutOfMemory>
         requires carried { self.old.log.wire ≡ mails self.old.log.rows }
+        ensures deed { OnOk result (self.new ≡ after_deed self.old (client_actor 1, Go)) }
         ensures carried { OnOk result (self.new.log.wire ≡ mails self.new.log.rows) }
     {
         let who = client_number(1);
         let client = &mut self.client;
-        act(alloc, who, client, Event::Go, &Input::Go, &mut self.log)?;
+        act(alloc, who, client, Event::Go, &Input::Go, &mut self.log)
+    }
+
+    /// The client starts, and the first `most` mails are delivered in the order in which they are
+    /// sent, each to whom it is for, until none is left. What is for another, as for the desk, is
+    /// not delivered. Each delivery is a step of its actor by its table, and a row. After want of
+    /// memory all may only be dropped.
+    pub fn run(&mut self, alloc: Global, most: u32) -> Result<(), OutOfMemory>
+        requires carried { self.old.log.wire ≡ mails self.old.log.rows }
+        ensures deeds { OnOk result
+            (self.new ≡ fold after_deed self.old (deeds_of most self.new.log.wire)) }
+        ensures carried { OnOk result (self.new.log.wire ≡ mails self.new.log.rows) }
+    {
+        self.begin(alloc)?;
         for place in 0..most as usize {
-            if place >= self.log.wire.len() || self.log.wire.len() >= 1 << 31 {
+            if place >= self.log.wire.len() {
                 break;
             }
             self.serve(alloc, place)?;

@@ -1,6 +1,8 @@
 //! One step of an actor, the row of it, and what is on the wire afterwards.
 ghost use Rattle.std.specs.Prelude.{◌≡◌, ◌<◌, ◌+◌, ◌++◌, ◌^◌, ◌∷◌, [], length, OnOk, OnErr};
 ghost use Rattle.sc_actor.specs.Mail.{mails};
+ghost use Rattle.sc_actor.specs.Replay.{acted, input_of};
+ghost use Rattle.sc_actor.specs.declared.rows.Event.TheVariants.{Deliver};
 
 use sc_actor::{Actor, Event, Input, Journal, Row, journals_grow};
 use sc_base::{Dup, OutOfMemory, Sequence};
@@ -64,8 +66,8 @@ pub fn act<A: Actor>(
     log.rows.push(Row { who, event, sent })
 }
 
-/// The actor with a number gets the mail at a place of the wire. After want of memory the actor and
-/// the log may only be dropped.
+/// The actor with a number gets the mail at a place of the wire, whose number is one more. After
+/// want of memory no row is added, and the actor and the log may only be dropped.
 pub fn deliver<A: Actor>(
     alloc: Global,
     who: u32,
@@ -74,9 +76,17 @@ pub fn deliver<A: Actor>(
     log: &mut Log<A::Mail, A::Order>,
 ) -> Result<(), OutOfMemory>
     requires place { place < length log.old.wire }
-    requires few { length log.old.wire < 2 ^ 31 }
+    requires few { place + 1 < 2 ^ 32 }
     requires carried { log.old.wire ≡ mails log.old.rows }
+    ensures actor { OnOk result (actor.new
+        ≡ (acted A.table actor.old (input_of (mails log.old.rows) (Deliver (place + 1)))).0) }
+    ensures row { OnOk result (log.new.rows ≡ log.old.rows ++ record {
+      who = who;
+      event = Deliver (place + 1);
+      sent = (acted A.table actor.old (input_of (mails log.old.rows) (Deliver (place + 1)))).1;
+    } ∷ []) }
     ensures carried { OnOk result (log.new.wire ≡ mails log.new.rows) }
+    ensures unchanged { OnErr result (log.new.rows ≡ log.old.rows) }
 {
     let mail = log.wire.at(place).dup(alloc)?;
     let event = Event::Deliver(place as u32 + 1);

@@ -17,9 +17,7 @@ use Rattle.sc_actor.specs.declared.schedules.Played.{Played}
 use Rattle.sc_actor.specs.declared.schedules.Played.TheVariants.{Ended, Full, OutOfMemory}
 use Rattle.sc_scenario.specs.Valid.{IsValid}
 use Rattle.sc_scenario.specs.declared.scenarios.Scenario.{Scenario}
-use Rattle.sc_report.specs.Report.{report_lines}
 use Rattle.sc_sound.specs.Players.{schedule, system_of, Lawful, parties, Player, as_nodes}
-use Rattle.sc_world.specs.Summary.{summary_of}
 use Rattle.sc_whole_law.specs.Valid.{ValidJournalsAreSound}
 use Rattle.sc_statuses.specs.Causes.{said_of}
 use Rattle.sc_statuses.specs.declared.said.Said.TheVariants.{Filled}

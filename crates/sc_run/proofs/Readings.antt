@@ -1,5 +1,5 @@
 -- What comes of what an input is, said of the source that it was read from.
-use Rattle.std.proofs.Common.{◌≡◌, ℕ, List, inl, inr}
+use Rattle.std.proofs.Common.{ℕ, List, inl, inr}
 use Rattle.sc_actor.specs.declared.rows.Row.{Row}
 use Rattle.sc_cmd.specs.declared.orders.OrderLine.{OrderLine}
 use Rattle.sc_edges.specs.Uses.{SourceUse}

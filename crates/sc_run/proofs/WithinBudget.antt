@@ -1,8 +1,8 @@
 -- A run of a plain scenario at its budget answers every request.
-use Rattle.std.proofs.Common.{◌≡◌, ℕ, ◌+◌, ◌≤◌, ◌^◌, List, [], ◌∷◌, ◌++◌, false, Option, None, Some, Ok, ◌⊎◌, inl, inr, refl, sym, ◌∙◌, ap, subst, arith}
+use Rattle.std.proofs.Common.{◌≡◌, ℕ, ◌+◌, List, [], ◌∷◌, ◌++◌, Option, None, Some, Ok, inl, inr, sym, ◌∙◌, ap, subst, arith}
 use Rattle.std.specs.Prelude.{IfSome}
 use Rattle.sc_edges.specs.Causes.{Rose}
-use Rattle.sc_edges.specs.Uses.{SourceUse, SinkUse}
+use Rattle.sc_edges.specs.Uses.{SourceUse}
 use Rattle.sc_cmd.specs.declared.orders.OrderLine.{OrderLine}
 use Rattle.sc_mail.specs.declared.bodies.Mail.{Mail}
 use Rattle.sc_actor.specs.declared.rows.Row.{Row}
@@ -13,7 +13,7 @@ use Rattle.sc_scenario.specs.Made.{made_scenario}
 use Rattle.sc_scenario.specs.Valid.{IsValid}
 use Rattle.sc_scenario.specs.declared.scenarios.Scenario.{Scenario}
 use Rattle.sc_sound.specs.Players.{system_of, schedule, as_nodes}
-use Rattle.sc_statuses.specs.Causes.{Prints, said_of, status_of}
+use Rattle.sc_statuses.specs.Causes.{said_of, status_of}
 use Rattle.sc_statuses.specs.declared.said.Said.{Said}
 use Rattle.sc_wants.specs.Faults.{IsBadText}
 use Rattle.sc_budget_law.specs.Budget.{IsAtBudget, AreAnswered}
@@ -21,10 +21,9 @@ use Rattle.sc_budget_law.specs.Laws.{PlainLinesEndQuiet, PlainRequestsAreAnswere
 use Rattle.sc_words.specs.Subcommands.{subcommand_by}
 use Rattle.sc_words.specs.declared.subcommands.Subcommand.{Subcommand}
 use Rattle.sc_words.specs.declared.subcommands.Subcommand.TheVariants as ask
-use Rattle.sc_run.specs.declared.done.Done.{Done}
 use Rattle.sc_run.specs.declared.done.Text.{Text}
-use Rattle.sc_run.specs.Answers.{IsText, IsAskedFor, AnswersAll, AnswersWithinBudget, RunsAnswerWithinBudget}
-use Rattle.sc_run.specs.Run.{Comes, Refuses, SaysFor, Printed, Runs}
+use Rattle.sc_run.specs.Answers.{IsText, IsAskedFor, RunsAnswerWithinBudget}
+use Rattle.sc_run.specs.Run.{Comes, Refuses, SaysFor}
 
 module _ (quiet : PlainLinesEndQuiet) (answered : PlainRequestsAreAnswered) (light : PlainJournalsAreLight) where
   -- what was said, and the journal of the text

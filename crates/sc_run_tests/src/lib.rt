@@ -5,6 +5,8 @@
 #[cfg(test)]
 mod gates;
 #[cfg(test)]
+mod hand_tests;
+#[cfg(test)]
 mod history_tests;
 #[cfg(test)]
 mod hostile_tests;

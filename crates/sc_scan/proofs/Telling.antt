@@ -20,7 +20,7 @@ use Rattle.sc_ideal.specs.History.{contents_after}
 use Rattle.sc_ideal.specs.IdealStore.{Contents, holds_key, part_of}
 use Rattle.sc_paxos_law.proofs.Among.{Among-flat_map, from_flat_map, from_map}
 use Rattle.sc_paxos_words.proofs.ListLemmas.{Each-among, find_found}
-use Rattle.sc_ring_law.proofs.Finds.{Pairwise, all_pairs, pairwise_from}
+use Rattle.sc_ring_law.proofs.Finds.{Pairwise, all_pairs, map_among, pairwise_from}
 use Rattle.sc_machine_table.specs.Group.{Group}
 use Rattle.sc_entries.specs.declared.LogEntry.{LogEntry}
 use Rattle.sc_entries.specs.Effective.{effective, effective_by}
@@ -34,15 +34,10 @@ use Rattle.sc_scan.specs.declared.walking.Part.{Part}
 use Rattle.sc_scan.specs.declared.scans.Shown.{Shown}
 use Rattle.sc_scan.specs.Laws.{ShareNothing, EntriesCountLogs, HasMap, IsOfItsLog, IsWithinCut, ScansTell, ShareArc, WalksShareArcs}
 use Rattle.sc_scan.specs.Order.{Pair, ordered}
-use Rattle.sc_scan.specs.Scan.{entries_in, pairs_in, scan_at, scan_of, shown}
+use Rattle.sc_scan.specs.Scan.{entries_in, pairs_in, scan_of, shown}
 use Rattle.sc_scan.specs.Scan as scan
 use Rattle.sc_scan.specs.Walk.{parts_in}
 use Rattle.sc_scan.proofs.Pairs.{KeysDiffer, entries_differ, entry_found, found_entry, found_in_part, from_order, in_order, order_differs, pairwise_append, part_found}
-
-Among-map : {X Y : Type 0} (f : X → Y) (xs : List X) (x : X) → Among x xs → Among (f x) (map f xs)
-Among-map f [] x a = absurd a
-Among-map f (y ∷ xs) x (inl is) = inl (ap f is)
-Among-map f (y ∷ xs) x (inr there) = inr (Among-map f xs x there)
 
 -- the parts of what is shown of parts
 parts_shown : (world : StoreWorld) (slot : Draw → ℕ) (parts : List Part) → map (λ (one : Shown). one.part) (map (shown world slot) parts) ≡ parts
@@ -115,7 +110,7 @@ module _ (world : StoreWorld) (one : IsOneMap world) (slot : Draw → ℕ) (arc 
   had_all : (key value : List ℕ) → (get (contents_after empty world.history) key ≡ Some value) × IsTrue (holds_key arc key) → Among (key, value) (scan.all_pairs (scan_of world slot arc))
   had_all key value h =
       let k = share.some (pos_of key) h.1 in
-      Among-flat_map (λ (one : Shown). one.pairs) (scan_of world slot arc) (shown world slot k.0) (key, value) (Among-map (shown world slot) (parts_in world.ring arc) k.0 k.1) (has_part k.0 k.1 key value h.0 k.2)
+      Among-flat_map (λ (one : Shown). one.pairs) (scan_of world slot arc) (shown world slot k.0) (key, value) (map_among (shown world slot) (parts_in world.ring arc) k.0 k.1) (has_part k.0 k.1 key value h.0 k.2)
 
   pub has_map : HasMap world arc (scan_of world slot arc)
   has_map = record {

@@ -1,5 +1,6 @@
 -- What a scan tells of the store: its parts share the arc, its pairs are the map's, and each part is what its group's log gives.
-use Rattle.std.specs.Prelude.{◌≡◌, ◌≢◌, ◌↔◌, ℕ, ◌<◌, ◌^◌, IsTrue, List, ◌++◌, map, length, AllPairs, Some}
+use Rattle.std.specs.Prelude.{◌≡◌, ◌↔◌, ℕ, ◌<◌, ◌≤◌, ◌^◌, IsTrue, List, ◌++◌, map, length, drop, AllPairs, Some, None}
+use Rattle.std.specs.List.{flat_map}
 use Rattle.std.specs.FinMap.{empty, entries, get}
 use Rattle.sc_base.specs.Among.{Among}
 use Rattle.sc_base.specs.Arc.{Arc, IsArc, holds}
@@ -21,8 +22,8 @@ use Rattle.sc_sound.specs.Soundness.{IsOneMap}
 use Rattle.sc_journal_law.specs.Findings.{AreItsLogs}
 use Rattle.sc_scan.specs.declared.walking.Part.{Part}
 use Rattle.sc_scan.specs.declared.scans.Shown.{Shown}
-use Rattle.sc_scan.specs.Order.{Pair, ordered}
-use Rattle.sc_scan.specs.Pages.{after_key, last_key}
+use Rattle.sc_scan.specs.Order.{HaveKeysOnce, Pair, ordered}
+use Rattle.sc_scan.specs.Pages.{after_key, next_key, pages_from}
 use Rattle.sc_scan.specs.Scan.{all_pairs, entries_in, scan_at, scan_of}
 use Rattle.sc_scan.specs.Walk.{parts_in}
 
@@ -60,7 +61,7 @@ WalksShareArcs = (ring : List Cut) → Covers ring → (arc : Arc) → IsArc arc
 -- the pairs of a scan are those of the map after the history whose keys the arc holds, each key once
 pub record HasMap (world : StoreWorld) (arc : Arc) (scan : List Shown) : Type 0 where
   pub pairs : (key value : List ℕ) → Among (key, value) (all_pairs scan) ↔ ((get (contents_after empty world.history) key ≡ Some value) × IsTrue (holds_key arc key))
-  pub once : AllPairs (λ pair other. pair.0 ≢ other.0) (all_pairs scan)
+  pub once : HaveKeysOnce (all_pairs scan)
 
 -- ---- each part
 
@@ -93,6 +94,11 @@ EntriesCountLogs = (ahead : Ahead) (bases : List Base) (rows : List (Row Mail Or
 
 -- ---- pages
 
--- behind the last key of any first part of a list whose keys differ comes the rest: so the pages one after another, each behind the key that the one before it gave, are the list
-abbrev pub PagesFollow : Type 0
-PagesFollow = (front rest : List Pair) → AllPairs (λ pair other. pair.0 ≢ other.0) (front ++ rest) → after_key (last_key front) (front ++ rest) ≡ rest
+-- pages of some pairs each, at least one, of a list that has each key once
+pub record PagesFollow : Type 0 where
+  -- where more pairs are left than a page takes, behind its key come all that it leaves, wherever in the list it begins
+  pub next : (most : ℕ) (front rest : List Pair) → HaveKeysOnce (front ++ rest) → 0 < most → most < length rest → after_key (next_key most rest) (front ++ rest) ≡ drop most rest
+  -- a page that takes all that is left is the last
+  pub last : (most : ℕ) (rest : List Pair) → length rest ≤ most → next_key most rest ≡ None
+  -- so the pages from the front on, one after another, are the list
+  pub whole : (most many : ℕ) (all : List Pair) → HaveKeysOnce all → 0 < most → length all ≤ many → flat_map (λ page. page) (pages_from many most all None) ≡ all

@@ -1,5 +1,5 @@
 -- The pairs of a part, in the order of the circle from its start on.
-use Rattle.std.specs.Prelude.{◌≡◌, ℕ, ◌<◌, Bool, not, nat_lt, List, ◌++◌, ◌⊎◌}
+use Rattle.std.specs.Prelude.{◌≡◌, ◌≢◌, ℕ, ◌<◌, Bool, not, nat_lt, List, ◌++◌, ◌⊎◌, AllPairs}
 use Rattle.std.specs.List.{filter}
 use Rattle.std.specs.Ordering.{nat_cmp}
 use Rattle.std.specs.Cmp.Lexicographic.{slice_cmp}
@@ -11,6 +11,10 @@ use Rattle.sc_ideal.specs.IdealStore.{holds_key}
 -- a key and its value, by their bytes
 abbrev pub Pair : Type 0
 Pair = List ℕ × List ℕ
+
+-- no two of some pairs have one key
+abbrev pub HaveKeysOnce : List Pair → Type 0
+HaveKeysOnce = AllPairs (λ pair other. pair.0 ≢ other.0)
 
 -- whether a key's position lies before the start of an arc, counted from 0
 abbrev pub is_low : Arc → Pair → Bool

@@ -1,5 +1,5 @@
 -- Pages of a list of pairs.
-use Rattle.std.specs.Prelude.{ℕ, ◌-◌, nat_lt, nat_eq, List, [], ◌∷◌, length, take, if◌then◌else◌, Option, Some, None, slice_get}
+use Rattle.std.specs.Prelude.{ℕ, zero, suc, ◌-◌, nat_lt, nat_eq, List, [], ◌∷◌, length, take, if◌then◌else◌, Option, Some, None, slice_get}
 use Rattle.std.specs.Option.{option_map}
 use Rattle.std.specs.Cmp.Lexicographic.{pointwise}
 use Rattle.sc_scan.specs.Order.{Pair}
@@ -21,3 +21,13 @@ last_key pairs = option_map (λ pair. pair.0) (slice_get pairs (length pairs - 1
 -- the key behind which the next page begins: the last one given, where more pairs follow
 abbrev pub next_key : ℕ → List Pair → Option (List ℕ)
 next_key most rest = if nat_lt most (length rest) then last_key (take most rest) else None
+
+-- what comes behind a page: what its key gives, or nothing where it gave none
+abbrev pub behind_page : Option (List ℕ) → (Option (List ℕ) → List (List Pair)) → List (List Pair)
+behind_page None goes_on = []
+behind_page (Some key) goes_on = goes_on (Some key)
+
+-- the page behind a key of a list, and then each behind the key that the one before it gave, until one gives none: so many pages at most
+unfoldable pub pages_from : ℕ → ℕ → List Pair → Option (List ℕ) → List (List Pair)
+pages_from zero most all after = []
+pages_from (suc more) most all after = take most (after_key after all) ∷ behind_page (next_key most (after_key after all)) (pages_from more most all)

@@ -23,8 +23,9 @@ pub fn scans_tell()
     walks_share_arcs();
 }
 
-/// The pages of a list whose keys differ, each behind the key that the one before it gave, are the
-/// list.
+/// Of a list whose keys differ, in pages of at least one pair: where a page leaves pairs, they are
+/// what comes behind its key; where it leaves none, it gives no key; so the pages from the front on,
+/// each behind the key that the one before it gave, until one gives none, are the list.
 pub fn pages_follow()
     ensures { PagesFollow }
 {}

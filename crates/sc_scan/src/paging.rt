@@ -43,9 +43,10 @@ fn last_key(alloc: Global, pairs: &[(Key, Value)]) -> Result<Option<Key>, OutOfM
 }
 
 /// The first `most` pairs behind a key of the list, or from the front where none is given, and the
-/// last key given where more pairs follow. The keys of the list differ, so the pages one after
-/// another, each behind the key that the one before it gave, are the list. Behind a key that the
-/// list does not have there is nothing.
+/// last of their keys where more pairs follow. Where the keys of the list differ and `most` is at
+/// least 1, the pages from the front on, each behind the key that the one before it gave, until one
+/// gives none, are the list (`pages_follow`). A page of no pairs gives no key, and behind a key that
+/// the list does not have there is nothing.
 pub fn page(
     alloc: Global,
     all: &[(Key, Value)],

@@ -1,4 +1,4 @@
-use Rattle.std.proofs.Common.{◌≡◌, ◌≤◌, ◌<◌, true, List, IfOk, sym, subst, All}
+use Rattle.std.proofs.Common.{◌≡◌, ◌≤◌, ◌<◌, true, IfOk, sym, subst, All}
 use Rattle.sc_actor.specs.System.{are_apart}
 use Rattle.sc_drive.specs.Working.{HasOpened}
 use Rattle.sc_sound.specs.Players.{most_actor}
