@@ -117,8 +117,8 @@ impl Hand {
 
     /// Audits the rows, however they were made: the world that they leave, where they are a lawful
     /// journal of a scenario, of which each first part is then sound; else which row, from 1, is
-    /// the first that is not lawful. The scenario is one that some text is, and rows and their
-    /// mails are fewer than 2^31 each.
+    /// the first that is not lawful. The scenario is one that some text is, or that is made, and
+    /// rows and their mails are fewer than 2^31 each.
     pub fn audited<'a>(
         &'a self,
         alloc: Global,

@@ -1,5 +1,6 @@
 -- What the steps of one group say of its decided log: one value per slot, a log that only grows, and replicas that have executed a front of it.
-use Rattle.std.proofs.Common.{◌≡◌, ℕ, ◌+◌, List, length, drop, sym, ◌∙◌, ap, subst}
+use Rattle.std.proofs.Common.{◌≡◌, ℕ, ◌+◌, List, ◌++◌, length, drop, sym, ◌∙◌, ap, subst}
+use Rattle.std.proofs.lemmas.List.{take-append-drop}
 use Rattle.sc_cmd.specs.declared.commands.Command.{Command}
 use Rattle.sc_cmd.specs.declared.cores.Base.{Base}
 use Rattle.sc_node_table.specs.Replica.{ReplicaState}
@@ -8,7 +9,7 @@ use Rattle.sc_paxos_law.specs.Lawful.{IsLawfulHistory}
 use Rattle.sc_paxos_law.proofs.Law.{one_value_per_slot}
 use Rattle.sc_paxos_law.proofs.Decided.{log_of-longest}
 use Rattle.sc_sound.specs.Players.{Ahead}
-use Rattle.sc_sound.specs.Soundness.{HasRun}
+use Rattle.sc_sound.specs.Soundness.{Continues, HasRun}
 use Rattle.sc_sound.specs.Accepts.{accepts}
 use Rattle.sc_machine_table.specs.Logs.{state_after}
 use Rattle.sc_sound.specs.Logs.{IsChosenIn, decided_log}
@@ -47,6 +48,12 @@ module _ (ahead : Ahead) (base : Base) (rows : Journal) (lawful : IsLawfulHistor
   -- the decided log is one
   pub is_log : IsLog (rule ahead base) (accepts base.core.id rows) log
   is_log = subst (λ g. IsLog (rule ahead base) g log) accepted_are (log_to_only (rule ahead base) h log steps_log)
+
+  -- each other log is a front of it
+  pub longest : (other : List Command) → IsLog (rule ahead base) (accepts base.core.id rows) other → Continues other log
+  longest other is =
+      let front = front_is ahead base rows lawful other (log_of_steps other is) in
+      (drop (length other) log, sym (take-append-drop (length other) log) ∙ ap (λ xs. xs ++ drop (length other) log) front.1)
 
   -- a replica has executed a front of it
   pub executed_is : (made : Command → Type 0) (n : ℕ) (r : ReplicaState) → IsReplica ahead base made h n r → HasRun ahead base rows r

@@ -168,7 +168,7 @@ module _ (law : AllowedEntriesMakeOneMap) (sources : Sources) (ahead : Ahead) (s
 
   pub sound_rows : IsSound ahead scenario rows more
   sound_rows = record {
-    one_log = λ base a. (let v = beside.values base a in record { one_value = v.one_value; is_log = v.is_log; grows = stay.logs base a });
+    one_log = λ base a. (let v = beside.values base a in record { one_value = v.one_value; is_log = v.is_log; longest = v.longest; grows = stay.logs base a });
     states = λ base a. (entries_are_logs sources ahead bases start rows turn).states base.core.id;
     have_run = beside.have_run;
     whole = map.map;

@@ -21,14 +21,15 @@ use Rattle.sc_sound.specs.Accepts.{accepts}
 use Rattle.sc_sound.specs.GroupsOf.{groups_at}
 use Rattle.sc_sound.specs.Logs.{rule_of, IsChosenIn, decided_log}
 use Rattle.sc_sound.specs.Requests.{issue_row, kept_reply, answer_row}
-use Rattle.sc_sound.specs.Soundness.{AllHaveRun}
+use Rattle.sc_sound.specs.Soundness.{Continues, AllHaveRun}
 use Rattle.sc_journal_law.specs.Descent.{Rows, added_by}
 
--- one value per slot of a group, and a decided log that is one
+-- one value per slot of a group, and a decided log that is one and the longest
 pub record HasOneValue (ahead : Ahead) (base : Base) (rows : Rows) : Type 0 where
   pub one_value : (log other : List Command) → IsLog (rule_of ahead base) (accepts base.core.id rows) log → IsLog (rule_of ahead base) (accepts base.core.id rows) other
       → (slot : ℕ) (command another : Command) → IsChosenIn ahead base rows log (slot + 1) command → IsChosenIn ahead base rows other (slot + 1) another → command ≡ another
   pub is_log : IsLog (rule_of ahead base) (accepts base.core.id rows) (decided_log ahead base rows)
+  pub longest : (other : List Command) → IsLog (rule_of ahead base) (accepts base.core.id rows) other → Continues other (decided_log ahead base rows)
 
 -- a call is a request of a client of the scenario, which issued it in these rows
 pub record IsIssuedIn (scenario : Scenario) (rows : Rows) (client seq : ℕ) (op : Op) : Type 0 where

@@ -1,9 +1,9 @@
 //! What a group that commits a transaction makes of itself, by the plan of each kind.
-ghost use Rattle.std.specs.Prelude.{◌≡◌, IfOk, OnOk, Some, None, true, false, not, if◌then◌else◌};
+ghost use Rattle.std.specs.Prelude.{◌≡◌, IfOk, OnOk, OnErr, Some, None, true, false, not, if◌then◌else◌};
 ghost use Rattle.sc_base.specs.Arc.{holds};
 ghost use Rattle.sc_ideal.specs.IdealStore.{part_of, with_pairs};
 ghost use Rattle.std.specs.FinMap.{empty, entries};
-ghost use Rattle.sc_machine_table.specs.Plans.{has_key_of, can_repart, repart_core, taken, may_merge, merge_plan, closing_plan, repart_plan, giving_plan, taking_plan, migrate_plan, split_plan, enriched};
+ghost use Rattle.sc_machine_table.specs.Plans.{has_key_of, can_repart, can_migrate, can_split, repart_core, taken, may_merge, merge_plan, closing_plan, repart_plan, giving_plan, taking_plan, migrate_plan, split_plan, enriched};
 ghost use Rattle.sc_machine_table.specs.Transactions.{committed, decided};
 
 use crate::machine::Machine;
@@ -61,9 +61,10 @@ impl Machine {
     }
 
     pub(crate) fn commit_merge(&mut self, tx: Draw, frozen: &Frozen) -> Result<Effect, OutOfMemory>
-        ensures { IfOk result
+        ensures step { IfOk result
             (λ effect.
             committed (merge_plan self.old frozen.now) self.old tx ≡ (self.new, effect)) }
+        ensures memory { OnErr result (may_merge self.old frozen.now ≡ true) }
     {
         if !self.may_merge(frozen) {
             return Ok(Effect::NoEffect { tx });
@@ -80,9 +81,10 @@ impl Machine {
         tx: Draw,
         frozen: &Frozen,
     ) -> Result<Effect, OutOfMemory>
-        ensures { IfOk result
+        ensures step { IfOk result
             (λ effect.
             committed (closing_plan self.old frozen.now) self.old tx ≡ (self.new, effect)) }
+        ensures memory { OnErr result (may_merge self.old frozen.now ≡ true) }
     {
         if !self.may_merge(frozen) {
             return Ok(Effect::NoEffect { tx });
@@ -103,9 +105,10 @@ impl Machine {
         at: u32,
         frozen: &Frozen,
     ) -> Result<Effect, OutOfMemory>
-        ensures { IfOk result
+        ensures step { IfOk result
             (λ effect.
             committed (repart_plan self.old at frozen.now) self.old tx ≡ (self.new, effect)) }
+        ensures memory { OnErr result (can_repart self.old.core at frozen.now ≡ true) }
     {
         if self.core.arc.holds(at) {
             self.give(tx, at, frozen)
@@ -117,9 +120,10 @@ impl Machine {
     // The successor gets what lies from `at` on, and the client table.
     fn give(&mut self, tx: Draw, at: u32, frozen: &Frozen) -> Result<Effect, OutOfMemory>
         requires { holds self.old.core.arc at ≡ true }
-        ensures { IfOk result
+        ensures step { IfOk result
             (λ effect.
             committed (giving_plan self.old at frozen.now) self.old tx ≡ (self.new, effect)) }
+        ensures memory { OnErr result (can_repart self.old.core at frozen.now ≡ true) }
     {
         if !can_repart(&self.core, at, frozen) {
             return Ok(Effect::NoEffect { tx });
@@ -143,9 +147,10 @@ impl Machine {
     // The group takes what its successor has before `at`, and joins its client table.
     fn take(&mut self, tx: Draw, at: u32, frozen: &Frozen) -> Result<Effect, OutOfMemory>
         requires { holds self.old.core.arc at ≡ false }
-        ensures { IfOk result
+        ensures step { IfOk result
             (λ effect.
             committed (taking_plan self.old at frozen.now) self.old tx ≡ (self.new, effect)) }
+        ensures memory { OnErr result (can_repart self.old.core at frozen.now ≡ true) }
     {
         if !can_repart(&self.core, at, frozen) {
             return Ok(Effect::NoEffect { tx });
@@ -163,7 +168,7 @@ impl Machine {
         pairs: &Pairs,
         clients: &SeenList,
     ) -> Result<Effect, OutOfMemory>
-        ensures { IfOk result
+        ensures step { IfOk result
             (λ effect.
             committed
             (if not (has_key_of self.old.pairs pairs.now)
@@ -173,6 +178,7 @@ impl Machine {
             )
             else None) self.old tx
             ≡ (self.new, effect)) }
+        ensures memory { OnErr result (has_key_of self.old.pairs pairs.now ≡ false) }
     {
         if self.store.has_any(pairs) {
             return Ok(Effect::NoEffect { tx });
@@ -218,9 +224,10 @@ impl Machine {
         node: u16,
         frozen: &Frozen,
     ) -> Result<Effect, OutOfMemory>
-        ensures { IfOk result
+        ensures step { IfOk result
             (λ effect.
             committed (migrate_plan self.old node frozen.now) self.old tx ≡ (self.new, effect)) }
+        ensures memory { OnErr result (can_migrate self.old.core node frozen.now ≡ true) }
     {
         if !can_migrate(&self.core, node, frozen) {
             return Ok(Effect::NoEffect { tx });
@@ -235,8 +242,9 @@ impl Machine {
         at: u32,
         child: Draw,
     ) -> Result<Effect, OutOfMemory>
-        ensures { IfOk result
+        ensures step { IfOk result
             (λ effect. committed (split_plan self.old at child) self.old tx ≡ (self.new, effect)) }
+        ensures memory { OnErr result (can_split self.old.core at ≡ true) }
     {
         if !can_split(&self.core, at) {
             return Ok(Effect::NoEffect { tx });

@@ -1,11 +1,12 @@
 //! A group that coordinates a transaction: what its parties answer, and what it decides.
-ghost use Rattle.std.specs.Prelude.{◌≡◌, IfOk};
+ghost use Rattle.std.specs.Prelude.{◌≡◌, ◌⊎◌, IfOk, OnErr};
 ghost use Rattle.sc_machine_table.specs.Transactions.{decided, granted, participant_answered, asks_watcher, vote_recorded, released, watch_answered, watch_recorded, is_coordinating, given_up};
+ghost use Rattle.sc_machine.specs.Memory.{Makes, LooksThrough, MayLookThrough, LockLooksThrough};
 
 use crate::machine::Machine;
 use sc_base::{Draw, Dup, OutOfMemory};
 use sc_cmd::{Body, Effect, Frozen, Heard, Lock, Outcome, Past, Vote, same_draw};
-use sc_machine_choices::note_decision;
+use sc_machine_choices::{decides_alone, note_decision};
 
 fn asks_watcher(body: &Body, heard: &Option<Heard>) -> bool
     ensures { result ≡ asks_watcher body.now heard.now }
@@ -27,7 +28,8 @@ fn is_coordinating(lock: &Lock, tx: Draw) -> bool
 
 impl Machine {
     pub(crate) fn give_up(&mut self, tx: Draw) -> Result<Effect, OutOfMemory>
-        ensures { IfOk result (λ effect. given_up self.old tx ≡ (self.new, effect)) }
+        ensures step { IfOk result (λ effect. given_up self.old tx ≡ (self.new, effect)) }
+        ensures memory { OnErr result (Makes (given_up self.old tx)) }
     {
         if !is_coordinating(&self.core.lock, tx) {
             return Ok(Effect::NoEffect { tx });
@@ -41,9 +43,12 @@ impl Machine {
         vote: &Vote,
         by: u16,
     ) -> Result<Effect, OutOfMemory>
-        ensures { IfOk result
+        ensures step { IfOk result
             (λ effect.
             vote_recorded self.old.core.lock self.old tx vote.now by ≡ (self.new, effect)) }
+        ensures memory { OnErr result
+            (Makes (vote_recorded self.old.core.lock self.old tx vote.now by)
+            ⊎ LockLooksThrough self.old.core.lock vote.now self.old) }
     {
         match &self.core.lock {
             Lock::Coordinating {
@@ -72,9 +77,12 @@ impl Machine {
         order: u32,
         by: u16,
     ) -> Result<Effect, OutOfMemory>
-        ensures { IfOk result
+        ensures step { IfOk result
             (λ effect.
             participant_answered vote.now body.now self.old tx order by ≡ (self.new, effect)) }
+        ensures memory { OnErr result
+            (Makes (participant_answered vote.now body.now self.old tx order by)
+            ⊎ MayLookThrough vote.now body.now self.old) }
     {
         match vote {
             Vote::Yes(frozen) => self.grant(body, frozen.get(), tx, order, by),
@@ -90,8 +98,11 @@ impl Machine {
         order: u32,
         by: u16,
     ) -> Result<Effect, OutOfMemory>
-        ensures { IfOk result
+        ensures step { IfOk result
             (λ effect. granted body.now self.old tx order frozen.now by ≡ (self.new, effect)) }
+        ensures memory { OnErr result
+            (Makes (granted body.now self.old tx order frozen.now by)
+            ⊎ LooksThrough body.now self.old frozen.now) }
     {
         match body {
             Body::Merge => self.hear_merge(frozen, tx, order, by),
@@ -109,10 +120,11 @@ impl Machine {
         order: u32,
         by: u16,
     ) -> Result<Effect, OutOfMemory>
-        ensures { IfOk result
+        ensures step { IfOk result
             (λ effect. granted Body.Merge self.old tx order frozen.now by ≡ (self.new, effect)) }
+        ensures memory { OnErr result (Makes (granted Body.Merge self.old tx order frozen.now by)) }
     {
-        if same_draw(frozen.succ.group, self.core.id) {
+        if decides_alone(&self.core, frozen) {
             return self.commit_closing(tx, frozen);
         }
         let heard = Heard {
@@ -129,9 +141,11 @@ impl Machine {
     }
 
     pub(crate) fn record_watch(&mut self, tx: Draw, vote: &Past) -> Result<Effect, OutOfMemory>
-        ensures { IfOk result
+        ensures step { IfOk result
             (λ effect.
             watch_recorded self.old.core.lock self.old tx vote.now ≡ (self.new, effect)) }
+        ensures memory { OnErr result
+            (Makes (watch_recorded self.old.core.lock self.old tx vote.now)) }
     {
         match &self.core.lock {
             Lock::Coordinating {
@@ -159,9 +173,11 @@ impl Machine {
         heard: &Option<Heard>,
         tx: Draw,
     ) -> Result<Effect, OutOfMemory>
-        ensures { IfOk result
+        ensures step { IfOk result
             (λ effect.
             watch_answered vote.now body.now heard.now self.old tx ≡ (self.new, effect)) }
+        ensures memory { OnErr result
+            (Makes (watch_answered vote.now body.now heard.now self.old tx)) }
     {
         match vote {
             Past::Yes => self.release(body, heard, tx),
@@ -175,8 +191,9 @@ impl Machine {
         heard: &Option<Heard>,
         tx: Draw,
     ) -> Result<Effect, OutOfMemory>
-        ensures { IfOk result
+        ensures step { IfOk result
             (λ effect. released body.now heard.now self.old tx ≡ (self.new, effect)) }
+        ensures memory { OnErr result (Makes (released body.now heard.now self.old tx)) }
     {
         match body {
             Body::Merge => match heard {

@@ -1,11 +1,12 @@
 //! The group machine: one command, and requests.
-ghost use Rattle.std.specs.Prelude.{◌≡◌, IfOk};
+ghost use Rattle.std.specs.Prelude.{◌≡◌, IfOk, OnErr};
 ghost use Rattle.std.specs.FinMap.{entries, get};
 ghost use Rattle.sc_ideal.specs.IdealStore.{holds_key, key_of};
 ghost use Rattle.sc_ideal.specs.Clients.{seen_of};
 ghost use Rattle.sc_machine_table.specs.Group.{Group, base_of, group_of};
 ghost use Rattle.sc_machine_table.specs.Machine.{applied, called, served, served_by_note, done};
 ghost use Rattle.sc_machine_table.specs.Plans.{frozen_of};
+ghost use Rattle.sc_machine.specs.Memory.{Makes, MayWantMemory};
 
 use sc_base::{Dup, Op, OutOfMemory, Pairs, RingArc};
 use sc_clients::ClientTable;
@@ -112,7 +113,8 @@ impl Machine {
     /// Applies a command, by the group machine's table. After want of memory the machine may only
     /// be dropped.
     pub fn apply(&mut self, command: &Command) -> Result<Effect, OutOfMemory>
-        ensures { IfOk result (λ effect. applied self.old command.now ≡ (self.new, effect)) }
+        ensures step { IfOk result (λ effect. applied self.old command.now ≡ (self.new, effect)) }
+        ensures memory { OnErr result (MayWantMemory self.old command.now) }
     {
         match command {
             Command::Noop => Ok(Effect::Idle),
@@ -131,10 +133,12 @@ impl Machine {
     }
 
     pub(crate) fn call(&mut self, client: u16, seq: u32, op: &Op) -> Result<Effect, OutOfMemory>
-        ensures { IfOk result
+        ensures step { IfOk result
             (λ effect.
             called self.old.core.gone self.old.core.lock self.old client seq op.now
             ≡ (self.new, effect)) }
+        ensures memory { OnErr result
+            (Makes (called self.old.core.gone self.old.core.lock self.old client seq op.now)) }
     {
         if let Some(into) = &self.core.gone {
             return Ok(Effect::Gone { into: *into });
@@ -146,7 +150,8 @@ impl Machine {
     }
 
     fn serve(&mut self, client: u16, seq: u32, op: &Op) -> Result<Effect, OutOfMemory>
-        ensures { IfOk result (λ effect. served self.old client seq op.now ≡ (self.new, effect)) }
+        ensures step { IfOk result (λ effect. served self.old client seq op.now ≡ (self.new, effect)) }
+        ensures memory { OnErr result (Makes (served self.old client seq op.now)) }
     {
         if !holds_key(&self.core.arc, op) {
             return Ok(Effect::NotMine {
@@ -163,7 +168,9 @@ impl Machine {
 
     fn carry_out(&mut self, client: u16, seq: u32, op: &Op) -> Result<Effect, OutOfMemory>
         requires { seen_of (get self.old.clients client) seq ≡ Seen.New }
-        ensures { IfOk result (λ effect. done self.old client seq op.now ≡ (self.new, effect)) }
+        ensures step { IfOk result (λ effect. done self.old client seq op.now ≡ (self.new, effect)) }
+        ensures memory { OnErr result
+            (Makes (served_by_note (get self.old.clients client) self.old client seq op.now)) }
     {
         let reply = self.store.apply(op)?;
         let noted = reply.dup(self.alloc)?;
@@ -174,10 +181,12 @@ impl Machine {
     // The reply that is noted, of a request whose number is the noted one.
     fn repeat(&self, client: u16, seq: u32, op: &Op) -> Result<Effect, OutOfMemory>
         requires { seen_of (get self.now.clients client) seq ≡ Seen.Again }
-        ensures { IfOk result
+        ensures step { IfOk result
             (λ effect.
             served_by_note (get self.now.clients client) self.now client seq op.now
             ≡ (self.now, effect)) }
+        ensures memory { OnErr result
+            (Makes (served_by_note (get self.now.clients client) self.now client seq op.now)) }
     {
         match self.clients.reply(client) {
             Some(reply) => Ok(Effect::Again(reply.dup(self.alloc)?)),

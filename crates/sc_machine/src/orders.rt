@@ -1,5 +1,5 @@
 //! Orders on a group.
-ghost use Rattle.std.specs.Prelude.{◌≡◌, ◌<◌, ℕ, IfOk, OnOk, MatchOption, Some, None, true};
+ghost use Rattle.std.specs.Prelude.{◌≡◌, ◌<◌, ℕ, IfOk, OnOk, OnErr, MatchOption, Some, None, true};
 ghost use Rattle.sc_cmd.specs.declared.commands.Command.TheVariants.{Join, Leave, Split, Begin};
 ghost use Rattle.sc_cmd.specs.declared.effects.Effect.TheVariants.{Refused};
 ghost use Rattle.sc_machine_table.specs.Group.{Group};
@@ -8,6 +8,7 @@ ghost use Rattle.sc_machine_table.specs.Orders.{is_alone, ordered, refusal_of, r
 ghost use Rattle.sc_machine_table.specs.Splits.{CanSplit, left_group};
 ghost use Rattle.sc_machine_table.specs.Transactions.{begun_group};
 ghost use Rattle.sc_txn.specs.Checked.{is_checked};
+ghost use Rattle.sc_machine.specs.Memory.{Makes};
 
 use crate::machine::Machine;
 use sc_base::{Draw, OutOfMemory};
@@ -132,11 +133,14 @@ impl Machine {
         order: u32,
     ) -> Result<Effect, OutOfMemory>
         requires { command.now ≡ Split at child order }
-        ensures { IfOk result
+        ensures step { IfOk result
             (λ effect.
             ordered_by (Some child) (refusal_of self.old.core command.now)
             (split_group self.old at child order) self.old
             ≡ (self.new, effect)) }
+        ensures memory { OnErr result
+            (Makes (ordered_by (Some child) (refusal_of self.old.core command.now)
+            (split_group self.old at child order) self.old)) }
     {
         if has_named(&self.core, child) {
             return Ok(Effect::NoEffect { tx: child });

@@ -1,7 +1,8 @@
 //! A group that takes part in another group's transaction: it votes, and takes over the outcome.
-ghost use Rattle.std.specs.Prelude.{◌≡◌, IfOk, OnOk, Some, None, false, map, take, if◌then◌else◌};
+ghost use Rattle.std.specs.Prelude.{◌≡◌, IfOk, OnOk, OnErr, Some, None, true, false, is_some, map, take, if◌then◌else◌};
 ghost use Rattle.sc_machine_table.specs.Votes.{has_voted, past_of, voted_on, offer_voted, watched};
 ghost use Rattle.sc_machine_table.specs.Finishes.{gone_group, gained, lost, moved, group_welcomed, participant_after, pred_after, closed, voted_after, party_freed, settled_in, watch_ended, finished};
+ghost use Rattle.sc_machine.specs.Memory.{Makes};
 
 use crate::machine::Machine;
 use sc_base::{Boxed, Draw, Dup, OutOfMemory, Sequence};
@@ -69,7 +70,8 @@ fn voted_after(alloc: Global, core: &Core, tx: Draw) -> Result<VotedList, OutOfM
 
 impl Machine {
     pub(crate) fn prepare(&mut self, tx: Draw, offer: &Offer) -> Result<Effect, OutOfMemory>
-        ensures { IfOk result (λ effect. offer_voted self.old tx offer.now ≡ (self.new, effect)) }
+        ensures step { IfOk result (λ effect. offer_voted self.old tx offer.now ≡ (self.new, effect)) }
+        ensures memory { OnErr result (Makes (offer_voted self.old tx offer.now)) }
     {
         let bond = Lock::Promised { tx, offer: *offer };
         match vote(&self.core, offer) {
@@ -79,7 +81,8 @@ impl Machine {
     }
 
     pub(crate) fn watch(&mut self, tx: Draw, watch: &Watch) -> Result<Effect, OutOfMemory>
-        ensures { IfOk result (λ effect. watched self.old tx watch.now ≡ (self.new, effect)) }
+        ensures step { IfOk result (λ effect. watched self.old tx watch.now ≡ (self.new, effect)) }
+        ensures memory { OnErr result (Makes (watched self.old tx watch.now)) }
     {
         let bond = Lock::Watching { tx, watch: *watch };
         match watch_vote(&self.core, watch) {
@@ -90,7 +93,8 @@ impl Machine {
 
     // The vote is noted, unless there was one; a Yes binds the group.
     fn cast(&mut self, why: Option<No>, bond: Lock, tx: Draw) -> Result<Effect, OutOfMemory>
-        ensures { IfOk result (λ effect. voted_on why bond self.old tx ≡ (self.new, effect)) }
+        ensures step { IfOk result (λ effect. voted_on why bond self.old tx ≡ (self.new, effect)) }
+        ensures memory { OnErr result (Makes (voted_on why bond self.old tx)) }
     {
         if has_voted(&self.core, tx) {
             return Ok(Effect::NoEffect { tx });
@@ -104,8 +108,9 @@ impl Machine {
     }
 
     pub(crate) fn finish(&mut self, tx: Draw, outcome: &Outcome) -> Result<Effect, OutOfMemory>
-        ensures { IfOk result
+        ensures step { IfOk result
             (λ effect. finished self.old.core.lock self.old tx outcome.now ≡ (self.new, effect)) }
+        ensures memory { OnErr result (Makes (finished self.old.core.lock self.old tx outcome.now)) }
     {
         match &self.core.lock {
             Lock::Promised { tx: locked, offer } => {
@@ -132,10 +137,12 @@ impl Machine {
         offer: &Offer,
         outcome: &Outcome,
     ) -> Result<Effect, OutOfMemory>
-        ensures { IfOk result
+        ensures step { IfOk result
             (λ effect.
             settled_in (participant_after outcome.now self.old offer.now) self.old tx outcome.now
             ≡ (self.new, effect)) }
+        ensures memory { OnErr result
+            (Makes (settled_in (participant_after outcome.now self.old offer.now) self.old tx outcome.now)) }
     {
         if !self.take_outcome(offer, outcome)? {
             return Ok(Effect::NoEffect { tx });
@@ -150,8 +157,9 @@ impl Machine {
         watch: &Watch,
         outcome: &Outcome,
     ) -> Result<Effect, OutOfMemory>
-        ensures { IfOk result
+        ensures step { IfOk result
             (λ effect. watch_ended outcome.now self.old tx watch.now ≡ (self.new, effect)) }
+        ensures memory { OnErr result (Makes (watch_ended outcome.now self.old tx watch.now)) }
     {
         self.core.pred = pred_after(outcome, watch.next, self.core.pred);
         self.end(tx)?;
@@ -174,6 +182,7 @@ impl Machine {
             participant_after outcome.now self.old offer.now
             ≡ (if made then Some self.new else None)) }
         ensures same { IfOk result (λ made. made ≡ false → self.new ≡ self.old) }
+        ensures memory { OnErr result (is_some (participant_after outcome.now self.old offer.now) ≡ true) }
     {
         match outcome {
             Outcome::Abort => Ok(true),
@@ -205,6 +214,7 @@ impl Machine {
             (λ made.
             moved gift.now self.old offer.now at ≡ (if made then Some self.new else None)) }
         ensures same { IfOk result (λ made. made ≡ false → self.new ≡ self.old) }
+        ensures memory { OnErr result (is_some (moved gift.now self.old offer.now at) ≡ true) }
     {
         match gift {
             Some(gift) => self.gain(offer, at, gift.get()),
@@ -217,6 +227,7 @@ impl Machine {
             (λ made.
             gained self.old offer.now at gift.now ≡ (if made then Some self.new else None)) }
         ensures same { IfOk result (λ made. made ≡ false → self.new ≡ self.old) }
+        ensures memory { OnErr result (is_some (gained self.old offer.now at gift.now) ≡ true) }
     {
         if self.store.has_any(&gift.pairs) {
             return Ok(false);

@@ -6,6 +6,7 @@ ghost use Rattle.sc_node_table.specs.Transactions.{offered_by, offer_row, watche
 use sc_base::{Boxed, Draw, Dup, OutOfMemory, Sequence};
 use sc_cmd::{Command, Offer, Outcome, Past, Vote, Watch};
 use sc_mail::Mail;
+use sc_node_choices::record_of;
 use sc_replica::Replica;
 use sc_replica_transactions::{
     ask_next, awaits_vote, awaits_watch, is_bound, noted_outcome, pass_on, standing_vote,
@@ -108,7 +109,7 @@ fn take_vote(
         return Ok(());
     }
     let vote = vote.dup(replica.alloc())?;
-    replica.queue_act(Command::RecordVote { tx, vote, by: from }, out)
+    replica.queue_act(record_of(tx, vote, from), out)
 }
 
 /// TxVote: only a Yes asks for what was decided.

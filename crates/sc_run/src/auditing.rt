@@ -43,7 +43,8 @@ fn bad_row(
 }
 
 /// Whether rows are a lawful journal of a scenario, and else the first that is not lawful. The
-/// scenario is one that some text is, and rows and their mails are fewer than 2^31 each.
+/// scenario is one that some text is, or that is made, and rows and their mails are fewer than 2^31
+/// each.
 pub fn audit(
     alloc: Global,
     scenario: &Scenario,

@@ -248,9 +248,9 @@ pub fn read_scenario(alloc: Global, text: &[u8]) -> Result<Scenario, ScenarioFau
     lines_read(alloc, false, text)
 }
 
-/// What holds of every scenario that some text is: nodes, one to sixteen groups of some of them in
-/// the order in which they begin, clients in order of number with few requests, and a schedule of
-/// lines that name these.
+/// What holds of every valid scenario, one that some text is or that is made: nodes, one to sixteen
+/// groups of some of them in the order in which they begin, clients in order of number with few
+/// requests, and a schedule of lines that name these.
 pub fn valid_scenarios_are_bounded()
     ensures { ValidScenariosAreBounded }
 {}

@@ -37,8 +37,10 @@ pub record HasOneLog (ahead : Ahead) (bases : List Base) (base : Base) (rows mor
   -- no two commands are chosen at one slot, each by the members that its own log gives
   pub one_value : (log other : List Command) → IsLog (rule_of ahead base) (accepts base.core.id rows) log → IsLog (rule_of ahead base) (accepts base.core.id rows) other
       → (slot : ℕ) (command another : Command) → IsChosenIn ahead base rows log (slot + 1) command → IsChosenIn ahead base rows other (slot + 1) another → command ≡ another
-  -- the decided log is one, and the longest
+  -- the decided log is one
   pub is_log : IsLog (rule_of ahead base) (accepts base.core.id rows) (decided_log ahead base rows)
+  -- and the longest: each other is a front of it
+  pub longest : (other : List Command) → IsLog (rule_of ahead base) (accepts base.core.id rows) other → Continues other (decided_log ahead base rows)
   -- it is the log of the group with its name, and with more rows it goes on as it was
   pub grows : Continues (decided_log ahead base rows) (log_at ahead bases (rows ++ more) base.core.id)
 

@@ -1,7 +1,7 @@
 -- What holds of the parts of a split, and of a merge.
 use Rattle.std.specs.Prelude.{◌≡◌, ℕ, ◌<◌, ◌^◌, ◌++◌}
 use Rattle.std.specs.FinMap.{empty, entries}
-use Rattle.sc_base.specs.Arc.{IsArc, CanJoin, joined}
+use Rattle.sc_base.specs.Arc.{IsArc, CanJoin, end_of, joined}
 use Rattle.sc_base.specs.declared.names.Draw.{Draw}
 use Rattle.sc_ideal.specs.IdealStore.{Contents, part_of, with_pairs}
 use Rattle.sc_member.specs.Roster.{IsRoster}
@@ -9,7 +9,7 @@ use Rattle.sc_cmd.specs.declared.cores.Core.{Core}
 use Rattle.sc_cmd.specs.declared.links.Route.{Route}
 use Rattle.sc_machine_table.specs.Finishes.{gone_group}
 use Rattle.sc_machine_table.specs.Group.{Group, group_of}
-use Rattle.sc_machine_table.specs.Plans.{frozen_of, merged_group}
+use Rattle.sc_machine_table.specs.Plans.{frozen_of, merged_group, closing_group}
 use Rattle.sc_machine_table.specs.Splits.{CanSplit, left_core, right_core, left_group, child_of}
 use Rattle.sc_machine_table.specs.Totals.{AreNeighbours, HasItsPart, IsJoined}
 
@@ -52,7 +52,12 @@ pub record HasNothing (group : Group) : Type 0 where
   pub pairs : group.pairs ≡ empty
   pub table : group.clients ≡ empty
 
--- a merge loses nothing
+-- of two groups that make the ring, the one that is left has all of it
+pub record ClosesTheRing (group next after : Group) : Type 0 where
+  pub merges : Merges group next after
+  pub ring : end_of next.core.arc ≡ group.core.arc.lo → after.core.arc.len ≡ 2 ^ 32
+
+-- a merge loses nothing, where the successor has another group after it and where the two make the ring
 abbrev pub MergesKeepTheTotal : Type 0
 MergesKeepTheTotal = (group next : Group) (into : Route) → AreNeighbours group next
-    → Merges group next (merged_group group (frozen_of next)) × HasNothing (gone_group next into)
+    → Merges group next (merged_group group (frozen_of next)) × ClosesTheRing group next (closing_group group (frozen_of next)) × HasNothing (gone_group next into)

@@ -17,8 +17,9 @@ pub fn splits_share_the_pairs()
     ensures { SplitsShareThePairs }
 {}
 
-/// A merged group has the arcs of both, the pairs of both and the client tables of both; the group
-/// that is gone has no pair and no client.
+/// A merged group has the arcs of both, the pairs of both and the client tables of both, also where
+/// the two make the ring, and then it has all of the ring; the group that is gone has no pair and no
+/// client.
 pub fn merges_keep_the_total()
     ensures { MergesKeepTheTotal }
 {}

@@ -45,7 +45,7 @@ use Rattle.sc_group_law.proofs.Families.{h_of}
 use Rattle.sc_group_law.proofs.Holding.{held}
 use Rattle.sc_group_law.proofs.Names.{IsOneOf}
 use Rattle.sc_group_law.proofs.Nodes.{IsNode}
-use Rattle.sc_group_law.proofs.Replicated.{one_value, is_log, executed_is}
+use Rattle.sc_group_law.proofs.Replicated.{one_value, is_log, longest, executed_is}
 use Rattle.sc_group_law.proofs.Stepping.{MayTell}
 use Rattle.sc_group_law.proofs.Ticks.{MayTick}
 use Rattle.sc_whole_law.specs.Orders.{OrdersAreAllowed}
@@ -136,7 +136,7 @@ module _ (sources : Sources) (ahead : Ahead) (words : ℕ → ℕ → ℕ × ℕ
 
     -- each slot of a group has one value
     values : (b : Base) → Among b (bases rows) → HasOneValue ahead b rows
-    values b a = (let lawful = (h.kept.parts b a).lawful in record { one_value = one_value ahead b rows lawful; is_log = is_log ahead b rows lawful })
+    values b a = (let lawful = (h.kept.parts b a).lawful in record { one_value = one_value ahead b rows lawful; is_log = is_log ahead b rows lawful; longest = longest ahead b rows lawful })
 
   -- ---- row by row
 

@@ -8,12 +8,15 @@ use Rattle.sc_checker.specs.declared.judging.Replayed.{Replayed}
 use Rattle.sc_checker.specs.Replays.{Leaves}
 use Rattle.sc_scenario.specs.declared.scenarios.Scenario.{Scenario}
 use Rattle.sc_sound.specs.Players.{system_of, schedule, Player, as_nodes}
+use Rattle.sc_sound.specs.Soundness.{IsSoundThroughout}
 use Rattle.sc_world.specs.Worlds.{WorldHolds}
 
--- what a replay leaves is what a world holds
-pub holds : (scenario : Scenario) (rows : List (Row Mail OrderLine)) (parties : List Player) (left : Replayed Player) →
+-- what a replay leaves is what a world holds, where each first part of the rows is sound
+pub holds : (scenario : Scenario) (rows : List (Row Mail OrderLine)) (parties : List Player) (left : Replayed Player) → IsSoundThroughout as_nodes scenario rows →
     parties ≡ map (λ seat. seat.actor) left.seats.items → Leaves (system_of as_nodes two_words scenario) (schedule scenario) rows left → WorldHolds scenario rows parties left.skipped left.quiet
-holds scenario rows parties left are leaves = record {
+holds scenario rows parties left sound are leaves = record {
+  lawful = leaves.replayed.lawful;
+  sound = sound;
   parties_are = are ∙ ap (map (λ seat. seat.actor)) leaves.replayed.actors;
   skips_are = leaves.replayed.skips_are;
   quiet_is = leaves.quiet_now;

@@ -1,5 +1,6 @@
 mod Fronts
 mod Held
+mod Kept
 mod Lines
 mod Names
 mod Numbers

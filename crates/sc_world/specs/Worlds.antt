@@ -14,8 +14,10 @@ pub record Standing : Type 0 where
   pub scenario : Scenario
   pub rows : List (Row Mail OrderLine)
 
--- what a world holds: the parties as their rows leave them, how many lines were skipped, and whether no mail is pending
+-- what a world holds: rows that are lawful and of which each first part is sound, the parties as these leave them, how many lines were skipped, and whether no mail is pending
 pub record WorldHolds (scenario : Scenario) (rows : List (Row Mail OrderLine)) (left : List Player) (skips : ℕ) (quiet : Bool) : Type 0 where
+  pub lawful : Lawful as_nodes two_words scenario rows
+  pub sound : IsSoundThroughout as_nodes scenario rows
   pub parties_are : left ≡ parties as_nodes scenario rows
   pub skips_are : skips ≡ skipped (system_of as_nodes two_words scenario) (schedule scenario) rows
   pub quiet_is : quiet ≡ is_quiet (system_of as_nodes two_words scenario) rows

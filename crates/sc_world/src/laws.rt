@@ -1,4 +1,4 @@
-//! What holds of every scenario that some text is.
+//! What holds of every valid scenario: one that some text is, or that is made.
 ghost use Rattle.sc_world.specs.Plays.{ValidCanPlay};
 
 use sc_scenario::valid_scenarios_are_bounded;

@@ -154,7 +154,8 @@ fn world_of<'a>(
 
 /// Replays rows: the world that they leave where they are a lawful journal of a scenario, of which
 /// each first part is sound, and else which row, from 1, is the first that is not lawful. The
-/// scenario is one that some text is, and rows and their mails are fewer than 2^31 each.
+/// scenario is one that some text is, or that is made, and rows and their mails are fewer than 2^31
+/// each.
 pub fn replay_rows<'a>(
     alloc: Global,
     scenario: &'a Scenario,

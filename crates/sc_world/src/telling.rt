@@ -5,6 +5,8 @@ ghost use Rattle.std.specs.Prelude.{◌≡◌, IfOk};
 ghost use Rattle.std.specs.Option.{option_map};
 ghost use Rattle.sc_machine_table.specs.Group.{base_of};
 ghost use Rattle.sc_entries.specs.Effective.{effective};
+ghost use Rattle.sc_entries.specs.Rings.{Covers};
+ghost use Rattle.sc_ideal.specs.History.{Legal};
 ghost use Rattle.sc_sound.specs.Players.{as_nodes};
 ghost use Rattle.sc_sound.specs.GroupsOf.{log_at, ring_at, history_at, world_at};
 
@@ -52,10 +54,11 @@ pub fn decided_log(
 }
 
 /// The decided ring of a journal: the cuts of the scenario's groups, as the entries of coordinators
-/// change them.
+/// change them. It covers: each position lies in the arc of exactly one cut.
 pub fn decided_ring(alloc: Global, world: &World<'_>) -> Result<Vec<Cut>, OutOfMemory>
-    ensures { IfOk result (λ ring. ring.items ≡
+    ensures told { IfOk result (λ ring. ring.items ≡
         ring_at as_nodes world.now.scenario.groups world.now.rows) }
+    ensures covers { IfOk result (λ ring. Covers ring.items) }
 {
     let told = store_world(
         alloc,
@@ -67,10 +70,11 @@ pub fn decided_ring(alloc: Global, world: &World<'_>) -> Result<Vec<Cut>, OutOfM
 }
 
 /// The history of a journal: row by row the calls decided there that took effect, by slot,
-/// whichever group they are of.
+/// whichever group they are of. It is legal.
 pub fn history(alloc: Global, world: &World<'_>) -> Result<Vec<Entry>, OutOfMemory>
-    ensures { IfOk result (λ entries. entries.items ≡
+    ensures told { IfOk result (λ entries. entries.items ≡
         history_at as_nodes world.now.scenario.groups world.now.rows) }
+    ensures legal { IfOk result (λ entries. Legal entries.items) }
 {
     let told = store_world(
         alloc,

@@ -1,6 +1,8 @@
 //! What a journal of a scenario leaves.
 ghost use Rattle.std.specs.Prelude.{◌≡◌};
-ghost use Rattle.sc_sound.specs.Players.{parties, as_nodes};
+ghost use Rattle.sc_sound.specs.Players.{parties, as_nodes, Lawful};
+ghost use Rattle.sc_sound.specs.Soundness.{IsSoundThroughout};
+ghost use Rattle.sc_chance.specs.Words.{two_words};
 
 use crate::party::Party;
 use sc_actor::Journal;
@@ -10,10 +12,12 @@ use sc_mail::Mail;
 use sc_scenario::Scenario;
 use std::marker::Model;
 
-/// A scenario and a lawful journal of it, replayed: the nodes and then the clients, as their rows
-/// leave them, how many lines of the schedule were skipped, and whether no mail is pending.
+/// A scenario and a lawful journal of it, of which each first part is sound, replayed: the nodes and
+/// then the clients, as their rows leave them, how many lines of the schedule were skipped, and
+/// whether no mail is pending.
 ///
-/// Contracts see the scenario and the rows that it refers to.
+/// Contracts see the scenario and the rows that it refers to; that these are lawful and sound, every
+/// world says (`stands`).
 #[derive(Drop)]
 pub struct World<'a> {
     pub(crate) scenario: &'a Scenario,
@@ -34,6 +38,14 @@ impl<'a> Model for World<'a> {
 }
 
 impl<'a> World<'a> {
+    /// The rows are a lawful journal of the scenario, and each first part of it is sound.
+    pub fn stands(&self)
+        ensures lawful { Lawful as_nodes two_words self.now.scenario self.now.rows }
+        ensures sound { IsSoundThroughout as_nodes self.now.scenario self.now.rows }
+    {
+        let _kept = self.quiet;
+    }
+
     /// The nodes and then the clients, in order of number, each as its rows leave it.
     pub fn parties(&self) -> &[Party]
         ensures { result.now ≡ parties as_nodes self.now.scenario self.now.rows }

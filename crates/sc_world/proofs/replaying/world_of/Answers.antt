@@ -10,8 +10,9 @@ invariant_of-result c =
     let s = system_of as_nodes two_words c.args.scenario.now in
     let lines = schedule c.args.scenario.now in
     let leaves : Leaves s lines c.as_slice.result.now c.in-Some.left = subst (IsReplayed s lines c.as_slice.result.now) c.in-Some.is c.in_ok-left_by.ensures in
-    holds c.args.scenario.now c.args.rows.now c.in_ok-parties-in-Some.parties c.in-Some.left c.in_ok-parties-in-Some.ensures
-    (subst (λ rows. Leaves s lines rows c.in-Some.left) c.as_slice.ensures leaves)
+    let here : Leaves s lines c.args.rows.now c.in-Some.left = subst (λ rows. Leaves s lines rows c.in-Some.left) c.as_slice.ensures leaves in
+    let sound = c.valid_journals_are_sound.ensures as_nodes refl two_words c.args.scenario.now c.requires.valid c.args.rows.now here.replayed.lawful in
+    holds c.args.scenario.now c.args.rows.now c.in_ok-parties-in-Some.parties c.in-Some.left sound c.in_ok-parties-in-Some.ensures here
 
 pub returns-in_ok-parties-in-Some : goal.returns-in_ok-parties-in-Some
 returns-in_ok-parties-in-Some c =

@@ -1,0 +1,72 @@
+-- Which commands may want memory: those that change what a group keeps in lists, or answer a copy. A command without effect wants none.
+use Rattle.std.specs.Prelude.{◌≡◌, ◌⊎◌, ℕ, Bool, true, false, Some}
+use Rattle.sc_cmd.specs.declared.bodies.Body.{Body}
+use Rattle.sc_cmd.specs.declared.bodies.Body.TheVariants as Does
+use Rattle.sc_cmd.specs.declared.commands.Command.{Command}
+use Rattle.sc_cmd.specs.declared.commands.Command.TheVariants.{Noop, Call, Join, Leave, Split, Begin, Prepared, RecordVote, GiveUp, Finish, Watched, RecordWatch}
+use Rattle.sc_cmd.specs.declared.cores.Lock.{Lock}
+use Rattle.sc_cmd.specs.declared.cores.Lock.TheVariants.{Free, Coordinating, Promised, Watching}
+use Rattle.sc_cmd.specs.declared.effects.Effect.{Effect}
+use Rattle.sc_cmd.specs.declared.effects.Effect.TheVariants.{Done, Again, Stale, NotMine, Gone, NoEffect, Idle, Changed, Voted, Decided, Refused}
+use Rattle.sc_cmd.specs.declared.votes.Frozen.{Frozen}
+use Rattle.sc_cmd.specs.declared.votes.Vote.{Vote}
+use Rattle.sc_cmd.specs.declared.votes.Vote.TheVariants.{Yes, No}
+use Rattle.sc_machine_table.specs.Finishes.{finished}
+use Rattle.sc_machine_table.specs.Group.{Group}
+use Rattle.sc_machine_table.specs.Machine.{called, ordered_by, split_group}
+use Rattle.sc_machine_table.specs.Orders.{refusal_of}
+use Rattle.sc_machine_table.specs.Plans.{can_repart}
+use Rattle.sc_machine_table.specs.Transactions.{given_up, vote_recorded, watch_recorded}
+use Rattle.sc_machine_table.specs.Votes.{offer_voted, watched}
+
+-- effects that take memory to be made: a reply, a vote, a decision, a change
+abbrev pub is_made : Effect → Bool
+is_made (Done reply) = true
+is_made (Again reply) = true
+is_made Changed = true
+is_made (Voted vote) = true
+is_made (Decided outcome) = true
+is_made (Stale last) = false
+is_made (NotMine arc succ) = false
+is_made (Gone into) = false
+is_made (NoEffect tx) = false
+is_made Idle = false
+is_made (Refused why) = false
+
+-- what an entry comes to takes memory
+abbrev pub Makes : Group × Effect → Type 0
+Makes after = is_made after.1 ≡ true
+
+-- before a boundary moves into the successor's arc its pairs are looked through
+abbrev pub LooksThrough : Body → Group → Frozen → Type 0
+LooksThrough Does.Merge group frozen = ⊥
+LooksThrough (Does.Repart at) group frozen = can_repart group.core at frozen ≡ true
+LooksThrough (Does.Migrate node) group frozen = ⊥
+LooksThrough (Does.Split at child) group frozen = ⊥
+
+-- .. which only a Yes asks for
+abbrev pub MayLookThrough : Vote → Body → Group → Type 0
+MayLookThrough (Yes frozen) body group = LooksThrough body group frozen
+MayLookThrough (No why) body group = ⊥
+
+-- .. of the participant for which the lock waits
+abbrev pub LockLooksThrough : Lock → Vote → Group → Type 0
+LockLooksThrough Free vote group = ⊥
+LockLooksThrough (Coordinating tx body order heard) vote group = MayLookThrough vote body group
+LockLooksThrough (Promised tx offer) vote group = ⊥
+LockLooksThrough (Watching tx watch) vote group = ⊥
+
+-- whether a command may want memory
+abbrev pub MayWantMemory : Group → Command → Type 0
+MayWantMemory group Noop = ⊥
+MayWantMemory group (Call client seq op) = Makes (called group.core.gone group.core.lock group client seq op)
+MayWantMemory group (Join node order) = ⊥
+MayWantMemory group (Leave node order) = ⊥
+MayWantMemory group (Split at child order) = Makes (ordered_by (Some child) (refusal_of group.core (Split at child order)) (split_group group at child order) group)
+MayWantMemory group (Begin tx body order) = ⊥
+MayWantMemory group (Prepared tx offer) = Makes (offer_voted group tx offer)
+MayWantMemory group (RecordVote tx vote by) = Makes (vote_recorded group.core.lock group tx vote by) ⊎ LockLooksThrough group.core.lock vote group
+MayWantMemory group (GiveUp tx) = Makes (given_up group tx)
+MayWantMemory group (Finish tx outcome) = Makes (finished group.core.lock group tx outcome)
+MayWantMemory group (Watched tx watch) = Makes (watched group tx watch)
+MayWantMemory group (RecordWatch tx vote by) = Makes (watch_recorded group.core.lock group tx vote)

@@ -1,0 +1,19 @@
+-- What the entries of a world's rows make of its groups is one map.
+use Rattle.std.proofs.Common.{◌≡◌, List, [], sym, ◌∙◌, ap, subst, append-nil}
+use Rattle.sc_actor.specs.declared.rows.Row.{Row}
+use Rattle.sc_cmd.specs.declared.cores.Base.{Base}
+use Rattle.sc_cmd.specs.declared.orders.OrderLine.{OrderLine}
+use Rattle.sc_entries.specs.Worlds.{StoreWorld}
+use Rattle.sc_mail.specs.declared.bodies.Mail.{Mail}
+use Rattle.sc_scenario.specs.declared.scenarios.Scenario.{Scenario}
+use Rattle.sc_sound.specs.GroupsOf.{world_at}
+use Rattle.sc_sound.specs.Players.{as_nodes}
+use Rattle.sc_sound.specs.Soundness.{IsOneMap, IsSoundThroughout}
+
+-- what is told of the scenario's groups and of rows of which each first part is sound
+pub one_map : (scenario : Scenario) (rows : List (Row Mail OrderLine)) → IsSoundThroughout as_nodes scenario rows
+    → (groups : List Base) (read : List (Row Mail OrderLine)) (told : StoreWorld) → groups ≡ scenario.groups → read ≡ rows → told ≡ world_at as_nodes groups read → IsOneMap told
+one_map scenario rows sound groups read told groups_are rows_are is =
+    let all : told ≡ world_at as_nodes scenario.groups rows =
+    is ∙ ap (λ bases. world_at as_nodes bases read) groups_are ∙ ap (λ whole. world_at as_nodes scenario.groups whole) rows_are in
+    subst IsOneMap (sym all) (sound rows [] (sym (append-nil rows))).whole
