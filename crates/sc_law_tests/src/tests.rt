@@ -26,7 +26,7 @@ use sc_paxos_law::{
 use sc_queue_law::{queues_keep_one_call, steps_keep_one_call};
 use sc_refusal_law::{
     nodes_have_causes, refusals_have_causes, running_replicas_take_requests,
-    strangers_name_no_leader,
+    valid_journals_refuse_with_cause,
 };
 use sc_ring_law::{
     allowed_entries_stay_allowed, allowed_lists_append, draws_are_of_one_log,
@@ -134,7 +134,7 @@ fn the_laws_of_refusals_are_called() {
     refusals_have_causes();
     nodes_have_causes();
     running_replicas_take_requests();
-    strangers_name_no_leader();
+    valid_journals_refuse_with_cause();
 }
 
 #[test]

@@ -1,8 +1,14 @@
 -- What an execution answers has its cause in the state before the entry, and what the replica is after it stands behind one entry more.
-use Rattle.std.proofs.Common.{◌≡◌, ◌<◌, ℕ, ◌&&◌, nat_lt, eqb, Bool, true, cond, List, [], ◌∷◌, ◌++◌, Option, Some, None, refl, sym, ap, subst, ◌∙◌, arith, append-nil}
+use Rattle.std.proofs.Common.{◌≡◌, ◌<◌, ◌≤◌, ℕ, ◌&&◌, ◌||◌, nat_lt, eqb, Bool, true, false, cond, List, [], ◌∷◌, ◌++◌, Option, Some, None, inl, refl, sym, ap, subst, ◌∙◌, arith}
+use Rattle.std.specs.List.{list_any}
+use Rattle.std.specs.Option.{option_map}
+use Rattle.sc_paxos_words.specs.Leaders.{LeaderState, flight_at}
+use Rattle.sc_paxos_words.specs.declared.flights.Flight.{Flight}
+use Rattle.sc_node_table.specs.Sameness.{same_command}
 use Rattle.std.specs.FinMap.{get}
-use Rattle.std.proofs.lemmas.Bool.{cond_both, ltb-false, eqb-false}
+use Rattle.std.proofs.lemmas.Bool.{cond_both, ltb-false, eqb-false, eqb-true, eq-eqb, or_parts, or_left, and_parts, true≢false}
 use Rattle.sc_base.specs.Limits.{client_actor}
+use Rattle.sc_base.specs.declared.names.Ballot.{Ballot}
 use Rattle.sc_base.specs.declared.names.Draw.{Draw}
 use Rattle.sc_base.specs.declared.ops.Noted.{Noted}
 use Rattle.sc_base.specs.declared.ops.Op.{Op}
@@ -27,22 +33,24 @@ use Rattle.sc_machine_table.proofs.LogLemmas.{state_push}
 use Rattle.sc_paxos_words.specs.Logs.{LogState}
 use Rattle.sc_node_table.specs.declared.Before.{Before}
 use Rattle.sc_node_table.specs.Election.{elected, ended, stopped}
-use Rattle.sc_node_table.specs.Execute.{entered, answer_of, told_call, order_result, told_effect, announced, learnt_to, welcomed, landed, left_gone, left, is_among, looked_for, looked, executed_one, has_room, next_ready, executed}
+use Rattle.sc_node_table.specs.Execute.{entered, answer_of, told_call, order_result, told_effect, announced, learnt_to, welcomed, slot_lost, landed, left_gone, left, is_among, looked_for, looked, executed_one, has_room, next_ready, executed_ready, all_ready, executed}
 use Rattle.sc_node_table.specs.Mails.{sent_others, order_number}
-use Rattle.sc_node_table.specs.Pump.{serves_calls}
+use Rattle.sc_node_table.specs.Pump.{serves_calls, pumped}
 use Rattle.sc_node_table.specs.Queues.{put_back}
-use Rattle.sc_node_table.specs.Replica.{ReplicaState, Place, name_of, next, members, forgotten}
+use Rattle.sc_node_table.specs.Replica.{ReplicaState, Place, name_of, next, members, flying, forgotten}
 use Rattle.sc_node_table.specs.Slots.{at_slot}
 use Rattle.sc_node_table.specs.Spoken.{before_of, spoken}
 use Rattle.sc_draws_law.proofs.Lists.{opt_slot, slot_without, flight_without}
-use Rattle.sc_law_lemmas.proofs.Places.{welcomed_place, executed_place, landed_place, cleared}
+use Rattle.sc_law_lemmas.proofs.Places.{welcomed_place, cleared}
 use Rattle.sc_law_lemmas.proofs.Ways.{either_way}
-use Rattle.sc_refusal_law.specs.Causes.{IsRefusedIn, RefusesCall, log_with, log_after}
-use Rattle.sc_refusal_law.proofs.Keeping.{Kept, KeptOne, Holds, back_kept, flying_kept}
+use Rattle.sc_refusal_law.specs.Causes.{IsRefusedAtEntry, RefusesCall, log_with, log_after}
+use Rattle.sc_refusal_law.proofs.Keeping.{Kept, KeptOne, Due, Holds, back_kept, flying_kept}
 use Rattle.sc_refusal_law.proofs.Plain.{sent_one, others_plain, told_plain, spoken_plain}
-use Rattle.sc_refusal_law.proofs.Standing.{Caused, CausedAnswer, caused_plain, more_caused, Fine, resent}
+use Rattle.sc_refusal_law.proofs.Standing.{CauseSo, Caused, caused_plain, more_caused, turned_caused, FineAs, Fine, turned_fine, resent}
+use Rattle.sc_refusal_law.proofs.Locking.{entry_turns, still_allowed}
 use Rattle.sc_refusal_law.proofs.Stopping.{ended_fine, stopped_fine, elected_fine, welcomed_fine}
-use Rattle.sc_refusal_law.proofs.Pumping.{pumped_fine}
+use Rattle.sc_refusal_law.proofs.Deciding.{same_leader}
+use Rattle.sc_refusal_law.proofs.Pumping.{lacking, pumped_still}
 
 -- ---- the effect of a call
 
@@ -91,30 +99,33 @@ log_push : (log : LogState Command) (entries : List Command) (command : Command)
 log_push log [] command = refl
 log_push log (entry ∷ entries) command = log_push (log_with log entry) entries command
 
-module _ (start : ReplicaState) (A : Command → Type 0) (G : Draw → Type 0) where
+module _ (start : ReplicaState) (A : Command → Type 0) (G : Draw → Type 0) (W : Ballot → Draw → ℕ) (Q : Type 0) (numbered : 1 ≤ start.me) where
+  -- while entries are executed no other leader is named, and no call that is not executed is turned down
   abbrev F : Place → Type 0
-  F place = Fine start A G place
+  F place = FineAs start A G W Q false false place
 
   -- ---- the entry
 
   kept_through : (command : Command) (r : ReplicaState) → Holds A G r → Holds A G (entered command r)
   unfolding entered forgotten
-  kept_through command r h = record { calls = h.calls; acts = h.acts; flights = h.flights; ready = h.ready; reports = h.reports }
+  kept_through command r h = record { calls = h.calls; acts = h.acts; due = h.due; flights = h.flights; ready = h.ready; reports = h.reports }
 
   entered_fine : (command : Command) (r : ReplicaState) (mails : List Mail) → F (r, mails) → F (entered command r, mails)
   unfolding entered forgotten
-  entered_fine command r mails f = (
-    kept_through command r f.0,
-    record {
-      entries = f.1.entries ++ command ∷ [];
-      group_is = ap (λ g. (applied g command).0) f.1.group_is ∙ sym (state_push start.group f.1.entries command);
-      log_is = ap (λ log. log_with log command) f.1.log_is ∙ sym (log_push start.log f.1.entries command);
-      top_is = f.1.top_is;
-      refused = f.1.refused;
-      out = f.1.out;
-      sent = more_caused start A G f.1.entries (command ∷ []) f.1.refused mails f.1.sent;
-    },
-  )
+  entered_fine command r mails f =
+      let turns = entry_turns r.group command in (
+        kept_through command r f.0,
+        record {
+          entries = f.1.entries ++ command ∷ [];
+          me_is = f.1.me_is;
+          name_is = turns.name ∙ f.1.name_is;
+          group_is = ap (λ g. (applied g command).0) f.1.group_is ∙ sym (state_push start.group f.1.entries command);
+          log_is = ap (λ log. log_with log command) f.1.log_is ∙ sym (log_push start.log f.1.entries command);
+          out = f.1.out;
+          patient = λ q runs. still_allowed W r.leader.ballot r.group.core.lock (applied r.group command).0.core.lock r.waits turns.lock (f.1.patient q runs);
+          sent = more_caused start A G W Q f.1.entries (command ∷ []) false mails f.1.sent;
+        },
+      )
 
   -- ---- what its client is answered, by what was executed before it
 
@@ -124,41 +135,30 @@ module _ (start : ReplicaState) (A : Command → Type 0) (G : Draw → Type 0) w
     are : entries ≡ front ++ command ∷ []
     state : before ≡ state_after start.group front
 
-  refused_so : (before : Group) (client seq : ℕ) (op : Op) (entries : List Command) (answer : AnswerBody) → A (Call client seq op) → IsBehind before (Call client seq op) entries → RefusesCall before client seq op answer
-      → IsRefusedIn A start.group entries (client_actor client) seq answer
-  refused_so before client seq op entries answer a b c = record {
-    front = b.front;
-    rest = Call client seq op ∷ [];
-    are = b.are;
-    client = client;
-    op = op;
-    receiver = refl;
-    was_asked = a;
-    refuses = subst (λ g. RefusesCall g client seq op answer) b.state c;
-  }
+  refused_so : (before : Group) (client seq : ℕ) (op : Op) (entries : List Command) (answer : AnswerBody) → IsBehind before (Call client seq op) entries → RefusesCall before client seq op answer → IsRefusedAtEntry start.group entries client seq op answer
+  refused_so before client seq op entries answer b c = record { front = b.front; rest = []; are = b.are; refuses = subst (λ g. RefusesCall g client seq op answer) b.state c }
 
-  caused_so : (before : Group) (client seq : ℕ) (op : Op) (entries : List Command) (refused : Bool) (answer : AnswerBody) → A (Call client seq op) → IsBehind before (Call client seq op) entries → IsCaused before client seq op answer
-      → CausedAnswer start A G entries refused (client_actor client) seq answer
-  caused_so before client seq op entries refused (Says.Value reply) a b c = tt
-  caused_so before client seq op entries refused (Says.NotLeader hint) a b c = absurd c
-  caused_so before client seq op entries refused (Says.NotMine arc succ) a b c = refused_so before client seq op entries (Says.NotMine arc succ) a b c
-  caused_so before client seq op entries refused (Says.Gone into) a b c = refused_so before client seq op entries (Says.Gone into) a b c
-  caused_so before client seq op entries refused (Says.Stale last) a b c = refused_so before client seq op entries (Says.Stale last) a b c
+  caused_so : (before : Group) (client seq : ℕ) (op : Op) (entries : List Command) (answer : AnswerBody) → IsBehind before (Call client seq op) entries → IsCaused before client seq op answer → CauseSo start A G W Q entries false false client seq op answer
+  caused_so before client seq op entries (Says.Value reply) b c = tt
+  caused_so before client seq op entries (Says.NotLeader hint) b c = absurd c
+  caused_so before client seq op entries (Says.NotMine arc succ) b c = inl (refused_so before client seq op entries (Says.NotMine arc succ) b c)
+  caused_so before client seq op entries (Says.Gone into) b c = inl (refused_so before client seq op entries (Says.Gone into) b c)
+  caused_so before client seq op entries (Says.Stale last) b c = refused_so before client seq op entries (Says.Stale last) b c
 
-  back_fine : (command : Command) (r : ReplicaState) (mails : List Mail) → Kept A G command → F (r, mails) → F (put_back command r, mails)
+  back_fine : (command : Command) (r : ReplicaState) (mails : List Mail) → Kept A G command → Due A G command → F (r, mails) → F (put_back command r, mails)
   unfolding put_back
-  back_fine Noop r mails k f = (back_kept A G Noop r k f.0, f.1)
-  back_fine (Call client seq op) r mails k f = (back_kept A G (Call client seq op) r k f.0, f.1)
-  back_fine (Join node order) r mails k f = (back_kept A G (Join node order) r k f.0, f.1)
-  back_fine (Leave node order) r mails k f = (back_kept A G (Leave node order) r k f.0, f.1)
-  back_fine (Split at child order) r mails k f = (back_kept A G (Split at child order) r k f.0, f.1)
-  back_fine (Begin tx body order) r mails k f = (back_kept A G (Begin tx body order) r k f.0, f.1)
-  back_fine (Prepared tx offer) r mails k f = (back_kept A G (Prepared tx offer) r k f.0, f.1)
-  back_fine (RecordVote tx vote by) r mails k f = (back_kept A G (RecordVote tx vote by) r k f.0, f.1)
-  back_fine (GiveUp tx) r mails k f = (back_kept A G (GiveUp tx) r k f.0, f.1)
-  back_fine (Finish tx outcome) r mails k f = (back_kept A G (Finish tx outcome) r k f.0, f.1)
-  back_fine (Watched tx watch) r mails k f = (back_kept A G (Watched tx watch) r k f.0, f.1)
-  back_fine (RecordWatch tx vote by) r mails k f = (back_kept A G (RecordWatch tx vote by) r k f.0, f.1)
+  back_fine Noop r mails k d f = (back_kept A G Noop r k d f.0, f.1)
+  back_fine (Call client seq op) r mails k d f = (back_kept A G (Call client seq op) r k d f.0, f.1)
+  back_fine (Join node order) r mails k d f = (back_kept A G (Join node order) r k d f.0, f.1)
+  back_fine (Leave node order) r mails k d f = (back_kept A G (Leave node order) r k d f.0, f.1)
+  back_fine (Split at child order) r mails k d f = (back_kept A G (Split at child order) r k d f.0, f.1)
+  back_fine (Begin tx body order) r mails k d f = (back_kept A G (Begin tx body order) r k d f.0, f.1)
+  back_fine (Prepared tx offer) r mails k d f = (back_kept A G (Prepared tx offer) r k d f.0, f.1)
+  back_fine (RecordVote tx vote by) r mails k d f = (back_kept A G (RecordVote tx vote by) r k d f.0, f.1)
+  back_fine (GiveUp tx) r mails k d f = (back_kept A G (GiveUp tx) r k d f.0, f.1)
+  back_fine (Finish tx outcome) r mails k d f = (back_kept A G (Finish tx outcome) r k d f.0, f.1)
+  back_fine (Watched tx watch) r mails k d f = (back_kept A G (Watched tx watch) r k d f.0, f.1)
+  back_fine (RecordWatch tx vote by) r mails k d f = (back_kept A G (RecordWatch tx vote by) r k d f.0, f.1)
 
   told_fine : (before : Group) (answer : Option AnswerBody) (command : Command) (place : Place) (f : F place) → Kept A G command → IsBehind before command f.1.entries
       → ((client seq : ℕ) (op : Op) (said : AnswerBody) → command ≡ Call client seq op → answer ≡ Some said → IsCaused before client seq op said) → F (told_call answer command place)
@@ -166,10 +166,11 @@ module _ (start : ReplicaState) (A : Command → Type 0) (G : Draw → Type 0) w
   told_fine before (Some answer) (Call client seq op) (r, mails) f k b causes =
       let s = f.1 in (
         f.0,
-        resent start A G r mails _ s (sent_one (Caused start A G s.entries s.refused) (caused_plain start A G s.entries s.refused) mails (record { from = r.me; to = client_actor client; body = Answer (name_of r) seq answer })
-            (caused_so before client seq op s.entries s.refused answer k b (causes client seq op answer refl refl)) s.sent),
+        resent start A G W Q false false r mails _ s
+            (sent_one (Caused start A G W Q s.entries false false) (caused_plain start A G W Q s.entries false false) mails (record { from = r.me; to = client_actor client; body = Answer (name_of r) seq answer })
+            (record { own = s.name_is; client = client; op = op; receiver = refl; was_asked = k; cause = caused_so before client seq op s.entries answer b (causes client seq op answer refl refl) }) s.sent),
       )
-  told_fine before None (Call client seq op) (r, mails) f k b causes = back_fine (Call client seq op) r mails k f
+  told_fine before None (Call client seq op) (r, mails) f k b causes = back_fine (Call client seq op) r mails k tt f
   told_fine before (Some answer) _ place f k b causes = f
   told_fine before None _ place f k b causes = f
 
@@ -177,7 +178,7 @@ module _ (start : ReplicaState) (A : Command → Type 0) (G : Draw → Type 0) w
   unfolding told_effect
   effect_fine None command place f = f
   effect_fine (Some result) command (r, mails) f =
-      (f.0, resent start A G r mails _ f.1 (told_plain (Caused start A G f.1.entries f.1.refused) (caused_plain start A G f.1.entries f.1.refused) r.me (order_number command) result mails f.1.sent))
+      (f.0, resent start A G W Q false false r mails _ f.1 (told_plain (Caused start A G W Q f.1.entries false false) (caused_plain start A G W Q f.1.entries false false) r.me (order_number command) result mails f.1.sent))
 
   -- a counted command is one that was kept
   abbrev KeptIf : Bool → Command → Type 0
@@ -194,62 +195,115 @@ module _ (start : ReplicaState) (A : Command → Type 0) (G : Draw → Type 0) w
   spoken_fine : (counted : Bool) (before : Before) (effect : Effect) (command : Command) (place : Place) → F place → F (spoken counted before effect command place)
   unfolding spoken
   spoken_fine counted before effect command (r, mails) f =
-      (f.0, resent start A G r mails _ f.1 (spoken_plain (Caused start A G f.1.entries f.1.refused) (caused_plain start A G f.1.entries f.1.refused) counted r.me r.group before effect command mails f.1.sent))
+      (f.0, resent start A G W Q false false r mails _ f.1 (spoken_plain (Caused start A G W Q f.1.entries false false) (caused_plain start A G W Q f.1.entries false false) counted r.me r.group before effect command mails f.1.sent))
 
   learnt_fine : (counted : Bool) (nodes : List ℕ) (slot : ℕ) (command : Command) (place : Place) → F place → F (learnt_to counted nodes slot command place)
   unfolding learnt_to
   learnt_fine counted nodes slot command (r, mails) f =
       either_way F counted (r, sent_others r.me nodes (Learn (name_of r) slot command) mails) (r, mails)
-      (f.0, resent start A G r mails _ f.1 (others_plain (Caused start A G f.1.entries f.1.refused) (caused_plain start A G f.1.entries f.1.refused) r.me nodes (Learn (name_of r) slot command) mails tt f.1.sent)) f
+      (f.0, resent start A G W Q false false r mails _ f.1 (others_plain (Caused start A G W Q f.1.entries false false) (caused_plain start A G W Q f.1.entries false false) r.me nodes (Learn (name_of r) slot command) mails tt f.1.sent)) f
 
   cleared_fine : (slot : ℕ) (place : Place) → F place → F (cleared slot place)
   cleared_fine slot (r, mails) f = (
-    record { calls = f.0.calls; acts = f.0.acts; flights = flight_without (Kept A G) slot r.leader.flights f.0.flights; ready = slot_without (Kept A G) r.ready slot f.0.ready; reports = f.0.reports },
+    record { calls = f.0.calls; acts = f.0.acts; due = f.0.due; flights = flight_without (Kept A G) slot r.leader.flights f.0.flights; ready = slot_without (Kept A G) r.ready slot f.0.ready; reports = f.0.reports },
     f.1,
   )
 
+  -- what loses its slot goes back, and may
+  lost_fine : (counted : Bool) (slot : ℕ) (command : Command) (o : Option Command) (place : Place) → KeptOne A G o → ((other : Command) → o ≡ Some other → counted ≡ false → same_command other command ≡ false → Due A G other) → F place → F (slot_lost counted command o place.0, place.1)
+  lost_fine counted slot command None (r, mails) k d f = f
+  lost_fine counted slot command (Some other) (r, mails) k d f =
+      cond_both (counted || same_command other command) r (put_back other r) (λ (x : ReplicaState). F (x, mails)) (λ _. f)
+      (λ e. (let parts = or_parts counted (same_command other command) e in back_fine other r mails k (d other refl parts.0 parts.1) f))
+
+  landed_fine : (counted : Bool) (slot : ℕ) (command : Command) (place : Place) → KeptOne A G (flying place.0 slot) → ((other : Command) → flying place.0 slot ≡ Some other → counted ≡ false → same_command other command ≡ false → Due A G other) → F place → F (landed counted slot command place)
+  unfolding landed
+  landed_fine counted slot command (r, mails) k d f = lost_fine counted slot command (flying r slot) (cleared slot (r, mails)) k d (cleared_fine slot (r, mails) f)
+
   -- ---- the end of a leadership
 
-  gone_fine : (into : Route) (r : ReplicaState) (mails : List Mail) → Some into ≡ r.group.core.gone → F (r, mails) → F (ended None (Says.Gone into) (r, mails))
-  gone_fine into r mails g f =
-      ended_fine start A G None (Says.Gone into) r mails f (λ client seq op a. record {
-        front = f.1.entries;
-        rest = [];
-        are = sym (append-nil f.1.entries);
-        client = client;
-        op = op;
-        receiver = refl;
-        was_asked = a;
-        refuses = ap (λ group. group.core.gone) (sym f.1.group_is) ∙ sym g;
-      })
+  -- where a replica stands after an entry: if it runs, it has named no other leader and turned down no call that was not executed
+  record Past (place : Place) : Type 0 where
+    refused : Bool
+    turned : Bool
+    fine : FineAs start A G W Q refused turned place
+    runs : place.0.running ≡ true → (refused ≡ false) × (turned ≡ false)
 
-  left_by : (gone : Option Route) (r : ReplicaState) (mails : List Mail) → gone ≡ r.group.core.gone → F (r, mails) → F (left_gone gone (r, mails))
-  left_by (Some into) r mails g f = gone_fine into r mails g f
-  left_by None r mails g f = either_way F (is_member (members r) r.me) (r, mails) (stopped (Some (least_of (members r))) (r, mails)) f (stopped_fine start A G (Some (least_of (members r))) r mails f)
+  past : (place : Place) → F place → Past place
+  past place f = record { refused = false; turned = false; fine = f; runs = λ _. (refl, refl) }
 
-  left_fine : (place : Place) → F place → F (left place)
-  unfolding left
-  left_fine (r, mails) f = either_way F r.running (left_gone r.group.core.gone (r, mails)) (r, mails) (left_by r.group.core.gone r mails refl f) f
-
-  hinted_fine : (r : ReplicaState) (hint : Option ℕ) (mails : List Mail) → F (r, mails) → F (record r { hint = hint }, mails)
-  hinted_fine r hint mails f = (record { calls = f.0.calls; acts = f.0.acts; flights = f.0.flights; ready = f.0.ready; reports = f.0.reports }, f.1)
+  hinted_fine : (refused turned : Bool) (r : ReplicaState) (hint : Option ℕ) (mails : List Mail) → FineAs start A G W Q refused turned (r, mails) → FineAs start A G W Q refused turned (record r { hint = hint }, mails)
+  hinted_fine refused turned r hint mails f = (record { calls = f.0.calls; acts = f.0.acts; due = f.0.due; flights = f.0.flights; ready = f.0.ready; reports = f.0.reports }, f.1)
 
   looked_by : (gone : Option Route) (r : ReplicaState) (mails : List Mail) → F (r, mails) → F (looked_for gone (r, mails))
   looked_by (Some into) r mails f = f
   looked_by None r mails f =
       either_way F (is_among (members r) r.hint) (r, mails) _ f
       (either_way F (eqb (least_of (members r)) r.me) (elected (record r { hint = Some r.me }, mails)) (record r { hint = Some (least_of (members r)) }, mails)
-      (elected_fine start A G (record r { hint = Some r.me }) mails (hinted_fine r (Some r.me) mails f)) (hinted_fine r (Some (least_of (members r))) mails f))
+      (elected_fine start A G W Q false (record r { hint = Some r.me }) mails (hinted_fine false false r (Some r.me) mails f)) (hinted_fine false false r (Some (least_of (members r))) mails f))
 
   looked_fine : (place : Place) → F place → F (looked place)
   unfolding looked
   looked_fine (r, mails) f = either_way F r.running (r, mails) (looked_for r.group.core.gone (r, mails)) f (looked_by r.group.core.gone r mails f)
 
+  -- one whose group is gone looks for no leader
+  gone_looks : (P : Place → Type 0) (into : Route) (r : ReplicaState) (mails : List Mail) → Some into ≡ r.group.core.gone → P (r, mails) → P (looked (r, mails))
+  unfolding looked
+  gone_looks P into r mails g p = either_way P r.running (r, mails) (looked_for r.group.core.gone (r, mails)) p (subst (λ (o : Option Route). P (looked_for o (r, mails))) g p)
+
+  -- the least member is a member
+  least_is : (nodes : List ℕ) → 1 ≤ least_of nodes → is_member nodes (least_of nodes) ≡ true
+  least_is [] some = absurd (omega (arith, some))
+  least_is (node ∷ nodes) some = or_left (eqb node node) (list_any (λ member. eqb member node) nodes) (eq-eqb node node refl)
+
+  -- one that stopped where it is no member takes the least one for the leader, and is not elected
+  stopped_looks : (P : Place → Type 0) (r : ReplicaState) (mails : List Mail) → None ≡ r.group.core.gone → r.hint ≡ Some (least_of (members r)) → 1 ≤ r.me → P (r, mails) → P (record r { hint = Some (least_of (members r)) }, mails) → P (looked (r, mails))
+  unfolding looked
+  stopped_looks P r mails g h me p hinted =
+      let by : P (looked_for None (r, mails)) =
+      cond_both (is_among (members r) r.hint) (r, mails) _ P (λ _. p)
+      (λ e. cond_both (eqb (least_of (members r)) r.me) (elected (record r { hint = Some r.me }, mails)) (record r { hint = Some (least_of (members r)) }, mails) P
+      (λ k. (let same : least_of (members r) ≡ r.me = eqb-true (least_of (members r)) r.me k in
+      let member : is_member (members r) (least_of (members r)) ≡ true = least_is (members r) (omega (arith, same, me)) in
+      let none : is_member (members r) (least_of (members r)) ≡ false = subst (λ (o : Option ℕ). is_among (members r) o ≡ false) h e in absurd (true≢false (sym member ∙ none)))) (λ _. hinted)) in
+      either_way P r.running (r, mails) (looked_for r.group.core.gone (r, mails)) p (subst (λ (o : Option Route). P (looked_for o (r, mails))) g by)
+
+  gone_past : (into : Route) (r : ReplicaState) (mails : List Mail) → Some into ≡ r.group.core.gone → F (r, mails) → Past (looked (ended None (Says.Gone into) (r, mails)))
+  unfolding ended
+  gone_past into r mails g f =
+      let place : Place = ended None (Says.Gone into) (r, mails) in
+      let fine : FineAs start A G W Q false true place =
+      ended_fine start A G W Q false false false true None (Says.Gone into) r mails f (λ ms c. turned_caused start A G W Q f.1.entries false false ms c)
+      (λ client seq op. lacking start A G W Q false f.1.entries r.group client seq op (Says.Gone into) f.1.group_is (sym g)) in
+      gone_looks Past into place.0 place.1 g (record { refused = false; turned = true; fine = fine; runs = λ e. cc })
+
+  stopped_past : (r : ReplicaState) (mails : List Mail) → None ≡ r.group.core.gone → F (r, mails) → Past (looked (stopped (Some (least_of (members r))) (r, mails)))
+  unfolding ended
+  stopped_past r mails g f =
+      let place : Place = stopped (Some (least_of (members r))) (r, mails) in
+      let fine : FineAs start A G W Q true false place = stopped_fine start A G W Q false false (Some (least_of (members r))) r mails f in
+      let me_is = f.1.me_is in
+      let now : Past place = record { refused = true; turned = false; fine = fine; runs = λ e. cc } in
+      stopped_looks Past place.0 place.1 g refl (omega (arith, numbered, me_is)) now now
+
+  left_by : (gone : Option Route) (r : ReplicaState) (mails : List Mail) → gone ≡ r.group.core.gone → F (r, mails) → Past (looked (left_gone gone (r, mails)))
+  left_by (Some into) r mails g f = gone_past into r mails g f
+  left_by None r mails g f =
+      either_way (λ (p : Place). Past (looked p)) (is_member (members r) r.me) (r, mails) (stopped (Some (least_of (members r))) (r, mails)) (past (looked (r, mails)) (looked_fine (r, mails) f)) (stopped_past r mails g f)
+
+  left_past : (place : Place) → F place → Past (looked (left place))
+  unfolding left
+  left_past (r, mails) f = either_way (λ (p : Place). Past (looked p)) r.running (left_gone r.group.core.gone (r, mails)) (r, mails) (left_by r.group.core.gone r mails refl f) (past (looked (r, mails)) (looked_fine (r, mails) f))
+
   -- ---- an execution
 
-  one_fine : (counted : Bool) (command : Command) (place : Place) → KeptIf counted command → F place → F (executed_one counted command place)
+  -- a learnt command may take the slot of another, which may then go back
+  abbrev pub MayLose : Bool → Command → ReplicaState → Type 0
+  MayLose counted command r = (other : Command) → flying r (next r) ≡ Some other → counted ≡ false → same_command other command ≡ false → Due A G other
+
+  one_fine : (counted : Bool) (command : Command) (place : Place) → KeptIf counted command → MayLose counted command place.0 → F place → Past (executed_one counted command place)
   unfolding executed_one entered_fine
-  one_fine counted command (r, mails) k f =
+  one_fine counted command (r, mails) k d f =
       let effect : Effect = (applied r.group command).1 in
       let place0 : Place = (entered command r, mails) in
       let f0 : F place0 = entered_fine command r mails f in
@@ -261,17 +315,45 @@ module _ (start : ReplicaState) (A : Command → Type 0) (G : Draw → Type 0) w
       let place3 : Place = learnt_to counted (members r) (next r) command place2 in
       let f3 : F place3 = learnt_fine counted (members r) (next r) command place2 f2 in
       let place4 : Place = welcomed counted (members r) place3 in
-      let f4 : F place4 = welcomed_place F (welcomed_fine start A G) counted (members r) place3 f3 in
+      let f4 : F place4 = welcomed_place F (welcomed_fine start A G W Q false false) counted (members r) place3 f3 in
       let place5 : Place = landed counted (next r) command place4 in
-      let f5 : F place5 =
-      landed_place F (KeptOne A G) (λ other p o g. back_fine other p.0 p.1 o g) counted (next r) command place4 (flying_kept A G place4.0 (next r) f4.0)
-      (cleared_fine (next r) place4 f4) in
-      looked_fine (left place5) (left_fine place5 f5)
+      let leads : place4.0.leader ≡ r.leader = same_leader counted effect command r mails in
+      let flies : flying place4.0 (next r) ≡ flying r (next r) = ap (λ (leader : LeaderState Command). option_map (λ (flight : Flight Command). flight.value) (flight_at (next r) leader.flights)) leads in
+      let f5 : F place5 = landed_fine counted (next r) command place4 (flying_kept A G place4.0 (next r) f4.0) (λ other e. d other (sym flies ∙ e)) f4 in
+      left_past place5 f5
 
-  ready_kept : (r : ReplicaState) → Holds A G r → KeptOne A G (next_ready r)
-  ready_kept r h = either_way (KeptOne A G) (r.running && has_room r) (at_slot r.ready (next r)) None (opt_slot (Kept A G) r.ready (next r) h.ready) tt
+  -- ---- what was ready
+
+  past_fine : (place : Place) → Past place → Fine start A G W Q place
+  past_fine place p = (p.refused, turned_fine start A G W Q p.refused p.turned place p.fine)
+
+  -- one that runs goes on
+  goes_on : (place : Place) → Past place → place.0.running ≡ true → F place
+  goes_on place p e =
+      let none = p.runs e in
+      subst (λ (b : Bool). FineAs start A G W Q false b place) none.1 (subst (λ (b : Bool). FineAs start A G W Q b p.turned place) none.0 p.fine)
+
+  next_by : (b : Bool) (o : Option Command) (command : Command) → cond b o None ≡ Some command → (b ≡ true) × (o ≡ Some command)
+  next_by true o command e = (refl, e)
+  next_by false o command e = cc
+
+  ready_one : (es : List (ℕ × Command)) (place : Place) (o : Option Command) → next_ready place.0 ≡ o → Past place → ((p : Place) → Past p → Fine start A G W Q (executed_ready es p))
+      → Fine start A G W Q (elim o [ None ↦ place | Some command ↦ pumped (executed_ready es (executed_one true command place)) ])
+  ready_one es place None e p more = past_fine place p
+  ready_one es place (Some command) e p more =
+      let found = next_by (place.0.running && has_room place.0) (at_slot place.0.ready (next place.0)) command e in
+      let f : F place = goes_on place p (and_parts place.0.running (has_room place.0) found.0).0 in
+      let kept : Kept A G command = subst (KeptOne A G) found.1 (opt_slot (Kept A G) place.0.ready (next place.0) f.0.ready) in
+      pumped_still start A G W Q (executed_ready es (executed_one true command place)) (more (executed_one true command place) (one_fine true command place (λ _. kept) (λ other flies counted. cc) f))
+
+  ready_fine : (es : List (ℕ × Command)) (place : Place) → Past place → Fine start A G W Q (executed_ready es place)
+  unfolding executed_ready
+  ready_fine [] place p = past_fine place p
+  ready_fine (e ∷ es) place p = ready_one es place (next_ready place.0) refl p (λ q past. ready_fine es q past)
 
   -- the whole of an execution
-  pub executed_fine : (counted : Bool) (command : Command) (place : Place) → (counted ≡ true → Kept A G command) → F place → F (executed counted command place)
-  executed_fine counted command place k f =
-      executed_place F (KeptOne A G) (λ p g. ready_kept p.0 g.0) (λ x p d g. one_fine true x p (λ _. d) g) (pumped_fine start A G) counted command place (one_fine counted command place k f)
+  pub executed_fine : (counted : Bool) (command : Command) (place : Place) → (counted ≡ true → Kept A G command) → MayLose counted command place.0 → F place → Fine start A G W Q (executed counted command place)
+  unfolding executed
+  executed_fine counted command place k d f =
+      let after : Place = executed_one counted command place in
+      pumped_still start A G W Q (all_ready after) (ready_fine after.0.ready after (one_fine counted command place k d f))

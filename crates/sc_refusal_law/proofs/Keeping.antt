@@ -19,10 +19,10 @@ use Rattle.sc_draws_law.proofs.Lists.{opt_find, opt_map, opt_either, opt_slot, o
 use Rattle.sc_law_lemmas.proofs.Ways.{either_way}
 
 module _ (A : Command → Type 0) (G : Draw → Type 0) where
-  -- a call is one that was asked, and an end of waiting is one that may be
+  -- a call is one that was asked
   abbrev pub Kept : Command → Type 0
   Kept (Call client seq op) = A (Call client seq op)
-  Kept (GiveUp tx) = G tx
+  Kept (GiveUp tx) = Unit {0}
   Kept Noop = Unit {0}
   Kept (Join node order) = Unit {0}
   Kept (Leave node order) = Unit {0}
@@ -33,6 +33,24 @@ module _ (A : Command → Type 0) (G : Draw → Type 0) where
   Kept (Finish tx outcome) = Unit {0}
   Kept (Watched tx watch) = Unit {0}
   Kept (RecordWatch tx vote by) = Unit {0}
+
+  -- an end of waiting is one that may be queued
+  abbrev pub Due : Command → Type 0
+  Due (GiveUp tx) = G tx
+  Due (Call client seq op) = Unit {0}
+  Due Noop = Unit {0}
+  Due (Join node order) = Unit {0}
+  Due (Leave node order) = Unit {0}
+  Due (Split at child order) = Unit {0}
+  Due (Begin tx body order) = Unit {0}
+  Due (Prepared tx offer) = Unit {0}
+  Due (RecordVote tx vote by) = Unit {0}
+  Due (Finish tx outcome) = Unit {0}
+  Due (Watched tx watch) = Unit {0}
+  Due (RecordWatch tx vote by) = Unit {0}
+
+  abbrev pub DueAll : List Command → Type 0
+  DueAll commands = Each Due commands
 
   abbrev pub KeptAll : List Command → Type 0
   KeptAll commands = Each Kept commands
@@ -53,15 +71,16 @@ module _ (A : Command → Type 0) (G : Draw → Type 0) where
   pub record Holds (r : ReplicaState) : Type 0 where
     pub calls : KeptAll r.calls
     pub acts : KeptAll r.acts
+    pub due : DueAll r.acts
     pub flights : Each Flying r.leader.flights
     pub ready : Each Ready r.ready
     pub reports : Each Reported r.leader.reports
 
   pub with_calls : (r : ReplicaState) (commands : List Command) → KeptAll commands → Holds r → Holds (record r { calls = commands })
-  with_calls r commands c h = record { calls = c; acts = h.acts; flights = h.flights; ready = h.ready; reports = h.reports }
+  with_calls r commands c h = record { calls = c; acts = h.acts; due = h.due; flights = h.flights; ready = h.ready; reports = h.reports }
 
-  pub with_acts : (r : ReplicaState) (commands : List Command) → KeptAll commands → Holds r → Holds (record r { acts = commands })
-  with_acts r commands a h = record { calls = h.calls; acts = a; flights = h.flights; ready = h.ready; reports = h.reports }
+  pub with_acts : (r : ReplicaState) (commands : List Command) → KeptAll commands → DueAll commands → Holds r → Holds (record r { acts = commands })
+  with_acts r commands a d h = record { calls = h.calls; acts = a; due = d; flights = h.flights; ready = h.ready; reports = h.reports }
 
   -- ---- what goes back
 
@@ -73,21 +92,21 @@ module _ (A : Command → Type 0) (G : Draw → Type 0) where
   before_kept None client seq command calls k c = (k, c)
   before_kept (Some other) client seq command calls k c = either_way KeptAll (nat_lt other seq) _ _ (k, without_kept calls client c) c
 
-  pub back_kept : (command : Command) (r : ReplicaState) → Kept command → Holds r → Holds (put_back command r)
+  pub back_kept : (command : Command) (r : ReplicaState) → Kept command → Due command → Holds r → Holds (put_back command r)
   unfolding put_back
-  back_kept Noop r k h = h
-  back_kept (Call client seq op) r k h =
+  back_kept Noop r k d h = h
+  back_kept (Call client seq op) r k d h =
       with_calls r (call_before (call_of r.calls client) client seq (Call client seq op) r.calls) (before_kept (call_of r.calls client) client seq (Call client seq op) r.calls k h.calls) h
-  back_kept (Join node order) r k h = with_calls r (Join node order ∷ r.calls) (k, h.calls) h
-  back_kept (Leave node order) r k h = with_calls r (Leave node order ∷ r.calls) (k, h.calls) h
-  back_kept (Split at child order) r k h = with_calls r (Split at child order ∷ r.calls) (k, h.calls) h
-  back_kept (Begin tx body order) r k h = with_calls r (Begin tx body order ∷ r.calls) (k, h.calls) h
-  back_kept (Prepared tx offer) r k h = with_acts r (Prepared tx offer ∷ r.acts) (k, h.acts) h
-  back_kept (RecordVote tx vote by) r k h = with_acts r (RecordVote tx vote by ∷ r.acts) (k, h.acts) h
-  back_kept (GiveUp tx) r k h = with_acts r (GiveUp tx ∷ r.acts) (k, h.acts) h
-  back_kept (Finish tx outcome) r k h = with_acts r (Finish tx outcome ∷ r.acts) (k, h.acts) h
-  back_kept (Watched tx watch) r k h = with_acts r (Watched tx watch ∷ r.acts) (k, h.acts) h
-  back_kept (RecordWatch tx vote by) r k h = with_acts r (RecordWatch tx vote by ∷ r.acts) (k, h.acts) h
+  back_kept (Join node order) r k d h = with_calls r (Join node order ∷ r.calls) (k, h.calls) h
+  back_kept (Leave node order) r k d h = with_calls r (Leave node order ∷ r.calls) (k, h.calls) h
+  back_kept (Split at child order) r k d h = with_calls r (Split at child order ∷ r.calls) (k, h.calls) h
+  back_kept (Begin tx body order) r k d h = with_calls r (Begin tx body order ∷ r.calls) (k, h.calls) h
+  back_kept (Prepared tx offer) r k d h = with_acts r (Prepared tx offer ∷ r.acts) (k, h.acts) (d, h.due) h
+  back_kept (RecordVote tx vote by) r k d h = with_acts r (RecordVote tx vote by ∷ r.acts) (k, h.acts) (d, h.due) h
+  back_kept (GiveUp tx) r k d h = with_acts r (GiveUp tx ∷ r.acts) (k, h.acts) (d, h.due) h
+  back_kept (Finish tx outcome) r k d h = with_acts r (Finish tx outcome ∷ r.acts) (k, h.acts) (d, h.due) h
+  back_kept (Watched tx watch) r k d h = with_acts r (Watched tx watch ∷ r.acts) (k, h.acts) (d, h.due) h
+  back_kept (RecordWatch tx vote by) r k d h = with_acts r (RecordWatch tx vote by ∷ r.acts) (k, h.acts) (d, h.due) h
 
   -- ---- what is in flight, counted or reported
 

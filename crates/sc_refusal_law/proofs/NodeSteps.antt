@@ -1,10 +1,19 @@
 -- A node's whole step: each of its mails has its cause at a replica, and so has each end of waiting that is queued after it.
-use Rattle.std.proofs.Common.{◌≡◌, ℕ, ◌-◌, ◌^◌, inl, inr, ◌||◌, not, nat_lt, eqb, Bool, true, false, cond, List, [], ◌∷◌, ◌++◌, length, Option, Some, None, refl, sym, ap, subst, ◌∙◌, append-nil}
+use Rattle.std.proofs.Common.{◌≡◌, ◌≤◌, ◌+◌, arith, ◌∙◌, ℕ, ◌-◌, ◌^◌, inl, inr, ◌||◌, not, nat_lt, eqb, Bool, true, false, cond, List, [], ◌∷◌, ◌++◌, length, Option, Some, None, refl, sym, ap, subst, ◌∙◌, append-nil}
 use Rattle.std.specs.Prelude.{is_some}
 use Rattle.sc_base.specs.Among.{Among, Each}
 use Rattle.sc_base.specs.Drawing.{Drawer}
+use Rattle.std.proofs.lemmas.Bool.{and_parts}
+use Rattle.std.specs.Prelude.{⊤}
 use Rattle.sc_base.specs.Same.{same_draw}
+use Rattle.sc_cmd.specs.declared.bodies.Body.{Body}
+use Rattle.sc_cmd.specs.declared.cores.Lock.{Lock}
+use Rattle.sc_cmd.specs.declared.cores.Lock.TheVariants.{Free, Coordinating, Promised, Watching}
+use Rattle.sc_cmd.specs.declared.votes.Heard.{Heard}
+use Rattle.sc_base.specs.declared.names.Ballot.{Ballot}
 use Rattle.sc_base.specs.declared.names.Draw.{Draw}
+use Rattle.sc_actor.specs.declared.rows.Input.{Input}
+use Rattle.sc_actor.specs.declared.rows.Input.TheVariants.{Got, Tick, Told, Go}
 use Rattle.sc_cmd.specs.declared.commands.Command.TheVariants.{GiveUp}
 use Rattle.sc_cmd.specs.declared.cores.Base.{Base}
 use Rattle.sc_cmd.specs.declared.links.Route.{Route}
@@ -13,25 +22,27 @@ use Rattle.sc_mail.specs.declared.bodies.Mail.{Mail}
 use Rattle.sc_mail.specs.declared.bodies.MailBody.{MailBody}
 use Rattle.sc_mail.specs.declared.bodies.MailBody.TheVariants.{Install}
 use Rattle.sc_member.specs.Roster.{is_member, least_of}
-use Rattle.sc_paxos_words.proofs.ListLemmas.{Each-append, Each-from, Each-weaker, find_found}
+use Rattle.sc_paxos_words.proofs.ListLemmas.{Each-append, Each-among, Each-from, Each-weaker, find_found}
 use Rattle.sc_node_table.specs.declared.ReplicaInput.{ReplicaInput}
 use Rattle.sc_node_table.specs.declared.ReplicaInput.TheVariants as Given
 use Rattle.sc_node_table.specs.Births.{mailed_children}
 use Rattle.sc_node_table.specs.Election.{elected}
 use Rattle.sc_node_table.specs.Execute.{is_among, looked_for, looked}
 use Rattle.sc_node_table.specs.Install.{named}
-use Rattle.sc_node_table.specs.Node.{NodeState, replica_of, with_replica, is_before, with_new, group_of_mail, with_made, unknown, may_come, with_born, with_children, taken_by, routed, group_of_order, ordered_of, ticked, on_tick}
+use Rattle.sc_node_table.specs.Node.{NodeState, node_table, replica_of, with_replica, is_before, with_new, group_of_mail, with_made, unknown, may_come, with_born, with_children, taken_by, routed, group_of_order, ordered_of, ticked, on_tick}
 use Rattle.sc_node_table.specs.Ordering.{ordered_row}
 use Rattle.sc_node_table.specs.Policy.{names_after_tick}
-use Rattle.sc_node_table.specs.Replica.{ReplicaState, Place, name_of, members, born_replica, installed_replica, last_slot, forgotten}
+use Rattle.sc_node_table.specs.Replica.{ReplicaState, Place, settled, may_offer, first_set, name_of, members, born_replica, installed_replica, last_slot, forgotten}
 use Rattle.sc_node_table.specs.Rows.{tick_row, looked_up, made_by, mailed, stepped}
 use Rattle.sc_node_table.specs.Slots.{slots_ahead}
 use Rattle.sc_law_lemmas.proofs.Ways.{either_way}
-use Rattle.sc_refusal_law.specs.Causes.{NamesNoLeader}
-use Rattle.sc_refusal_law.specs.NodeCauses.{own_step, TakesInput, MailHasCause, ActsHaveCauses, NodeHasCauses, NodesHaveCauses}
+use Rattle.sc_refusal_law.specs.Causes.{at_node}
+use Rattle.sc_refusal_law.specs.NodeCauses.{TakesInput, MailHasCause, MayGiveUpAt, AnswersHaveCauses, ActsHaveCauses, NodeHasCauses, NodesHaveCauses, counted_ticks}
 use Rattle.sc_refusal_law.proofs.Joining.{tick_behind}
-use Rattle.sc_refusal_law.proofs.Steps.{steps_have_causes}
-use Rattle.sc_refusal_law.proofs.Strangers.{unknown_says}
+use Rattle.sc_refusal_law.proofs.Steps.{Shows}
+use Rattle.sc_refusal_law.proofs.Inputs.{step_shown}
+use Rattle.sc_refusal_law.proofs.Locking.{allowed}
+use Rattle.sc_refusal_law.proofs.Strangers.{P, unknown_says}
 
 -- ---- replicas in their order
 
@@ -73,35 +84,43 @@ module _ (T : ReplicaState → Type 0) where
   new_each new [] n k = (n, tt)
   new_each new (r ∷ replicas) n k = either_way Rs (is_before (name_of r) (name_of new)) _ _ (k.0, new_each new replicas n k.1) (n, k)
 
-  children_each : ((me : ℕ) (child : Base) → T (born_replica slots_ahead me child)) → (children : List Base) (node : NodeState) → Rs node.replicas → Rs (with_children children node).replicas
+  children_each : (me : ℕ) → ((child : Base) → T (born_replica slots_ahead me child)) → (children : List Base) (node : NodeState) → node.me ≡ me → Rs node.replicas → Rs (with_children children node).replicas
   unfolding with_children
-  children_each born [] node k = k
-  children_each born (child ∷ children) node k =
-      children_each born children (with_born child node)
-      (either_way (λ (n : NodeState). Rs n.replicas) (is_some (replica_of child.core.id node.replicas)) node (record node { replicas = with_new (born_replica slots_ahead node.me child) node.replicas }) k
-      (new_each (born_replica slots_ahead node.me child) node.replicas (born node.me child) k))
+  children_each me born [] node is k = k
+  children_each me born (child ∷ children) node is k =
+      let more : NodeState = record node { replicas = with_new (born_replica slots_ahead node.me child) node.replicas } in
+      let there : Bool = is_some (replica_of child.core.id node.replicas) in
+      children_each me born children (with_born child node) (either_way (λ (n : NodeState). n.me ≡ me) there node more is is)
+      (either_way (λ (n : NodeState). Rs n.replicas) there node more k (new_each (born_replica slots_ahead node.me child) node.replicas (subst (λ (n : ℕ). T (born_replica slots_ahead n child)) (sym is) (born child)) k))
 
--- ---- a replica that is made of a state that is sent has no act
+-- ---- a replica that is made of a state that is sent has waited for nothing, and has no act
 
-elected_acts : (r : ReplicaState) (mails : List Mail) → (elected (r, mails)).0.acts ≡ r.acts
+record IsNew (me : ℕ) (place : Place) : Type 0 where
+  me_is : place.0.me ≡ me
+  acts : place.0.acts ≡ []
+  waits : place.0.waits ≡ 0
+
+elected_new : (me : ℕ) (r : ReplicaState) (mails : List Mail) → IsNew me (r, mails) → IsNew me (elected (r, mails))
 unfolding elected
-elected_acts r mails = either_way (λ (p : Place). p.0.acts ≡ r.acts) (eqb r.top.round (2 ^ 32 - 1)) _ _ refl refl
+elected_new me r mails is = either_way (IsNew me) (eqb r.top.round (2 ^ 32 - 1)) _ _ is (record { me_is = is.me_is; acts = is.acts; waits = refl })
 
-for_acts : (gone : Option Route) (r : ReplicaState) (mails : List Mail) → (looked_for gone (r, mails)).0.acts ≡ r.acts
-for_acts (Some into) r mails = refl
-for_acts None r mails =
-    either_way (λ (p : Place). p.0.acts ≡ r.acts) (is_among (members r) r.hint) (r, mails) _ refl
-    (either_way (λ (p : Place). p.0.acts ≡ r.acts) (eqb (least_of (members r)) r.me) (elected (record r { hint = Some r.me }, mails)) (record r { hint = Some (least_of (members r)) }, mails) (elected_acts (record r { hint = Some r.me }) mails) refl)
+for_new : (me : ℕ) (gone : Option Route) (r : ReplicaState) (mails : List Mail) → IsNew me (r, mails) → IsNew me (looked_for gone (r, mails))
+for_new me (Some into) r mails is = is
+for_new me None r mails is =
+    let hinted : (hint : Option ℕ) → IsNew me (record r { hint = hint }, mails) = λ hint. record { me_is = is.me_is; acts = is.acts; waits = is.waits } in
+    either_way (IsNew me) (is_among (members r) r.hint) (r, mails) _ is
+    (either_way (IsNew me) (eqb (least_of (members r)) r.me) (elected (record r { hint = Some r.me }, mails)) (record r { hint = Some (least_of (members r)) }, mails)
+    (elected_new me (record r { hint = Some r.me }) mails (hinted (Some r.me))) (hinted (Some (least_of (members r)))))
 
-looked_acts : (r : ReplicaState) (mails : List Mail) → (looked (r, mails)).0.acts ≡ r.acts
+looked_new : (me : ℕ) (r : ReplicaState) (mails : List Mail) → IsNew me (r, mails) → IsNew me (looked (r, mails))
 unfolding looked
-looked_acts r mails = either_way (λ (p : Place). p.0.acts ≡ r.acts) r.running (r, mails) (looked_for r.group.core.gone (r, mails)) refl (for_acts r.group.core.gone r mails)
+looked_new me r mails is = either_way (IsNew me) r.running (r, mails) (looked_for r.group.core.gone (r, mails)) is (for_new me r.group.core.gone r mails is)
 
-made_acts : (me from : ℕ) (group : Draw) (slot : ℕ) (base : Base) (sets : List (List ℕ)) → (made_by me from group slot base sets).0.acts ≡ []
+made_new : (me from : ℕ) (group : Draw) (slot : ℕ) (base : Base) (sets : List (List ℕ)) → IsNew me (made_by me from group slot base sets)
 unfolding made_by looked_up forgotten
-made_acts me from group slot base sets =
+made_new me from group slot base sets =
     let r : ReplicaState = installed_replica me slot (named group base) sets in
-    either_way (λ (p : Place). p.0.acts ≡ []) (is_member (members r) from) (record r { hint = Some from }, []) (looked (r, [])) refl (looked_acts r [])
+    either_way (IsNew me) (is_member (members r) from) (record r { hint = Some from }, []) (looked (r, [])) (record { me_is = refl; acts = refl; waits = refl }) (looked_new me r [] (record { me_is = refl; acts = refl; waits = refl }))
 
 -- ---- the replicas tick
 
@@ -133,92 +152,219 @@ ticked_replicas T on drawer (r ∷ replicas) mails f = (
 
 -- ---- a node's step
 
-module _ (node : NodeState) (input : ReplicaInput) where
-  abbrev Acts : ReplicaState → Type 0
-  Acts later = ActsHaveCauses node input later
+-- what a replica of a node keeps: its node's number, and where it runs a bound of its waiting
+pub record Keeps (me : ℕ) (W : Draw → Ballot → Draw → ℕ) (r : ReplicaState) : Type 0 where
+  pub me_is : r.me ≡ me
+  pub patient : r.running ≡ true → r.waits ≤ allowed (W (name_of r)) r.leader.ballot r.group.core.lock
 
-  abbrev Step : NodeState × List Mail → Type 0
-  Step step = NodeHasCauses node input step
+-- a tick more is within the bound after it
+abbrev pub CountsTick : (W W' : Draw → Ballot → Draw → ℕ) → ReplicaState → Type 0
+CountsTick W W' r =
+    settled r ≡ true → (tx : Draw) (body : Body) (order : ℕ) (heard : Option Heard) → r.group.core.lock ≡ Coordinating tx body order heard → W (name_of r) r.leader.ballot tx + 1 ≤ W' (name_of r) r.leader.ballot tx
 
-  -- a replica that takes no step queues nothing
-  untouched : Each Acts node.replicas
-  untouched =
-      Each-from Acts node.replicas (λ r stood tx queued. record { replica = r; drawer = node.draws; stood = stood; is_later = inl refl; may = inl (inl (inr (inl queued))) })
+pub running_of : (r : ReplicaState) → settled r ≡ true → r.running ≡ true
+running_of r e = (and_parts r.running (may_offer r (first_set r.sets)) e).0
 
-  still : Step (node, [])
-  still = record { answers = tt; acts = untouched }
+module _ (me : ℕ) (W W' : Draw → Ballot → Draw → ℕ) (grows : (name : Draw) (ballot : Ballot) (tx : Draw) → W name ballot tx ≤ W' name ballot tx) where
+  more_allowed : (name : Draw) (ballot : Ballot) (lock : Lock) → allowed (W name) ballot lock ≤ allowed (W' name) ballot lock
+  more_allowed name ballot (Coordinating tx body order heard) = grows name ballot tx
+  more_allowed name ballot Free = omega arith
+  more_allowed name ballot (Promised tx offer) = omega arith
+  more_allowed name ballot (Watching tx watch) = omega arith
 
-  -- one that takes a step
-  stepped_acts : (drawer : Drawer) (r : ReplicaState) → Among r node.replicas → TakesInput node input r → Acts (own_step node drawer input r).0
-  stepped_acts drawer r stood takes tx queued = record { replica = r; stood = stood; drawer = drawer; is_later = inr (takes, refl); may = (steps_have_causes node.policy drawer r input).acts tx queued }
+  still_keeps : (r : ReplicaState) → Keeps me W r → Keeps me W' r
+  still_keeps r k = record { me_is = k.me_is; patient = λ runs. (let few = k.patient runs in let more = more_allowed (name_of r) r.leader.ballot r.group.core.lock in omega (arith, few, more)) }
 
-  stepped_mails : (after : NodeState) (drawer : Drawer) (r : ReplicaState) → TakesInput node input r → Among (own_step node drawer input r).0 after.replicas → Each (λ (mail : Mail). MailHasCause node after input mail) (own_step node drawer input r).1
-  stepped_mails after drawer r takes stands =
-      Each-from (λ (mail : Mail). MailHasCause node after input mail) (own_step node drawer input r).1
-      (λ mail sends. inl (record { replica = r; takes = takes; drawer = drawer; stands = stands; sends = sends; causes = steps_have_causes node.policy drawer r input }))
+  -- a replica's own step keeps it
+  step_keeps : (on : Bool) (drawer : Drawer) (r : ReplicaState) (input : ReplicaInput) → 1 ≤ me → (input ≡ Given.Tick → CountsTick W W' r) → Keeps me W r → Keeps me W' (stepped on drawer input (r, [])).0
+  step_keeps on drawer r input some counts k =
+      let is = k.me_is in
+      let now = still_keeps r k in
+      let shown = step_shown r (W' (name_of r)) ⊤ (omega (arith, some, is)) (λ q runs. now.patient runs) on drawer input (λ tick leads q tx body order heard lock. (
+      let few : r.waits ≤ W (name_of r) r.leader.ballot tx = subst (λ (l : Lock). r.waits ≤ allowed (W (name_of r)) r.leader.ballot l) lock (k.patient (running_of r leads)) in
+      let more = counts tick leads tx body order heard lock in omega (arith, few, more))) in
+      let after : ReplicaState = (stepped on drawer input (r, [])).0 in
+      record { me_is = shown.me_is ∙ is; patient = λ runs. subst (λ (name : Draw). after.waits ≤ allowed (W' name) after.leader.ballot after.group.core.lock) (sym shown.name_is) (shown.patient tt runs) }
+
+  -- so is one that is made
+  new_keeps : (r : ReplicaState) → r.me ≡ me → r.waits ≡ 0 → Keeps me W' r
+  new_keeps r is none = record { me_is = is; patient = λ runs. omega (arith, none) }
+
+  abbrev Ks : List ReplicaState → Type 0
+  Ks replicas = Each (Keeps me W') replicas
+
+  pub still_all : (replicas : List ReplicaState) → Each (Keeps me W) replicas → Ks replicas
+  still_all replicas k = Each-weaker (Keeps me W) (Keeps me W') (λ r x. still_keeps r x) replicas k
+
+  module _ (node : NodeState) (own : node.me ≡ me) (some : 1 ≤ me) (keep : Each (Keeps me W) node.replicas) where
+    unknown_keep : (from : ℕ) (body : MailBody) → Ks (unknown from body node).0.replicas
+    unknown_keep from (Install group slot base sets) =
+        let place : Place = made_by node.me from group slot base sets in
+        let new = made_new node.me from group slot base sets in
+        either_way (λ (step : NodeState × List Mail). Ks step.0.replicas) (not (eqb (length sets) slots_ahead) || nat_lt last_slot slot) (node, []) (with_made place node) (still_all node.replicas keep)
+        (new_each (Keeps me W') place.0 node.replicas (new_keeps place.0 (new.me_is ∙ own) new.waits) (still_all node.replicas keep))
+    unknown_keep from _ = still_all node.replicas keep
+
+    taken_keep : (mail : Mail) (o : Option ReplicaState) (group : Draw) → replica_of group node.replicas ≡ o → Ks (taken_by o group mail.from mail.body node).0.replicas
+    unfolding stepped
+    taken_keep mail None group e = unknown_keep mail.from mail.body
+    taken_keep mail (Some r) group e =
+        let stood : Among r node.replicas = (find_found (λ (other : ReplicaState). same_draw (name_of other) group) node.replicas r e).0 in
+        let new : Place = mailed mail.from mail.body (r, []) in
+        let kept : Keeps me W' new.0 = step_keeps node.policy node.draws r (Given.Got mail) some (λ tick. cc) (Each-among (Keeps me W) node.replicas r keep stood) in
+        let children : List Base = mailed_children mail.from mail.body (r, []) [] in
+        let put : NodeState = record node { replicas = with_replica group new.0 node.replicas } in
+        children_each (Keeps me W') node.me (λ child. new_keeps (born_replica slots_ahead node.me child) own refl) children put refl (put_each (Keeps me W') group new.0 node.replicas kept (still_all node.replicas keep))
+
+    routed_keep : (mail : Mail) (o : Option Draw) → Ks (routed o mail.from mail.body node).0.replicas
+    routed_keep mail None = still_all node.replicas keep
+    routed_keep mail (Some group) = taken_keep mail (replica_of group node.replicas) group refl
+
+    ordered_keep : (line : OrderLine) (o : Option ReplicaState) → replica_of (group_of_order line.order) node.replicas ≡ o → Ks (ordered_of o line node).0.replicas
+    unfolding stepped
+    ordered_keep line None e = still_all node.replicas keep
+    ordered_keep line (Some r) e =
+        let group : Draw = group_of_order line.order in
+        let stood : Among r node.replicas = (find_found (λ (other : ReplicaState). same_draw (name_of other) group) node.replicas r e).0 in
+        put_each (Keeps me W') group (ordered_row node.draws line (r, [])).0 node.replicas (step_keeps node.policy node.draws r (Given.Told line) some (λ tick. cc) (Each-among (Keeps me W) node.replicas r keep stood)) (still_all node.replicas keep)
+
+    -- a node's step keeps it, if its ticks are counted
+    pub node_keeps : (input : Input Mail OrderLine) → (input ≡ Tick → (r : ReplicaState) → Among r node.replicas → CountsTick W W' r) → Ks (node_table node input).0.replicas
+    unfolding stepped
+    node_keeps (Got mail) counts =
+        either_way (λ (step : NodeState × List Mail). Ks step.0.replicas) (may_come mail.from mail.body) (routed (group_of_mail mail.body) mail.from mail.body node) (node, []) (routed_keep mail (group_of_mail mail.body)) (still_all node.replicas keep)
+    node_keeps Tick counts =
+        ticked_replicas (Keeps me W') node.policy node.draws node.replicas [] (λ r stood names. step_keeps node.policy names r Given.Tick some (λ tick. counts refl r stood) (Each-among (Keeps me W) node.replicas r keep stood))
+    node_keeps (Told line) counts = ordered_keep line (replica_of (group_of_order line.order) node.replicas) refl
+    node_keeps Go counts = still_all node.replicas keep
+
+-- ---- the causes of a node's step
+
+module _ (node : NodeState) (numbered : Each (λ (r : ReplicaState). 1 ≤ r.me) node.replicas) (after : NodeState) where
+  -- a replica's own step
+  abbrev own_step : Drawer → ReplicaInput → ReplicaState → Place
+  own_step drawer input r = stepped node.policy drawer input (r, [])
+
+  abbrev May : Input Mail OrderLine → ReplicaState → Type 0
+  May input later = (tx : Draw) → Among (GiveUp tx) later.acts → MayGiveUpAt counted_ticks node after input later tx
+
+  shows : (drawer : Drawer) (input : ReplicaInput) (r : ReplicaState) → Among r node.replicas → Shows r (at_node input) (λ ballot tx. 0) ⊥ (λ never. absurd never) (own_step drawer input r)
+  shows drawer input r stood =
+      step_shown r (λ ballot tx. 0) ⊥ (Each-among (λ (x : ReplicaState). 1 ≤ x.me) node.replicas r numbered stood) (λ never. absurd never) node.policy drawer input (λ tick leads never. absurd never)
+
+  -- what it sends
+  step_mails : (drawer : Drawer) (input : ReplicaInput) (r : ReplicaState) → Among r node.replicas → TakesInput node (at_node input) r → Among (own_step drawer input r).0 after.replicas → AnswersHaveCauses node (at_node input) after (own_step drawer input r).1
+  step_mails drawer input r stood takes stands =
+      let s = shows drawer input r stood in
+      Each-from (λ (mail : Mail). MailHasCause node after (at_node input) mail) (own_step drawer input r).1
+      (λ mail sends. inl (record { replica = r; later = (own_step drawer input r).0; became = record { stood = stood; stands = stands; same = s.name_is }; takes = takes; mails = (own_step drawer input r).1; sends = sends; causes = s.causes }))
+
+  -- what it queues
+  step_acts : (drawer : Drawer) (input : ReplicaInput) (r : ReplicaState) → Among r node.replicas → TakesInput node (at_node input) r → Among (own_step drawer input r).0 after.replicas → May (at_node input) (own_step drawer input r).0
+  step_acts drawer input r stood takes stands tx queued =
+      let s = shows drawer input r stood in
+      record { replica = r; became = record { stood = stood; stands = stands; same = s.name_is }; may = inr (takes, s.causes.acts tx queued) }
+
+  -- one that takes no step
+  still_acts : (input : Input Mail OrderLine) (r : ReplicaState) → Among r node.replicas → Among r after.replicas → May input r
+  still_acts input r stood stands tx queued = record { replica = r; became = record { stood = stood; stands = stands; same = refl }; may = inl queued }
+
+  -- what holds of a replica that stands after the step
+  abbrev T : Input Mail OrderLine → ReplicaState → Type 0
+  T input later = Among later after.replicas → May input later
+
+  -- all that take no step
+  untouched : (input : Input Mail OrderLine) → Each (T input) node.replicas
+  untouched input = Each-from (T input) node.replicas (λ r stood stands. still_acts input r stood stands)
 
   -- one that is made has nothing queued
-  none_queued : (r : ReplicaState) → r.acts ≡ [] → Acts r
-  none_queued r none tx queued = absurd (subst (λ acts. Among (GiveUp tx) acts) none queued)
+  none_queued : (input : Input Mail OrderLine) (r : ReplicaState) → r.acts ≡ [] → T input r
+  none_queued input r none stands tx queued = absurd (subst (λ acts. Among (GiveUp tx) acts) none queued)
+
+  -- what is shown so of all replicas after the step
+  all_acts : (input : Input Mail OrderLine) → Each (T input) after.replicas → ActsHaveCauses counted_ticks node input after
+  all_acts input ts later stands = Each-among (T input) after.replicas later ts stands stands
 
 -- ---- a mail
 
-unknown_acts : (node : NodeState) (mail : Mail) (from : ℕ) (body : MailBody) → Each (Acts node (Given.Got mail)) (unknown from body node).0.replicas
-unknown_acts node mail from (Install group slot base sets) =
-    let place : Place = made_by node.me from group slot base sets in
-    either_way (λ (step : NodeState × List Mail). Each (Acts node (Given.Got mail)) step.0.replicas) (not (eqb (length sets) slots_ahead) || nat_lt last_slot slot) (node, []) (with_made place node)
-    (untouched node (Given.Got mail)) (new_each (Acts node (Given.Got mail)) place.0 node.replicas (none_queued node (Given.Got mail) place.0 (made_acts node.me from group slot base sets)) (untouched node (Given.Got mail)))
-unknown_acts node mail from _ = untouched node (Given.Got mail)
+module _ (node : NodeState) (numbered : Each (λ (r : ReplicaState). 1 ≤ r.me) node.replicas) where
+  -- what a step shows
+  abbrev Step : Input Mail OrderLine → NodeState × List Mail → Type 0
+  Step input step = NodeHasCauses node input step.0 step.1
 
-taken_causes : (node : NodeState) (mail : Mail) (o : Option ReplicaState) (group : Draw) → group_of_mail mail.body ≡ Some group → replica_of group node.replicas ≡ o → NodeHasCauses node (Given.Got mail) (taken_by o group mail.from mail.body node)
-unfolding stepped
-taken_causes node mail None group named e = record {
-  answers = Each-weaker (λ (sent : Mail). NamesNoLeader sent.body) (λ (sent : Mail). MailHasCause node (unknown mail.from mail.body node).0 (Given.Got mail) sent) (λ sent names. inr ((group, named, e), names))
-      (unknown mail.from mail.body node).1 (unknown_says mail.from mail.body node);
-  acts = unknown_acts node mail mail.from mail.body;
-}
-taken_causes node mail (Some r) group named e =
-    let input = Given.Got mail in
-    let new : Place = mailed mail.from mail.body (r, []) in
-    let children : List Base = mailed_children mail.from mail.body (r, []) [] in
-    let put : NodeState = record node { replicas = with_replica group new.0 node.replicas } in
-    let stood : Among r node.replicas = (find_found (λ (other : ReplicaState). same_draw (name_of other) group) node.replicas r e).0 in
-    let stands : Among new.0 (with_children children put).replicas = children_among new.0 children put (put_among group new.0 r node.replicas e) in
-    record {
-      answers = stepped_mails node input (with_children children put) node.draws r (group, named, e) stands;
-      acts = children_each (Acts node input) (λ me child tx queued. absurd queued) children put (put_each (Acts node input) group new.0 node.replicas (stepped_acts node input node.draws r stood (group, named, e)) (untouched node input));
-    }
+  idle : (input : Input Mail OrderLine) → Step input (node, [])
+  idle input = record { answers = tt; acts = all_acts node numbered node input (untouched node numbered node input) }
 
-routed_causes : (node : NodeState) (mail : Mail) (o : Option Draw) → group_of_mail mail.body ≡ o → NodeHasCauses node (Given.Got mail) (routed o mail.from mail.body node)
-routed_causes node mail None named = still node (Given.Got mail)
-routed_causes node mail (Some group) named = taken_causes node mail (replica_of group node.replicas) group named refl
+  unknown_acts : (mail : Mail) (from : ℕ) (body : MailBody) (after : NodeState) → Each (T node numbered after (Got mail)) (unknown from body node).0.replicas
+  unknown_acts mail from (Install group slot base sets) after =
+      let place : Place = made_by node.me from group slot base sets in
+      let t = untouched node numbered after (Got mail) in
+      either_way (λ (step : NodeState × List Mail). Each (T node numbered after (Got mail)) step.0.replicas) (not (eqb (length sets) slots_ahead) || nat_lt last_slot slot) (node, []) (with_made place node) t
+      (new_each (T node numbered after (Got mail)) place.0 node.replicas (none_queued node numbered after (Got mail) place.0 (made_new node.me from group slot base sets).acts) t)
+  unknown_acts mail from _ after = untouched node numbered after (Got mail)
 
--- ---- an order
+  taken_causes : (mail : Mail) (o : Option ReplicaState) (group : Draw) → group_of_mail mail.body ≡ Some group → replica_of group node.replicas ≡ o → Step (Got mail) (taken_by o group mail.from mail.body node)
+  unfolding stepped
+  taken_causes mail None group named e =
+      let after : NodeState = (unknown mail.from mail.body node).0 in
+      record {
+        answers = Each-weaker (P node mail group e) (λ (sent : Mail). MailHasCause node after (Got mail) sent) (λ sent turns. inr turns) (unknown mail.from mail.body node).1 (unknown_says node mail group e named);
+        acts = all_acts node numbered after (Got mail) (unknown_acts mail mail.from mail.body after);
+      }
+  taken_causes mail (Some r) group named e =
+      let input = Given.Got mail in
+      let new : Place = mailed mail.from mail.body (r, []) in
+      let children : List Base = mailed_children mail.from mail.body (r, []) [] in
+      let put : NodeState = record node { replicas = with_replica group new.0 node.replicas } in
+      let after : NodeState = with_children children put in
+      let stood : Among r node.replicas = (find_found (λ (other : ReplicaState). same_draw (name_of other) group) node.replicas r e).0 in
+      let stands : Among new.0 after.replicas = children_among new.0 children put (put_among group new.0 r node.replicas e) in
+      let t = T node numbered after (Got mail) in
+      record {
+        answers = step_mails node numbered after node.draws input r stood (group, named, e) stands;
+        acts = all_acts node numbered after (Got mail)
+            (children_each t node.me (λ child here tx queued. absurd queued) children put refl
+            (put_each t group new.0 node.replicas (λ here. step_acts node numbered after node.draws input r stood (group, named, e) here) (untouched node numbered after (Got mail))));
+      }
 
-ordered_causes : (node : NodeState) (line : OrderLine) (o : Option ReplicaState) → replica_of (group_of_order line.order) node.replicas ≡ o → NodeHasCauses node (Given.Told line) (ordered_of o line node)
-unfolding stepped
-ordered_causes node line None e = record { answers = (inr (e, tt), tt); acts = untouched node (Given.Told line) }
-ordered_causes node line (Some r) e =
-    let input = Given.Told line in
-    let group : Draw = group_of_order line.order in
-    let new : Place = ordered_row node.draws line (r, []) in
-    let stood : Among r node.replicas = (find_found (λ (other : ReplicaState). same_draw (name_of other) group) node.replicas r e).0 in
-    record {
-      answers = stepped_mails node input (ordered_of (Some r) line node).0 node.draws r e (put_among group new.0 r node.replicas e);
-      acts = put_each (Acts node input) group new.0 node.replicas (stepped_acts node input node.draws r stood e) (untouched node input);
-    }
+  routed_causes : (mail : Mail) (o : Option Draw) → group_of_mail mail.body ≡ o → Step (Got mail) (routed o mail.from mail.body node)
+  routed_causes mail None named = idle (Got mail)
+  routed_causes mail (Some group) named = taken_causes mail (replica_of group node.replicas) group named refl
 
--- ---- a tick
+  -- ---- an order
 
-tick_causes : (node : NodeState) → NodeHasCauses node Given.Tick (on_tick node)
-unfolding stepped
-tick_causes node = record {
-  answers = ticked_each (λ (mail : Mail). MailHasCause node (on_tick node).0 Given.Tick mail) node.policy node.draws node.replicas [] tt (λ r stood names stands. stepped_mails node Given.Tick (on_tick node).0 names r stood stands);
-  acts = ticked_replicas (Acts node Given.Tick) node.policy node.draws node.replicas [] (λ r stood names. stepped_acts node Given.Tick names r stood stood);
-}
+  ordered_causes : (line : OrderLine) (o : Option ReplicaState) → replica_of (group_of_order line.order) node.replicas ≡ o → Step (Told line) (ordered_of o line node)
+  unfolding stepped
+  ordered_causes line None e = record { answers = (inr tt, tt); acts = all_acts node numbered node (Told line) (untouched node numbered node (Told line)) }
+  ordered_causes line (Some r) e =
+      let input = Given.Told line in
+      let group : Draw = group_of_order line.order in
+      let new : Place = ordered_row node.draws line (r, []) in
+      let after : NodeState = (ordered_of (Some r) line node).0 in
+      let stood : Among r node.replicas = (find_found (λ (other : ReplicaState). same_draw (name_of other) group) node.replicas r e).0 in
+      let stands : Among new.0 after.replicas = put_among group new.0 r node.replicas e in
+      record {
+        answers = step_mails node numbered after node.draws input r stood e stands;
+        acts = all_acts node numbered after (Told line)
+            (put_each (T node numbered after (Told line)) group new.0 node.replicas (λ here. step_acts node numbered after node.draws input r stood e here) (untouched node numbered after (Told line)));
+      }
+
+  -- ---- a tick
+
+  tick_causes : Step Tick (on_tick node)
+  unfolding stepped
+  tick_causes =
+      let after : NodeState = (on_tick node).0 in
+      record {
+        answers = ticked_each (λ (mail : Mail). MailHasCause node after Tick mail) node.policy node.draws node.replicas [] tt (λ r stood names stands. step_mails node numbered after names Given.Tick r stood stood stands);
+        acts = all_acts node numbered after Tick
+            (ticked_replicas (T node numbered after Tick) node.policy node.draws node.replicas [] (λ r stood names. (λ here. step_acts node numbered after names Given.Tick r stood stood here)));
+      }
 
 pub nodes_have_causes : NodesHaveCauses
-nodes_have_causes node (Given.Got mail) =
-    either_way (NodeHasCauses node (Given.Got mail)) (may_come mail.from mail.body) (routed (group_of_mail mail.body) mail.from mail.body node) (node, []) (routed_causes node mail (group_of_mail mail.body) refl) (still node (Given.Got mail))
-nodes_have_causes node Given.Tick = tick_causes node
-nodes_have_causes node (Given.Told line) = ordered_causes node line (replica_of (group_of_order line.order) node.replicas) refl
+nodes_have_causes node (Got mail) numbered =
+    either_way (λ (step : NodeState × List Mail). NodeHasCauses node (Got mail) step.0 step.1) (may_come mail.from mail.body) (routed (group_of_mail mail.body) mail.from mail.body node) (node, [])
+    (routed_causes node numbered mail (group_of_mail mail.body) refl) (idle node numbered (Got mail))
+nodes_have_causes node Tick numbered = tick_causes node numbered
+nodes_have_causes node (Told line) numbered = ordered_causes node numbered line (replica_of (group_of_order line.order) node.replicas) refl
+nodes_have_causes node Go numbered = idle node numbered Go

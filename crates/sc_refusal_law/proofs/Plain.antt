@@ -44,16 +44,16 @@ use Rattle.sc_refusal_law.specs.Causes.{IfAnswer}
 
 -- a mail that is no answer
 abbrev pub IsPlain : MailBody → Type 0
-IsPlain body = IfAnswer (λ seq answer. ⊥) body
+IsPlain body = IfAnswer (λ group seq answer. ⊥) body
 
 -- a fact of an answer that follows from another
-pub answer_weaker : (P Q : ℕ → AnswerBody → Type 0) → ((seq : ℕ) (answer : AnswerBody) → P seq answer → Q seq answer) → (body : MailBody) → IfAnswer P body → IfAnswer Q body
-answer_weaker P Q f (Answer group seq answer) p = f seq answer p
+pub answer_weaker : (P Q : Draw → ℕ → AnswerBody → Type 0) → ((group : Draw) (seq : ℕ) (answer : AnswerBody) → P group seq answer → Q group seq answer) → (body : MailBody) → IfAnswer P body → IfAnswer Q body
+answer_weaker P Q f (Answer group seq answer) p = f group seq answer p
 answer_weaker P Q f _ p = p
 
 -- what is no answer has any fact of answers
-pub plain_has : (P : ℕ → AnswerBody → Type 0) (body : MailBody) → IsPlain body → IfAnswer P body
-plain_has P body p = answer_weaker (λ seq answer. ⊥) P (λ seq answer none. absurd none) body p
+pub plain_has : (P : Draw → ℕ → AnswerBody → Type 0) (body : MailBody) → IsPlain body → IfAnswer P body
+plain_has P body p = answer_weaker (λ group seq answer. ⊥) P (λ group seq answer none. absurd none) body p
 
 question_plain : (me : ℕ) (core : Core) (tx : Draw) (body : Body) (heard : Option Heard) → IsPlain (question me core tx body heard)
 question_plain me core tx At.Merge None = tt

@@ -1,9 +1,10 @@
 -- The rows of requests, ticks, transactions and orders, and a whole step.
-use Rattle.std.proofs.Common.{◌≡◌, ℕ, ◌+◌, ◌-◌, ◌≤◌, ◌^◌, ◌&&◌, ◌||◌, not, nat_le, eqb, Bool, true, false, List, [], ◌∷◌, ◌++◌, Option, Some, None, refl, sym, subst, inl, arith, append-nil}
+use Rattle.std.proofs.Common.{◌≡◌, ℕ, ◌+◌, ◌-◌, ◌≤◌, ◌^◌, ◌&&◌, ◌||◌, not, nat_le, eqb, Bool, true, false, List, [], ◌∷◌, ◌++◌, Option, Some, None, refl, sym, subst, arith}
 use Rattle.std.specs.Prelude.{is_some}
 use Rattle.std.proofs.lemmas.Bool.{cond_both, leb-true, and_parts, not-true, not-false}
 use Rattle.sc_base.specs.Drawing.{Drawer, next_name}
 use Rattle.sc_base.specs.Limits.{client_actor}
+use Rattle.sc_base.specs.declared.names.Ballot.{Ballot}
 use Rattle.sc_base.specs.declared.names.Draw.{Draw}
 use Rattle.sc_base.specs.declared.ops.Op.{Op}
 use Rattle.sc_ideal.specs.IdealStore.{key_of, holds_key}
@@ -45,142 +46,153 @@ use Rattle.sc_node_table.specs.Replica.{ReplicaState, Place, name_of, next, memb
 use Rattle.sc_node_table.specs.Rows.{call_refusal, refused_at, queued, requested, request_row, asked_again, told_last, tick_row}
 use Rattle.sc_node_table.specs.Transactions.{noted_outcome, standing_vote, sent_elsewhere, offered_by, offer_row, watched_by, watch_row, awaits_vote, awaits_watch, told_outcome, vote_queued, vote_met, vote_row, watch_queued, watch_met, watched_row, asked_next, elsewhere_row, is_bound, outcome_row}
 use Rattle.sc_law_lemmas.proofs.Ways.{either_way}
-use Rattle.sc_refusal_law.specs.Causes.{RefusesCall}
-use Rattle.sc_refusal_law.proofs.Keeping.{Kept, with_calls, with_acts, without_kept}
+use Rattle.sc_refusal_law.specs.Causes.{LacksKey}
+use Rattle.sc_refusal_law.proofs.Keeping.{Kept, Due, with_calls, with_acts, without_kept}
 use Rattle.sc_refusal_law.proofs.Plain.{sent_one, again_plain, last_plain, reminders_plain, vote_plain, watched_plain, next_plain}
-use Rattle.sc_refusal_law.proofs.Standing.{Caused, CausedAnswer, caused_plain, stopped_caused, Fine, resent, with_plain, refused_answer}
+use Rattle.sc_refusal_law.proofs.Standing.{CauseSo, Caused, CausedAnswer, caused_plain, stopped_caused, FineAs, Fine, resent, with_plain}
+use Rattle.sc_refusal_law.proofs.Locking.{allowed}
 use Rattle.sc_refusal_law.proofs.Stopping.{elected_fine}
-use Rattle.sc_refusal_law.proofs.Pumping.{FineSo, pumped_so, pumped_fine}
+use Rattle.sc_refusal_law.proofs.Pumping.{lacking, pumped_fine}
 
-module _ (start : ReplicaState) (A : Command → Type 0) (G : Draw → Type 0) where
+module _ (start : ReplicaState) (A : Command → Type 0) (G : Draw → Type 0) (W : Ballot → Draw → ℕ) (Q : Type 0) where
   abbrev F : Place → Type 0
-  F place = Fine start A G place
+  F place = FineAs start A G W Q false true place
+
+  abbrev After : Place → Type 0
+  After place = Fine start A G W Q place
 
   -- ---- Request
 
   -- why a request is not taken
-  abbrev pub Untaken : ReplicaState → ℕ → ℕ → Op → AnswerBody → Type 0
-  Untaken r client seq op (Says.Value reply) = ⊥
-  Untaken r client seq op (Says.NotLeader hint) = r.running ≡ false
-  Untaken r client seq op (Says.NotMine arc succ) = RefusesCall r.group client seq op (Says.NotMine arc succ)
-  Untaken r client seq op (Says.Gone into) = RefusesCall r.group client seq op (Says.Gone into)
-  Untaken r client seq op (Says.Stale last) = ⊥
+  abbrev pub Untaken : ReplicaState → Op → AnswerBody → Type 0
+  Untaken r op (Says.Value reply) = ⊥
+  Untaken r op (Says.NotLeader hint) = r.running ≡ false
+  Untaken r op (Says.NotMine arc succ) = LacksKey r.group op (Says.NotMine arc succ)
+  Untaken r op (Says.Gone into) = LacksKey r.group op (Says.Gone into)
+  Untaken r op (Says.Stale last) = ⊥
 
-  pub refusal_by : (gone : Option Route) (r : ReplicaState) (client seq : ℕ) (op : Op) (answer : AnswerBody) → gone ≡ r.group.core.gone → call_refusal gone r.group.core r.running r.hint op ≡ Some answer → Untaken r client seq op answer
-  refusal_by (Some into) r client seq op answer g e = let same : Says.Gone into ≡ answer = cc in subst (Untaken r client seq op) same (sym g)
-  refusal_by None r client seq op answer g e =
-      cond_both (not r.running) (Some (Says.NotLeader r.hint)) _ (λ o. o ≡ Some answer → Untaken r client seq op answer)
-      (λ idle k. (let same : Says.NotLeader r.hint ≡ answer = cc in subst (Untaken r client seq op) same (not-true r.running idle)))
-      (λ _ k. cond_both (serves_calls r.group.core.lock && not (holds_key r.group.core.arc (key_of op))) (Some (Says.NotMine r.group.core.arc r.group.core.succ)) None (λ o. o ≡ Some answer → Untaken r client seq op answer)
+  pub refusal_by : (gone : Option Route) (r : ReplicaState) (op : Op) (answer : AnswerBody) → gone ≡ r.group.core.gone → call_refusal gone r.group.core r.running r.hint op ≡ Some answer → Untaken r op answer
+  refusal_by (Some into) r op answer g e = let same : Says.Gone into ≡ answer = cc in subst (Untaken r op) same (sym g)
+  refusal_by None r op answer g e =
+      cond_both (not r.running) (Some (Says.NotLeader r.hint)) _ (λ o. o ≡ Some answer → Untaken r op answer)
+      (λ idle k. (let same : Says.NotLeader r.hint ≡ answer = cc in subst (Untaken r op) same (not-true r.running idle)))
+      (λ _ k. cond_both (serves_calls r.group.core.lock && not (holds_key r.group.core.arc (key_of op))) (Some (Says.NotMine r.group.core.arc r.group.core.succ)) None (λ o. o ≡ Some answer → Untaken r op answer)
       (λ both j. (let parts = and_parts (serves_calls r.group.core.lock) (not (holds_key r.group.core.arc (key_of op))) both in
-      let same : Says.NotMine r.group.core.arc r.group.core.succ ≡ answer = cc in subst (Untaken r client seq op) same (sym g, parts.0, not-true (holds_key r.group.core.arc (key_of op)) parts.1, refl, refl))) (λ _ j. cc) k) e
+      let same : Says.NotMine r.group.core.arc r.group.core.succ ≡ answer = cc in subst (Untaken r op) same (sym g, parts.0, not-true (holds_key r.group.core.arc (key_of op)) parts.1, refl, refl))) (λ _ j. cc) k) e
 
   -- it waits, and the pump is tried: no other leader is named
-  pub queued_so : (named : Bool) (o : Option ℕ) (client seq : ℕ) (op : Op) (r : ReplicaState) (mails : List Mail) → A (Call client seq op) → FineSo start A G named (r, mails) → FineSo start A G named (queued o client seq op (r, mails))
+  pub queued_so : (o : Option ℕ) (client seq : ℕ) (op : Op) (r : ReplicaState) (mails : List Mail) → A (Call client seq op) → F (r, mails) → F (queued o client seq op (r, mails))
   unfolding queued
-  queued_so named None client seq op r mails a f =
+  queued_so None client seq op r mails a f =
       let calls : List Command = r.calls ++ Call client seq op ∷ [] in
-      pumped_so start A G named (record r { calls = calls }, mails) ((with_calls A G r calls (Each-append (Kept A G) r.calls (Call client seq op ∷ []) f.0.0.calls (a, tt)) f.0.0, f.0.1), f.1)
-  queued_so named (Some other) client seq op r mails a f =
+      pumped_fine start A G W Q false (record r { calls = calls }, mails) (with_calls A G r calls (Each-append (Kept A G) r.calls (Call client seq op ∷ []) f.0.calls (a, tt)) f.0, f.1)
+  queued_so (Some other) client seq op r mails a f =
       let calls : List Command = without_call r.calls client ++ Call client seq op ∷ [] in
-      either_way (FineSo start A G named) (nat_le seq other) (r, mails) (pumped (record r { calls = calls }, mails)) f
-      (pumped_so start A G named (record r { calls = calls }, mails) ((with_calls A G r calls (Each-append (Kept A G) (without_call r.calls client) (Call client seq op ∷ []) (without_kept A G r.calls client f.0.0.calls) (a, tt)) f.0.0, f.0.1), f.1))
+      either_way F (nat_le seq other) (r, mails) (pumped (record r { calls = calls }, mails)) f
+      (pumped_fine start A G W Q false (record r { calls = calls }, mails) (with_calls A G r calls (Each-append (Kept A G) (without_call r.calls client) (Call client seq op ∷ []) (without_kept A G r.calls client f.0.calls) (a, tt)) f.0, f.1))
 
-  refused_fine : (client seq : ℕ) (op : Op) (answer : AnswerBody) (r : ReplicaState) (mails : List Mail) → A (Call client seq op) → RefusesCall r.group client seq op answer → F (r, mails)
-      → F (r, sent r.me (client_actor client) (Answer (name_of r) seq answer) mails)
-  refused_fine client seq op answer r mails a u f =
-      let s = f.1 in
-      let cause : CausedAnswer start A G s.entries s.refused (client_actor client) seq answer = refused_answer start A G s.entries s.refused (client_actor client) seq answer (record {
-        front = s.entries;
-        rest = [];
-        are = sym (append-nil s.entries);
-        client = client;
-        op = op;
-        receiver = refl;
-        was_asked = a;
-        refuses = subst (λ g. RefusesCall g client seq op answer) s.group_is u;
-      }) in
-      (f.0, resent start A G r mails _ s (sent_one (Caused start A G s.entries s.refused) (caused_plain start A G s.entries s.refused) mails (record { from = r.me; to = client_actor client; body = Answer (name_of r) seq answer }) cause s.sent))
+  -- one answer behind the mails
+  said_fine : (refused : Bool) (client seq : ℕ) (op : Op) (answer : AnswerBody) (r : ReplicaState) (mails : List Mail) (f : FineAs start A G W Q refused true (r, mails)) → A (Call client seq op)
+      → CauseSo start A G W Q f.1.entries refused true client seq op answer → After (r, sent r.me (client_actor client) (Answer (name_of r) seq answer) mails)
+  said_fine refused client seq op answer r mails f a c =
+      let caused : CausedAnswer start A G W Q f.1.entries refused true (client_actor client) (name_of r) seq answer = record { own = f.1.name_is; client = client; op = op; receiver = refl; was_asked = a; cause = c } in (
+        refused,
+        (
+          f.0,
+          resent start A G W Q refused true r mails _ f.1
+              (sent_one (Caused start A G W Q f.1.entries refused true) (caused_plain start A G W Q f.1.entries refused true) mails (record { from = r.me; to = client_actor client; body = Answer (name_of r) seq answer }) caused f.1.sent),
+        ),
+      )
 
-  -- an answer behind the mails, whose cause stands, or that comes of one that does not run
-  said_fine : (client seq : ℕ) (op : Op) (answer : AnswerBody) (r : ReplicaState) (mails : List Mail) → A (Call client seq op) → Untaken r client seq op answer → F (r, mails)
-      → F (r, sent r.me (client_actor client) (Answer (name_of r) seq answer) mails)
-  said_fine client seq op (Says.Value reply) r mails a u f = absurd u
-  said_fine client seq op (Says.Stale last) r mails a u f = absurd u
-  said_fine client seq op (Says.NotLeader hint) r mails a u f = (
+  -- one that does not run may name another leader
+  idle_fine : (r : ReplicaState) (mails : List Mail) → r.running ≡ false → F (r, mails) → FineAs start A G W Q true true (r, mails)
+  idle_fine r mails idle f = (
     f.0,
-    record {
-      entries = f.1.entries;
-      group_is = f.1.group_is;
-      log_is = f.1.log_is;
-      top_is = f.1.top_is;
-      refused = true;
-      out = λ _. inl u;
-      sent = sent_one (Caused start A G f.1.entries true) (caused_plain start A G f.1.entries true) mails (record { from = r.me; to = client_actor client; body = Answer (name_of r) seq (Says.NotLeader hint) }) refl
-          (stopped_caused start A G f.1.entries f.1.refused mails f.1.sent);
-    },
+    record { entries = f.1.entries; me_is = f.1.me_is; name_is = f.1.name_is; group_is = f.1.group_is; log_is = f.1.log_is; out = λ _. idle; patient = f.1.patient; sent = stopped_caused start A G W Q f.1.entries false true mails f.1.sent },
   )
-  said_fine client seq op (Says.NotMine arc succ) r mails a u f = refused_fine client seq op (Says.NotMine arc succ) r mails a u f
-  said_fine client seq op (Says.Gone into) r mails a u f = refused_fine client seq op (Says.Gone into) r mails a u f
 
-  requested_by : (o : Option AnswerBody) (client seq : ℕ) (op : Op) (r : ReplicaState) (mails : List Mail) → A (Call client seq op) → ((answer : AnswerBody) → o ≡ Some answer → Untaken r client seq op answer) → F (r, mails)
-      → F (requested o client seq op (r, mails))
+  -- its cause stands, or it comes of one that does not run
+  answer_fine : (client seq : ℕ) (op : Op) (answer : AnswerBody) (r : ReplicaState) (mails : List Mail) → A (Call client seq op) → Untaken r op answer → F (r, mails) → After (r, sent r.me (client_actor client) (Answer (name_of r) seq answer) mails)
+  answer_fine client seq op (Says.Value reply) r mails a u f = absurd u
+  answer_fine client seq op (Says.Stale last) r mails a u f = absurd u
+  answer_fine client seq op (Says.NotLeader hint) r mails a u f = said_fine true client seq op (Says.NotLeader hint) r mails (idle_fine r mails u f) a refl
+  answer_fine client seq op (Says.NotMine arc succ) r mails a u f =
+      said_fine false client seq op (Says.NotMine arc succ) r mails f a (lacking start A G W Q false f.1.entries r.group client seq op (Says.NotMine arc succ) f.1.group_is u)
+  answer_fine client seq op (Says.Gone into) r mails a u f = said_fine false client seq op (Says.Gone into) r mails f a (lacking start A G W Q false f.1.entries r.group client seq op (Says.Gone into) f.1.group_is u)
+
+  requested_by : (o : Option AnswerBody) (client seq : ℕ) (op : Op) (r : ReplicaState) (mails : List Mail) → A (Call client seq op) → ((answer : AnswerBody) → o ≡ Some answer → Untaken r op answer) → F (r, mails) → After (requested o client seq op (r, mails))
   unfolding requested
-  requested_by (Some answer) client seq op r mails a u f = said_fine client seq op answer r mails a (u answer refl) f
-  requested_by None client seq op r mails a u f = (queued_so f.1.refused (call_of r.calls client) client seq op r mails a (f, refl)).0
+  requested_by (Some answer) client seq op r mails a u f = answer_fine client seq op answer r mails a (u answer refl) f
+  requested_by None client seq op r mails a u f = (false, queued_so (call_of r.calls client) client seq op r mails a f)
 
-  pub request_fine : (client seq : ℕ) (op : Op) (r : ReplicaState) (mails : List Mail) → A (Call client seq op) → F (r, mails) → F (request_row client seq op (r, mails))
+  pub request_fine : (client seq : ℕ) (op : Op) (r : ReplicaState) (mails : List Mail) → A (Call client seq op) → F (r, mails) → After (request_row client seq op (r, mails))
   unfolding request_row
-  request_fine client seq op r mails a f =
-      requested_by (refused_at r.group.core.gone op r) client seq op r mails a (λ answer e. refusal_by r.group.core.gone r client seq op answer refl e) f
+  request_fine client seq op r mails a f = requested_by (refused_at r.group.core.gone op r) client seq op r mails a (λ answer e. refusal_by r.group.core.gone r op answer refl e) f
 
   -- ---- the acts of transactions
 
-  act_fine : (act : Command) (r : ReplicaState) (mails : List Mail) → Kept A G act → F (r, mails) → F (with_act act r, mails)
-  act_fine act r mails k f =
-      either_way (λ (x : ReplicaState). F (x, mails)) (has_act act r) r (record r { acts = r.acts ++ act ∷ [] }) f (with_acts A G r (r.acts ++ act ∷ []) (Each-append (Kept A G) r.acts (act ∷ []) f.0.acts (k, tt)) f.0, f.1)
+  act_fine : (act : Command) (r : ReplicaState) (mails : List Mail) → Kept A G act → Due A G act → F (r, mails) → F (with_act act r, mails)
+  act_fine act r mails k d f =
+      either_way (λ (x : ReplicaState). F (x, mails)) (has_act act r) r (record r { acts = r.acts ++ act ∷ [] }) f
+      (with_acts A G r (r.acts ++ act ∷ []) (Each-append (Kept A G) r.acts (act ∷ []) f.0.acts (k, tt)) (Each-append (Due A G) r.acts (act ∷ []) f.0.due (d, tt)) f.0, f.1)
 
-  queued_act : (act : Command) (r : ReplicaState) (mails : List Mail) → Kept A G act → F (r, mails) → F (act_queued act (r, mails))
+  queued_act : (act : Command) (r : ReplicaState) (mails : List Mail) → Kept A G act → Due A G act → F (r, mails) → F (act_queued act (r, mails))
   unfolding act_queued
-  queued_act act r mails k f = pumped_fine start A G (with_act act r, mails) (act_fine act r mails k f)
+  queued_act act r mails k d f = pumped_fine start A G W Q false (with_act act r, mails) (act_fine act r mails k d f)
 
   -- ---- Tick
 
   -- a coordinator that has waited long enough may give up
   abbrev pub GivesUp : ReplicaState → Type 0
-  GivesUp r = (tx : Draw) (body : Body) (order : ℕ) (heard : Option Heard) → r.group.core.lock ≡ Coordinating tx body order heard → 8 ≤ r.waits + 1 → G tx
+  GivesUp r = (tx : Draw) (body : Body) (order : ℕ) (heard : Option Heard) → r.group.core.lock ≡ Coordinating tx body order heard → patience ≤ r.waits + 1 → G tx
 
-  long_enough : (waits : ℕ) → nat_le patience (one_tick_more waits) ≡ true → 8 ≤ waits + 1
-  long_enough waits e =
-      cond_both (eqb waits (2 ^ 32 - 1)) waits (waits + 1) (λ n. nat_le patience n ≡ true → 8 ≤ waits + 1)
-      (λ _ k. (let le = leb-true patience waits k in omega (arith, le))) (λ _ k. (let le = leb-true patience (waits + 1) k in omega (arith, le))) e
+  -- a tick more is within what a leader may wait
+  abbrev pub TicksOn : ReplicaState → Type 0
+  TicksOn r = Q → (tx : Draw) (body : Body) (order : ℕ) (heard : Option Heard) → r.group.core.lock ≡ Coordinating tx body order heard → r.waits + 1 ≤ W r.leader.ballot tx
 
-  waited_fine : (lock : Lock) (r : ReplicaState) (mails : List Mail) → lock ≡ r.group.core.lock → GivesUp r → F (r, mails) → F (waited_in lock r, mails)
-  waited_fine Free r mails l g f = f
-  waited_fine (Promised tx offer) r mails l g f = f
-  waited_fine (Watching tx watch) r mails l g f = f
-  waited_fine (Coordinating tx body order heard) r mails l g f =
+  few_more : (waits : ℕ) → one_tick_more waits ≤ waits + 1
+  few_more waits = cond_both (eqb waits (2 ^ 32 - 1)) waits (waits + 1) (λ n. n ≤ waits + 1) (λ _. omega arith) (λ _. omega arith)
+
+  long_enough : (waits : ℕ) → nat_le patience (one_tick_more waits) ≡ true → patience ≤ waits + 1
+  long_enough waits e = let le = leb-true patience (one_tick_more waits) e in let few = few_more waits in omega (arith, le, few)
+
+  -- one that waits a tick longer
+  more_fine : (r : ReplicaState) (mails : List Mail) → (Q → one_tick_more r.waits ≤ allowed W r.leader.ballot r.group.core.lock) → F (r, mails) → F (record r { waits = one_tick_more r.waits }, mails)
+  more_fine r mails t f = (
+    record { calls = f.0.calls; acts = f.0.acts; due = f.0.due; flights = f.0.flights; ready = f.0.ready; reports = f.0.reports },
+    record { entries = f.1.entries; me_is = f.1.me_is; name_is = f.1.name_is; group_is = f.1.group_is; log_is = f.1.log_is; out = f.1.out; patient = λ q runs. t q; sent = f.1.sent },
+  )
+
+  waited_fine : (lock : Lock) (r : ReplicaState) (mails : List Mail) → lock ≡ r.group.core.lock → GivesUp r → TicksOn r → F (r, mails) → F (waited_in lock r, mails)
+  waited_fine Free r mails l g t f = f
+  waited_fine (Promised tx offer) r mails l g t f = f
+  waited_fine (Watching tx watch) r mails l g t f = f
+  waited_fine (Coordinating tx body order heard) r mails l g t f =
       let more : ReplicaState = record r { waits = one_tick_more r.waits } in
-      let h : F (more, mails) = (record { calls = f.0.calls; acts = f.0.acts; flights = f.0.flights; ready = f.0.ready; reports = f.0.reports }, f.1) in
-      cond_both (nat_le patience more.waits) (with_act (GiveUp tx) more) more (λ (x : ReplicaState). F (x, mails)) (λ e. act_fine (GiveUp tx) more mails (g tx body order heard (sym l) (long_enough r.waits e)) h) (λ _. h)
+      let few = few_more r.waits in
+      let within : Q → one_tick_more r.waits ≤ allowed W r.leader.ballot r.group.core.lock =
+      λ q. (let on = t q tx body order heard (sym l) in subst (λ (lock : Lock). one_tick_more r.waits ≤ allowed W r.leader.ballot lock) l (omega (arith, on, few))) in
+      let h : F (more, mails) = more_fine r mails within f in
+      cond_both (nat_le patience more.waits) (with_act (GiveUp tx) more) more (λ (x : ReplicaState). F (x, mails)) (λ e. act_fine (GiveUp tx) more mails tt (g tx body order heard (sym l) (long_enough r.waits e)) h) (λ _. h)
 
-  reminded_fine : (r : ReplicaState) (mails : List Mail) → GivesUp r → F (r, mails) → F (reminded (r, mails))
+  reminded_fine : (r : ReplicaState) (mails : List Mail) → GivesUp r → TicksOn r → F (r, mails) → F (reminded (r, mails))
   unfolding reminded
-  reminded_fine r mails g f =
+  reminded_fine r mails g t f =
       let s = f.1 in
-      let said : F (r, reminders r.group.core.lock r.me r.group mails) = (f.0, resent start A G r mails _ s (reminders_plain (Caused start A G s.entries s.refused) (caused_plain start A G s.entries s.refused) r.group.core.lock r.me r.group mails s.sent)) in
-      waited_fine r.group.core.lock r (reminders r.group.core.lock r.me r.group mails) refl g said
+      let said : F (r, reminders r.group.core.lock r.me r.group mails) =
+      (f.0, resent start A G W Q false true r mails _ s (reminders_plain (Caused start A G W Q s.entries false true) (caused_plain start A G W Q s.entries false true) r.group.core.lock r.me r.group mails s.sent)) in
+      waited_fine r.group.core.lock r (reminders r.group.core.lock r.me r.group mails) refl g t said
 
   -- ---- the parties of a transaction
 
   elsewhere_sent : (node : ℕ) (tx coord : Draw) (place : Place) → F place → F (sent_elsewhere node tx coord place)
-  elsewhere_sent node tx coord (r, mails) f = (f.0, with_plain start A G r mails r.me node (TxElsewhere tx coord r.hint) tt f.1)
+  elsewhere_sent node tx coord (r, mails) f = (f.0, with_plain start A G W Q false true r mails r.me node (TxElsewhere tx coord r.hint) tt f.1)
 
   offered_fine : (o : Option Past) (from : ℕ) (tx : Draw) (offer : Offer) (place : Place) → F place → F (offered_by o from tx offer place)
   offered_fine (Some vote) from tx offer (r, mails) f =
-      (f.0, resent start A G r mails _ f.1 (vote_plain (Caused start A G f.1.entries f.1.refused) (caused_plain start A G f.1.entries f.1.refused) r.me r.group from tx offer vote mails f.1.sent))
+      (f.0, resent start A G W Q false true r mails _ f.1 (vote_plain (Caused start A G W Q f.1.entries false true) (caused_plain start A G W Q f.1.entries false true) r.me r.group from tx offer vote mails f.1.sent))
   offered_fine None from tx offer (r, mails) f =
-      either_way F r.running (act_queued (Prepared tx offer) (r, mails)) (sent_elsewhere from tx offer.coord (r, mails)) (queued_act (Prepared tx offer) r mails tt f) (elsewhere_sent from tx offer.coord (r, mails) f)
+      either_way F r.running (act_queued (Prepared tx offer) (r, mails)) (sent_elsewhere from tx offer.coord (r, mails)) (queued_act (Prepared tx offer) r mails tt tt f) (elsewhere_sent from tx offer.coord (r, mails) f)
 
   pub offer_fine : (from : ℕ) (tx : Draw) (offer : Offer) (r : ReplicaState) (mails : List Mail) → F (r, mails) → F (offer_row from tx offer (r, mails))
   unfolding offer_row
@@ -188,20 +200,20 @@ module _ (start : ReplicaState) (A : Command → Type 0) (G : Draw → Type 0) w
 
   watched_by_fine : (o : Option Past) (from : ℕ) (tx : Draw) (watch : Watch) (place : Place) → F place → F (watched_by o from tx watch place)
   watched_by_fine (Some vote) from tx watch (r, mails) f =
-      (f.0, resent start A G r mails _ f.1 (watched_plain (Caused start A G f.1.entries f.1.refused) (caused_plain start A G f.1.entries f.1.refused) r.me from tx watch vote mails f.1.sent))
+      (f.0, resent start A G W Q false true r mails _ f.1 (watched_plain (Caused start A G W Q f.1.entries false true) (caused_plain start A G W Q f.1.entries false true) r.me from tx watch vote mails f.1.sent))
   watched_by_fine None from tx watch (r, mails) f =
-      either_way F r.running (act_queued (Watched tx watch) (r, mails)) (sent_elsewhere from tx watch.coord (r, mails)) (queued_act (Watched tx watch) r mails tt f) (elsewhere_sent from tx watch.coord (r, mails) f)
+      either_way F r.running (act_queued (Watched tx watch) (r, mails)) (sent_elsewhere from tx watch.coord (r, mails)) (queued_act (Watched tx watch) r mails tt tt f) (elsewhere_sent from tx watch.coord (r, mails) f)
 
   pub watch_fine : (from : ℕ) (tx : Draw) (watch : Watch) (r : ReplicaState) (mails : List Mail) → F (r, mails) → F (watch_row from tx watch (r, mails))
   unfolding watch_row
   watch_fine from tx watch r mails f = watched_by_fine (standing_vote r.group.core tx) from tx watch (r, mails) f
 
   outcome_told : (node : ℕ) (tx part : Draw) (outcome : Outcome) (r : ReplicaState) (mails : List Mail) → F (r, mails) → F (r, told_outcome r.me node tx part outcome mails)
-  outcome_told node tx part outcome r mails f = (f.0, with_plain start A G r mails r.me node (TxOutcome tx part outcome) tt f.1)
+  outcome_told node tx part outcome r mails f = (f.0, with_plain start A G W Q false true r mails r.me node (TxOutcome tx part outcome) tt f.1)
 
   vote_queued_fine : (from : ℕ) (tx : Draw) (vote : Vote) (place : Place) → F place → F (vote_queued from tx vote place)
   vote_queued_fine from tx vote (r, mails) f =
-      either_way F (r.running && awaits_vote r.group.core.lock tx) (act_queued (RecordVote tx vote from) (r, mails)) (r, mails) (queued_act (RecordVote tx vote from) r mails tt f) f
+      either_way F (r.running && awaits_vote r.group.core.lock tx) (act_queued (RecordVote tx vote from) (r, mails)) (r, mails) (queued_act (RecordVote tx vote from) r mails tt tt f) f
 
   vote_met_fine : (vote : Vote) (o : Option Outcome) (from : ℕ) (tx part : Draw) (place : Place) → F place → F (vote_met vote o from tx part place)
   vote_met_fine (Vows.Yes frozen) (Some outcome) from tx part (r, mails) f = outcome_told from tx part outcome r mails f
@@ -214,7 +226,7 @@ module _ (start : ReplicaState) (A : Command → Type 0) (G : Draw → Type 0) w
 
   watch_queued_fine : (from : ℕ) (tx : Draw) (vote : Past) (place : Place) → F place → F (watch_queued from tx vote place)
   watch_queued_fine from tx vote (r, mails) f =
-      either_way F (r.running && awaits_watch r.group.core.lock tx) (act_queued (RecordWatch tx vote from) (r, mails)) (r, mails) (queued_act (RecordWatch tx vote from) r mails tt f) f
+      either_way F (r.running && awaits_watch r.group.core.lock tx) (act_queued (RecordWatch tx vote from) (r, mails)) (r, mails) (queued_act (RecordWatch tx vote from) r mails tt tt f) f
 
   watch_met_fine : (vote : Past) (o : Option Outcome) (from : ℕ) (tx part : Draw) (place : Place) → F place → F (watch_met vote o from tx part place)
   watch_met_fine Cast.Yes (Some outcome) from tx part (r, mails) f = outcome_told from tx part outcome r mails f
@@ -231,12 +243,12 @@ module _ (start : ReplicaState) (A : Command → Type 0) (G : Draw → Type 0) w
   elsewhere_fine from tx hint r mails f =
       let s = f.1 in
       either_way F (settled r) (r, asked_next r.group.core.lock r.me r.group.core from tx hint mails) (r, mails)
-      (f.0, resent start A G r mails _ s (next_plain (Caused start A G s.entries s.refused) (caused_plain start A G s.entries s.refused) r.group.core.lock r.me r.group.core from tx hint mails s.sent)) f
+      (f.0, resent start A G W Q false true r mails _ s (next_plain (Caused start A G W Q s.entries false true) (caused_plain start A G W Q s.entries false true) r.group.core.lock r.me r.group.core from tx hint mails s.sent)) f
 
   pub outcome_fine : (tx : Draw) (outcome : Outcome) (r : ReplicaState) (mails : List Mail) → F (r, mails) → F (outcome_row tx outcome (r, mails))
   unfolding outcome_row
   outcome_fine tx outcome r mails f =
-      either_way F (r.running && is_bound r.group.core.lock tx) (act_queued (Finish tx outcome) (r, mails)) (r, mails) (queued_act (Finish tx outcome) r mails tt f) f
+      either_way F (r.running && is_bound r.group.core.lock tx) (act_queued (Finish tx outcome) (r, mails)) (r, mails) (queued_act (Finish tx outcome) r mails tt tt f) f
 
   -- ---- orders
 
@@ -249,9 +261,9 @@ module _ (start : ReplicaState) (A : Command → Type 0) (G : Draw → Type 0) w
   order_kept name number (An.Migrate group node) = tt
 
   taken_fine : (o : Option OrderRefusal) (number : ℕ) (command : Command) (place : Place) → Kept A G command → F place → F (taken_or_told o number command place)
-  taken_fine (Some why) number command (r, mails) k f = (f.0, with_plain start A G r mails r.me 0 (Told number (Tells.Refused why)) tt f.1)
+  taken_fine (Some why) number command (r, mails) k f = (f.0, with_plain start A G W Q false true r mails r.me 0 (Told number (Tells.Refused why)) tt f.1)
   taken_fine None number command (r, mails) k f =
-      pumped_fine start A G (record r { calls = r.calls ++ command ∷ [] }, mails) (with_calls A G r (r.calls ++ command ∷ []) (Each-append (Kept A G) r.calls (command ∷ []) f.0.calls (k, tt)) f.0, f.1)
+      pumped_fine start A G W Q false (record r { calls = r.calls ++ command ∷ [] }, mails) (with_calls A G r (r.calls ++ command ∷ []) (Each-append (Kept A G) r.calls (command ∷ []) f.0.calls (k, tt)) f.0, f.1)
 
   pub order_fine : (drawer : Drawer) (line : OrderLine) (r : ReplicaState) (mails : List Mail) → F (r, mails) → F (ordered_row drawer line (r, mails))
   unfolding ordered_row
@@ -273,16 +285,16 @@ module _ (start : ReplicaState) (A : Command → Type 0) (G : Draw → Type 0) w
   unfolding wishing
   wishing_fine on drawer (r, mails) f = line_fine drawer (wished_line on r) r mails f
 
-  pub tick_fine : (on : Bool) (drawer : Drawer) (r : ReplicaState) (mails : List Mail) → (settled r ≡ true → GivesUp r) → F (r, mails) → F (tick_row on drawer (r, mails))
+  pub tick_fine : (on : Bool) (drawer : Drawer) (r : ReplicaState) (mails : List Mail) → (settled r ≡ true → GivesUp r) → (settled r ≡ true → TicksOn r) → F (r, mails) → F (tick_row on drawer (r, mails))
   unfolding tick_row
-  tick_fine on drawer r mails g f =
+  tick_fine on drawer r mails g t f =
       let s = f.1 in
       let last : List Mail = told_last (entry_at (next r - 1) r.log) r mails in
       let again : List Mail = asked_again r (next r) r.sets mails in
       either_way F (is_some r.group.core.gone || not (is_member (members r) r.me)) (r, mails) _ f
-      (cond_both (not (settled r)) (elected (r, mails)) _ F (λ _. elected_fine start A G r mails f)
+      (cond_both (not (settled r)) (elected (r, mails)) _ F (λ _. elected_fine start A G W Q true r mails f)
       (λ e. either_way F (is_idle r) (pumped (wishing on drawer (reminded (r, last)))) (pumped (wishing on drawer (reminded (r, again))))
-      (pumped_fine start A G (wishing on drawer (reminded (r, last))) (wishing_fine on drawer (reminded (r, last))
-      (reminded_fine r last (g (not-false (settled r) e)) (f.0, resent start A G r mails last s (last_plain (Caused start A G s.entries s.refused) (caused_plain start A G s.entries s.refused) (entry_at (next r - 1) r.log) r mails s.sent)))))
-      (pumped_fine start A G (wishing on drawer (reminded (r, again))) (wishing_fine on drawer (reminded (r, again))
-      (reminded_fine r again (g (not-false (settled r) e)) (f.0, resent start A G r mails again s (again_plain (Caused start A G s.entries s.refused) (caused_plain start A G s.entries s.refused) r (next r) r.sets mails s.sent)))))))
+      (pumped_fine start A G W Q false (wishing on drawer (reminded (r, last))) (wishing_fine on drawer (reminded (r, last))
+      (reminded_fine r last (g (not-false (settled r) e)) (t (not-false (settled r) e)) (f.0, resent start A G W Q false true r mails last s (last_plain (Caused start A G W Q s.entries false true) (caused_plain start A G W Q s.entries false true) (entry_at (next r - 1) r.log) r mails s.sent)))))
+      (pumped_fine start A G W Q false (wishing on drawer (reminded (r, again))) (wishing_fine on drawer (reminded (r, again))
+      (reminded_fine r again (g (not-false (settled r) e)) (t (not-false (settled r) e)) (f.0, resent start A G W Q false true r mails again s (again_plain (Caused start A G W Q s.entries false true) (caused_plain start A G W Q s.entries false true) r (next r) r.sets mails s.sent)))))))

@@ -1,53 +1,55 @@
--- A whole step: each refusal has its cause, and a replica that runs takes a request.
-use Rattle.std.proofs.Common.{◌≡◌, ℕ, ◌+◌, ◌-◌, ◌≤◌, ◌^◌, ◌⊎◌, ◌||◌, not, nat_lt, eqb, Bool, true, false, List, [], ◌∷◌, length, map, Option, Some, None, refl, sym, ◌∙◌, subst, inl, inr, arith, true≢false}
+-- What a step shows, and a state that is taken over: each answer has its cause.
+use Rattle.std.proofs.Common.{◌≡◌, ◌<◌, ℕ, ◌+◌, ◌-◌, ◌≤◌, ◌^◌, ◌⊎◌, ◌||◌, not, nat_lt, eqb, Bool, true, false, List, [], ◌∷◌, length, map, Option, Some, None, refl, sym, ◌∙◌, subst, inl, inr, arith, true≢false}
 use Rattle.std.proofs.lemmas.Bool.{cond_both}
 use Rattle.sc_base.specs.Among.{Among, Each}
+use Rattle.sc_base.specs.declared.names.Ballot.{Ballot}
 use Rattle.sc_base.specs.declared.names.Draw.{Draw}
+use Rattle.sc_actor.specs.declared.rows.Input.{Input}
 use Rattle.sc_base.specs.declared.ops.Op.{Op}
 use Rattle.sc_cmd.specs.declared.commands.Command.{Command}
 use Rattle.sc_cmd.specs.declared.commands.Command.TheVariants.{Noop, Call, Join, Leave, Split, Begin, Prepared, RecordVote, GiveUp, Finish, Watched, RecordWatch}
 use Rattle.sc_cmd.specs.declared.cores.Base.{Base}
 use Rattle.sc_cmd.specs.declared.links.Route.{Route}
+use Rattle.sc_cmd.specs.declared.orders.OrderLine.{OrderLine}
 use Rattle.sc_mail.specs.declared.bodies.AnswerBody.{AnswerBody}
 use Rattle.sc_mail.specs.declared.bodies.AnswerBody.TheVariants as Says
 use Rattle.sc_mail.specs.declared.bodies.Mail.{Mail}
 use Rattle.sc_mail.specs.declared.bodies.MailBody.{MailBody}
-use Rattle.sc_mail.specs.declared.bodies.MailBody.TheVariants.{Request, Answer, Prepare, Promise, Accept, Accepted, Nack, Learn, Ask, Install, TxPrepare, TxVote, TxOutcome, TxElsewhere, TxWatch, TxWatched, Told}
+use Rattle.sc_mail.specs.declared.bodies.MailBody.TheVariants.{Prepare}
 use Rattle.sc_member.specs.Roster.{is_member, least_of}
 use Rattle.sc_paxos_words.proofs.ListLemmas.{Each-among, Each-weaker}
-use Rattle.sc_node_table.specs.declared.ReplicaInput.{ReplicaInput}
-use Rattle.sc_node_table.specs.declared.ReplicaInput.TheVariants as Given
+use Rattle.sc_machine_table.specs.Logs.{state_after}
 use Rattle.sc_node_table.specs.Election.{open_nodes, elected, ended, stopped}
 use Rattle.sc_node_table.specs.Execute.{is_among, looked_for, looked}
 use Rattle.sc_node_table.specs.Install.{jumped}
-use Rattle.sc_node_table.specs.Queues.{call_of}
 use Rattle.sc_node_table.specs.Replica.{ReplicaState, Place, name_of, next, members, last_slot, forgotten}
-use Rattle.sc_node_table.specs.Rows.{refused_at, queued, requested, request_row, looked_up, took_over, install_row, mailed, stepped}
+use Rattle.sc_node_table.specs.Rows.{looked_up, took_over, install_row}
 use Rattle.sc_law_lemmas.proofs.Ways.{either_way}
-use Rattle.sc_refusal_law.specs.Causes.{IsBroughtBy, IsHeldOrBrought, LeadsNoMore, AnswerHasCause, BodyHasCause, MayGiveUp, IsTakenOver, StepHasCauses, StepsHaveCauses, IsNotLeader, RunningReplicasTakeRequests}
-use Rattle.sc_refusal_law.proofs.Keeping.{Kept, Holds}
+use Rattle.sc_refusal_law.specs.Causes.{IsHeldOrBrought, LeadsNoMore, HasCause, AnswersCall, IfAnswer, LacksKey, MayGiveUp, IsTakenOver, StepHasCauses}
+use Rattle.sc_refusal_law.proofs.Keeping.{Kept, Due, Holds}
+use Rattle.sc_refusal_law.proofs.Locking.{allowed}
 use Rattle.sc_refusal_law.proofs.Plain.{answer_weaker, all_plain}
-use Rattle.sc_refusal_law.proofs.Standing.{Caused, CausedAnswer, CausedBody, caused_plain, Fine}
-use Rattle.sc_refusal_law.proofs.Pumping.{FineSo}
+use Rattle.sc_refusal_law.proofs.Standing.{CauseSo, Caused, CausedAnswer, CausedBody, AllCaused, caused_plain, FineAs, Fine}
 use Rattle.sc_refusal_law.proofs.Stopping.{ended_fine, stopped_fine}
-use Rattle.sc_refusal_law.proofs.Voting.{prepare_fine, accept_fine, promise_row_fine, accepted_fine, nack_fine, learn_fine, ask_fine}
-use Rattle.sc_refusal_law.proofs.Rows.{Untaken, refusal_by, queued_so, request_fine, tick_fine, offer_fine, watch_fine, vote_fine, watched_fine, elsewhere_fine, outcome_fine, order_fine}
 
-module _ (start : ReplicaState) (input : ReplicaInput) where
-  abbrev A : Command → Type 0
+module _ (start : ReplicaState) (input : Input Mail OrderLine) (W : Ballot → Draw → ℕ) (Q : Type 0) (within : Q → start.running ≡ true → start.waits ≤ allowed W start.leader.ballot start.group.core.lock) where
+  abbrev pub A : Command → Type 0
   A command = IsHeldOrBrought start input command
 
-  abbrev G : Draw → Type 0
-  G tx = MayGiveUp start input tx
+  abbrev pub G : Draw → Type 0
+  G tx = MayGiveUp start.waits start input tx
 
-  abbrev F : Place → Type 0
-  F place = Fine start A G place
+  abbrev F : Bool → Bool → Place → Type 0
+  F refused turned place = FineAs start A G W Q refused turned place
+
+  abbrev After : Place → Type 0
+  After place = Fine start A G W Q place
 
   -- ---- what is asked is kept
 
   kept_asked : (command : Command) → A command → Kept A G command
   kept_asked (Call client seq op) a = a
-  kept_asked (GiveUp tx) a = inl a
+  kept_asked (GiveUp tx) a = tt
   kept_asked Noop a = tt
   kept_asked (Join node order) a = tt
   kept_asked (Leave node order) a = tt
@@ -63,217 +65,217 @@ module _ (start : ReplicaState) (input : ReplicaInput) where
   each_kept [] f = tt
   each_kept (command ∷ commands) f = (kept_asked command (f command (inl refl)), each_kept commands (λ other among. f other (inr among)))
 
-  each_made : {X : Type 0} (of : X → Command) (xs : List X) → ((command : Command) → Among command (map of xs) → A command) → Each (λ x. Kept A G (of x)) xs
+  pub each_made : {X : Type 0} (of : X → Command) (xs : List X) → ((command : Command) → Among command (map of xs) → A command) → Each (λ x. Kept A G (of x)) xs
   each_made of [] f = tt
   each_made of (x ∷ xs) f = (kept_asked (of x) (f (of x) (inl refl)), each_made of xs (λ other among. f other (inr among)))
+
+  -- what is queued may be
+  due_queued : (command : Command) → Among command start.acts → Due A G command
+  due_queued (GiveUp tx) a = inl a
+  due_queued (Call client seq op) a = tt
+  due_queued Noop a = tt
+  due_queued (Join node order) a = tt
+  due_queued (Leave node order) a = tt
+  due_queued (Split at child order) a = tt
+  due_queued (Begin tx body order) a = tt
+  due_queued (Prepared tx offer) a = tt
+  due_queued (RecordVote tx vote by) a = tt
+  due_queued (Finish tx outcome) a = tt
+  due_queued (Watched tx watch) a = tt
+  due_queued (RecordWatch tx vote by) a = tt
+
+  each_due : (commands : List Command) → ((command : Command) → Among command commands → Among command start.acts) → Each (Due A G) commands
+  each_due [] f = tt
+  each_due (command ∷ commands) f = (due_queued command (f command (inl refl)), each_due commands (λ other among. f other (inr among)))
 
   held : Holds A G start
   held = record {
     calls = each_kept start.calls (λ command among. inl (inl among));
     acts = each_kept start.acts (λ command among. inl (inr (inl among)));
+    due = each_due start.acts (λ command among. among);
     flights = each_made (λ flight. flight.value) start.leader.flights (λ command among. inl (inr (inr (inl among))));
     ready = each_made (λ counted. counted.1) start.ready (λ command among. inl (inr (inr (inr (inl among)))));
     reports = each_made (λ report. report.value) start.leader.reports (λ command among. inl (inr (inr (inr (inr among)))));
   }
 
   -- where a step begins
-  first : F (start, [])
-  first = (held, record { entries = []; group_is = refl; log_is = refl; top_is = omega arith; refused = false; out = λ e. absurd (true≢false (sym e)); sent = tt })
+  pub first : (turned : Bool) → F false turned (start, [])
+  first turned = (held, record { entries = []; me_is = refl; name_is = refl; group_is = refl; log_is = refl; out = λ e. cc; patient = within; sent = tt })
 
   -- ---- what a step shows
 
-  answer_cause : (after : ReplicaState) (entries : List Command) (refused : Bool) (to seq : ℕ) (answer : AnswerBody) → (refused ≡ true → LeadsNoMore start after) → CausedAnswer start A G entries refused to seq answer
-      → AnswerHasCause A start after entries to seq answer
-  answer_cause after entries refused to seq (Says.Value reply) out c = tt
-  answer_cause after entries refused to seq (Says.NotLeader hint) out c = out c
-  answer_cause after entries refused to seq (Says.NotMine arc succ) out c = c
-  answer_cause after entries refused to seq (Says.Gone into) out c = c
-  answer_cause after entries refused to seq (Says.Stale last) out c = c
+  module _ (after : ReplicaState) (entries : List Command) (refused : Bool) (out : refused ≡ true → LeadsNoMore start input after) (is : after.group ≡ state_after start.group entries) where
+    cause_of : (client seq : ℕ) (op : Op) (answer : AnswerBody) → CauseSo start A G W Q entries refused true client seq op answer → HasCause start input after entries client seq op answer
+    cause_of client seq op (Says.Value reply) c = tt
+    cause_of client seq op (Says.NotLeader hint) c = out c
+    cause_of client seq op (Says.NotMine arc succ) (inl c) = inl c
+    cause_of client seq op (Says.NotMine arc succ) (inr c) = inr (subst (λ g. LacksKey g op (Says.NotMine arc succ)) (sym is) c.1)
+    cause_of client seq op (Says.Gone into) (inl c) = inl c
+    cause_of client seq op (Says.Gone into) (inr c) = inr (subst (λ g. LacksKey g op (Says.Gone into)) (sym is) c.1)
+    cause_of client seq op (Says.Stale last) c = c
 
-  body_cause : (after : ReplicaState) (entries : List Command) (refused : Bool) (to : ℕ) (body : MailBody) → (refused ≡ true → LeadsNoMore start after) → CausedBody start A G entries refused to body → BodyHasCause A start after entries to body
-  body_cause after entries refused to body out c =
-      answer_weaker (λ seq answer. CausedAnswer start A G entries refused to seq answer) (λ seq answer. AnswerHasCause A start after entries to seq answer) (λ seq answer k. answer_cause after entries refused to seq answer out k) body c
+    answer_of : (to : ℕ) (group : Draw) (seq : ℕ) (answer : AnswerBody) → CausedAnswer start A G W Q entries refused true to group seq answer → AnswersCall start input after entries to group seq answer
+    answer_of to group seq answer c = record { own = c.own; client = c.client; op = c.op; receiver = c.receiver; was_asked = c.was_asked; cause = cause_of c.client seq c.op answer c.cause }
 
-  pub answers_of : (after : ReplicaState) (entries : List Command) (refused : Bool) (mails : List Mail) → (refused ≡ true → LeadsNoMore start after) → Each (Caused start A G entries refused) mails
-      → Each (λ (mail : Mail). BodyHasCause A start after entries mail.to mail.body) mails
-  answers_of after entries refused mails out c =
-      Each-weaker (Caused start A G entries refused) (λ (mail : Mail). BodyHasCause A start after entries mail.to mail.body) (λ mail m. body_cause after entries refused mail.to mail.body out m) mails c
+    body_of : (to : ℕ) (body : MailBody) → CausedBody start A G W Q entries refused true to body → IfAnswer (λ group seq answer. AnswersCall start input after entries to group seq answer) body
+    body_of to body c =
+        answer_weaker (λ group seq answer. CausedAnswer start A G W Q entries refused true to group seq answer) (λ group seq answer. AnswersCall start input after entries to group seq answer)
+        (λ group seq answer k. answer_of to group seq answer k) body c
 
-  pub shown : (place : Place) → F place → StepHasCauses start input place
-  shown (after, mails) f = record {
-    entries = f.1.entries;
-    executed = inl (record { group = f.1.group_is; log = f.1.log_is });
-    answers = answers_of after f.1.entries f.1.refused mails f.1.out f.1.sent;
-    acts = λ tx among. Each-among (Kept A G) after.acts (GiveUp tx) f.0.acts among;
+    answers_of : (mails : List Mail) → AllCaused start A G W Q entries refused true mails → Each (λ (mail : Mail). IfAnswer (λ group seq answer. AnswersCall start input after entries mail.to group seq answer) mail.body) mails
+    answers_of mails c =
+        Each-weaker (Caused start A G W Q entries refused true) (λ (mail : Mail). IfAnswer (λ group seq answer. AnswersCall start input after entries mail.to group seq answer) mail.body) (λ mail m. body_of mail.to mail.body m) mails c
+
+  -- a step, and what the replica keeps of itself
+  pub record Shows (place : Place) : Type 0 where
+    pub causes : StepHasCauses start input place
+    pub me_is : place.0.me ≡ start.me
+    pub name_is : name_of place.0 ≡ name_of start
+    pub patient : Q → place.0.running ≡ true → place.0.waits ≤ allowed W place.0.leader.ballot place.0.group.core.lock
+
+  pub shown : (place : Place) → After place → Shows place
+  shown (after, mails) (refused, f) = record {
+    causes = record {
+      entries = f.1.entries;
+      executed = inl (record { group = f.1.group_is; log = f.1.log_is });
+      answers = answers_of after f.1.entries refused (λ e. inl (f.1.out e)) f.1.group_is mails f.1.sent;
+      acts = λ tx among. Each-among (Due A G) after.acts (GiveUp tx) f.0.due among;
+    };
+    me_is = f.1.me_is;
+    name_is = f.1.name_is;
+    patient = f.1.patient;
   }
 
   -- ---- a state that is taken over
 
-  -- where a leader is looked for, or one is elected: what waits stays, and nothing is answered
-  record IsLooked (r : ReplicaState) (mails : List Mail) (place : Place) : Type 0 where
-    acts : place.0.acts ≡ r.acts
-    out : LeadsNoMore start place.0
-    sent : Each (Caused start A G [] true) place.1
+  -- what one that stops answers
+  stopped_sent : (from : ℕ) → AllCaused start A G W Q [] true false (stopped (Some from) (start, [])).1
+  unfolding ended stopped_fine ended_fine first
+  stopped_sent from =
+      let f : F true false (stopped (Some from) (start, [])) = stopped_fine start A G W Q false false (Some from) start [] (first false) in f.1.sent
 
-  hinted_looked : (r : ReplicaState) (hint : Option ℕ) (mails : List Mail) (place : Place) → IsLooked (record r { hint = hint }) mails place → IsLooked r mails place
-  hinted_looked r hint mails place is = record { acts = is.acts; out = is.out; sent = is.sent }
+  module _ (refused : Bool) where
+    -- what was answered before a leader is looked for
+    abbrev Saying : List Mail → Type 0
+    Saying mails = AllCaused start A G W Q [] refused false mails
 
-  elected_looked : (r : ReplicaState) (mails : List Mail) → r.running ≡ false → start.top.round ≤ r.top.round → Each (Caused start A G [] true) mails → IsLooked r mails (elected (r, mails))
-  unfolding elected
-  elected_looked r mails idle low c =
-      either_way (IsLooked r mails) (eqb r.top.round (2 ^ 32 - 1)) _ _ (record { acts = refl; out = inl idle; sent = c }) (record {
-        acts = refl;
-        out = inr (omega (arith, low));
-        sent = all_plain (Caused start A G [] true) (caused_plain start A G [] true) r.me (open_nodes r.sets) (Prepare (name_of r) (record { round = r.top.round + 1; node = r.me }) (next r)) mails tt c;
-      })
+    -- where a leader is looked for, or one is elected: what waits stays, and nothing is answered
+    record IsLooked (r : ReplicaState) (place : Place) : Type 0 where
+      me : place.0.me ≡ r.me
+      name : name_of place.0 ≡ name_of r
+      acts : place.0.acts ≡ r.acts
+      calls : place.0.calls ≡ r.calls
+      waits : place.0.running ≡ true → place.0.waits ≡ 0
+      out : (place.0.running ≡ false) ⊎ (start.top.round < place.0.leader.ballot.round)
+      sent : Saying place.1
 
-  for_looked : (gone : Option Route) (r : ReplicaState) (mails : List Mail) → r.running ≡ false → start.top.round ≤ r.top.round → Each (Caused start A G [] true) mails → IsLooked r mails (looked_for gone (r, mails))
-  for_looked (Some into) r mails idle low c = record { acts = refl; out = inl idle; sent = c }
-  for_looked None r mails idle low c =
-      either_way (IsLooked r mails) (is_among (members r) r.hint) (r, mails) _ (record { acts = refl; out = inl idle; sent = c })
-      (either_way (IsLooked r mails) (eqb (least_of (members r)) r.me) (elected (record r { hint = Some r.me }, mails)) (record r { hint = Some (least_of (members r)) }, mails)
-      (hinted_looked r (Some r.me) mails (elected (record r { hint = Some r.me }, mails)) (elected_looked (record r { hint = Some r.me }) mails idle low c)) (record { acts = refl; out = inl idle; sent = c }))
+    hinted_looked : (r : ReplicaState) (hint : Option ℕ) (place : Place) → IsLooked (record r { hint = hint }) place → IsLooked r place
+    hinted_looked r hint place is = record { me = is.me; name = is.name; acts = is.acts; calls = is.calls; waits = is.waits; out = is.out; sent = is.sent }
 
-  look : (r : ReplicaState) (mails : List Mail) → r.running ≡ false → start.top.round ≤ r.top.round → Each (Caused start A G [] true) mails → IsLooked r mails (looked (r, mails))
-  unfolding looked
-  look r mails idle low c =
-      cond_both r.running (r, mails) (looked_for r.group.core.gone (r, mails)) (IsLooked r mails) (λ e. record { acts = refl; out = inl idle; sent = c }) (λ _. for_looked r.group.core.gone r mails idle low c)
+    idle_looked : (r : ReplicaState) (mails : List Mail) → r.running ≡ false → Saying mails → IsLooked r (r, mails)
+    idle_looked r mails idle c = record { me = refl; name = refl; acts = refl; calls = refl; waits = λ runs. absurd (true≢false (sym runs ∙ idle)); out = inl idle; sent = c }
 
-  look_up : (from : ℕ) (r : ReplicaState) (mails : List Mail) → r.running ≡ false → start.top.round ≤ r.top.round → Each (Caused start A G [] true) mails → IsLooked r mails (looked_up from (r, mails))
-  unfolding looked_up
-  look_up from r mails idle low c =
-      either_way (IsLooked r mails) (is_member (members r) from) (record r { hint = Some from }, mails) (looked (r, mails)) (record { acts = refl; out = inl idle; sent = c }) (look r mails idle low c)
+    elected_looked : (r : ReplicaState) (mails : List Mail) → r.running ≡ false → start.top.round ≤ r.top.round → Saying mails → IsLooked r (elected (r, mails))
+    unfolding elected
+    elected_looked r mails idle low c =
+        either_way (IsLooked r) (eqb r.top.round (2 ^ 32 - 1)) (r, mails) _ (idle_looked r mails idle c) (record {
+          me = refl;
+          name = refl;
+          acts = refl;
+          calls = refl;
+          waits = λ runs. refl;
+          out = inr (omega (arith, low));
+          sent = all_plain (Caused start A G W Q [] refused false) (caused_plain start A G W Q [] refused false) r.me (open_nodes r.sets) (Prepare (name_of r) (record { round = r.top.round + 1; node = r.me }) (next r)) mails tt c;
+        })
 
-  kept_act : {acts : List Command} → (acts ≡ []) ⊎ (acts ≡ start.acts) → (tx : Draw) → Among (GiveUp tx) acts → G tx
-  kept_act (inl none) tx among = absurd (subst (Among (GiveUp tx)) none among)
-  kept_act (inr same) tx among = inl (inl (inr (inl (subst (Among (GiveUp tx)) same among))))
+    for_looked : (gone : Option Route) (r : ReplicaState) (mails : List Mail) → r.running ≡ false → start.top.round ≤ r.top.round → Saying mails → IsLooked r (looked_for gone (r, mails))
+    for_looked (Some into) r mails idle low c = idle_looked r mails idle c
+    for_looked None r mails idle low c =
+        either_way (IsLooked r) (is_among (members r) r.hint) (r, mails) _ (idle_looked r mails idle c)
+        (either_way (IsLooked r) (eqb (least_of (members r)) r.me) (elected (record r { hint = Some r.me }, mails)) (record r { hint = Some (least_of (members r)) }, mails)
+        (hinted_looked r (Some r.me) (elected (record r { hint = Some r.me }, mails)) (elected_looked (record r { hint = Some r.me }) mails idle low c))
+        (hinted_looked r (Some (least_of (members r))) (record r { hint = Some (least_of (members r)) }, mails) (idle_looked (record r { hint = Some (least_of (members r)) }) mails idle c)))
 
-  -- one that takes a state over has stopped before: what it answered then has its cause
-  taken_by : (from slot : ℕ) (base : Base) (sets : List (List ℕ)) (before : ReplicaState) (mails : List Mail) → before.running ≡ false → start.top.round ≤ before.top.round → (before.acts ≡ []) ⊎ (before.acts ≡ start.acts) → Each (Caused start A G [] true) mails
-      → IsTakenOver input → StepHasCauses start input (looked_up from (jumped slot base sets before, mails))
-  unfolding jumped forgotten
-  taken_by from slot base sets before mails idle low left c over =
-      let after : ReplicaState = jumped slot base sets before in
-      let is : IsLooked after mails (looked_up from (after, mails)) = look_up from after mails idle low c in
-      record {
-        entries = [];
-        executed = inr (refl, over);
-        answers = answers_of (looked_up from (after, mails)).0 [] true (looked_up from (after, mails)).1 (λ _. is.out) is.sent;
-        acts = λ tx among. kept_act left tx (subst (λ acts. Among (GiveUp tx) acts) is.acts among);
-      }
+    look : (r : ReplicaState) (mails : List Mail) → r.running ≡ false → start.top.round ≤ r.top.round → Saying mails → IsLooked r (looked (r, mails))
+    unfolding looked
+    look r mails idle low c =
+        cond_both r.running (r, mails) (looked_for r.group.core.gone (r, mails)) (IsLooked r) (λ e. idle_looked r mails idle c) (λ _. for_looked r.group.core.gone r mails idle low c)
+
+    look_up : (from : ℕ) (r : ReplicaState) (mails : List Mail) → r.running ≡ false → start.top.round ≤ r.top.round → Saying mails → IsLooked r (looked_up from (r, mails))
+    unfolding looked_up
+    look_up from r mails idle low c =
+        either_way (IsLooked r) (is_member (members r) from) (record r { hint = Some from }, mails) (looked (r, mails))
+        (hinted_looked r (Some from) (record r { hint = Some from }, mails) (idle_looked (record r { hint = Some from }) mails idle c)) (look r mails idle low c)
+
+    -- what was answered by one that leads no more
+    module _ (after : ReplicaState) (out : refused ≡ true → LeadsNoMore start input after) where
+      told_cause : (client seq : ℕ) (op : Op) (answer : AnswerBody) → CauseSo start A G W Q [] refused false client seq op answer → HasCause start input after [] client seq op answer
+      told_cause client seq op (Says.Value reply) k = tt
+      told_cause client seq op (Says.NotLeader hint) k = out k
+      told_cause client seq op (Says.NotMine arc succ) (inl k) = inl k
+      told_cause client seq op (Says.NotMine arc succ) (inr k) = (let never : false ≡ true = k.0 in cc)
+      told_cause client seq op (Says.Gone into) (inl k) = inl k
+      told_cause client seq op (Says.Gone into) (inr k) = (let never : false ≡ true = k.0 in cc)
+      told_cause client seq op (Says.Stale last) k = k
+
+      told_body : (to : ℕ) (body : MailBody) → CausedBody start A G W Q [] refused false to body → IfAnswer (λ group seq answer. AnswersCall start input after [] to group seq answer) body
+      told_body to body k =
+          answer_weaker (λ group seq answer. CausedAnswer start A G W Q [] refused false to group seq answer) (λ group seq answer. AnswersCall start input after [] to group seq answer)
+          (λ group seq answer a. record { own = a.own; client = a.client; op = a.op; receiver = a.receiver; was_asked = a.was_asked; cause = told_cause a.client seq a.op answer a.cause }) body k
+
+      told_mails : (mails : List Mail) → Saying mails → Each (λ (mail : Mail). IfAnswer (λ group seq answer. AnswersCall start input after [] mail.to group seq answer) mail.body) mails
+      told_mails mails c =
+          Each-weaker (Caused start A G W Q [] refused false) (λ (mail : Mail). IfAnswer (λ group seq answer. AnswersCall start input after [] mail.to group seq answer) mail.body) (λ mail m. told_body mail.to mail.body m) mails c
+
+    -- what a replica is before it takes a state over: one that ran has stopped
+    record HasStopped (before : ReplicaState) (mails : List Mail) : Type 0 where
+      me : before.me ≡ start.me
+      name : name_of before ≡ name_of start
+      idle : before.running ≡ false
+      low : start.top.round ≤ before.top.round
+      acts : (before.acts ≡ []) ⊎ (before.acts ≡ start.acts)
+      told : refused ≡ true → (start.running ≡ true) × (before.calls ≡ [])
+      sent : Saying mails
+
+    kept_act : {acts : List Command} → (acts ≡ []) ⊎ (acts ≡ start.acts) → (tx : Draw) → Among (GiveUp tx) acts → G tx
+    kept_act (inl none) tx among = absurd (subst (Among (GiveUp tx)) none among)
+    kept_act (inr same) tx among = inl (subst (Among (GiveUp tx)) same among)
+
+    why_stopped : (before : ReplicaState) (place : Place) → IsTakenOver input → IsLooked before place → (start.running ≡ true) × (before.calls ≡ []) → LeadsNoMore start input place.0
+    why_stopped before place over is ran = elim is.out [ inl idle ↦ inl idle | inr anew ↦ inr (record { ran = ran.0; over = over; empty = is.calls ∙ ran.1; anew = anew }) ]
+
+    -- it takes the state over
+    taken_by : (from slot : ℕ) (base : Base) (sets : List (List ℕ)) (before : ReplicaState) (mails : List Mail) → HasStopped before mails → IsTakenOver input → Shows (looked_up from (jumped slot base sets before, mails))
+    unfolding jumped forgotten
+    taken_by from slot base sets before mails h over =
+        let jump : ReplicaState = jumped slot base sets before in
+        let place : Place = looked_up from (jump, mails) in
+        let is : IsLooked jump place = look_up from jump mails h.idle h.low h.sent in
+        record {
+          causes = record {
+            entries = [];
+            executed = inr (refl, over);
+            answers = told_mails place.0 (λ e. why_stopped jump place over is (h.told e)) place.1 is.sent;
+            acts = λ tx among. kept_act h.acts tx (subst (λ acts. Among (GiveUp tx) acts) is.acts among);
+          };
+          me_is = is.me ∙ h.me;
+          name_is = is.name ∙ h.name;
+          patient = λ q runs. (let none = is.waits runs in omega (arith, none));
+        }
 
   -- .. where it ran, and where it did not
-  taken_over : (from slot : ℕ) (base : Base) (sets : List (List ℕ)) → IsTakenOver input → StepHasCauses start input (took_over from slot base sets (start, []))
-  unfolding took_over first stopped_fine ended_fine ended
+  taken_over : (from slot : ℕ) (base : Base) (sets : List (List ℕ)) → IsTakenOver input → Shows (took_over from slot base sets (start, []))
+  unfolding took_over ended
   taken_over from slot base sets over =
-      cond_both start.running (stopped (Some from) (start, [])) (start, []) (λ (place1 : Place). StepHasCauses start input (looked_up from (jumped slot base sets place1.0, place1.1)))
-      (λ _. (
-      let f : F (stopped (Some from) (start, [])) = stopped_fine start A G (Some from) start [] first in
-      taken_by from slot base sets (stopped (Some from) (start, [])).0 (stopped (Some from) (start, [])).1 refl (omega arith) (inl refl) f.1.sent over))
-      (λ idle. taken_by from slot base sets start [] idle (omega arith) (inr refl) tt over)
+      cond_both start.running (stopped (Some from) (start, [])) (start, []) (λ (place1 : Place). Shows (looked_up from (jumped slot base sets place1.0, place1.1)))
+      (λ ran. (
+      let place : Place = stopped (Some from) (start, []) in
+      let sent = stopped_sent from in
+      taken_by true from slot base sets place.0 place.1 (record { me = refl; name = refl; idle = refl; low = omega arith; acts = inl refl; told = λ _. (ran, refl); sent = sent }) over))
+      (λ idle. taken_by false from slot base sets start [] (record { me = refl; name = refl; idle = idle; low = omega arith; acts = inr refl; told = λ e. cc; sent = tt }) over)
 
-  install_shown : (from slot : ℕ) (base : Base) (sets : List (List ℕ)) → IsTakenOver input → StepHasCauses start input (install_row from slot base sets (start, []))
+  pub install_shown : (from slot : ℕ) (base : Base) (sets : List (List ℕ)) → IsTakenOver input → Shows (install_row from slot base sets (start, []))
   unfolding install_row
   install_shown from slot base sets over =
-      either_way (StepHasCauses start input) (not (eqb (length sets) (length start.sets)) || (nat_lt last_slot slot || nat_lt slot (next start))) (start, []) (took_over from slot base sets (start, [])) (shown (start, []) first)
+      either_way Shows (not (eqb (length sets) (length start.sets)) || (nat_lt last_slot slot || nat_lt slot (next start))) (start, []) (took_over from slot base sets (start, [])) (shown (start, []) (false, first true))
       (taken_over from slot base sets over)
-
--- ---- all inputs
-
-mailed_shown : (r : ReplicaState) (mail : Mail) (body : MailBody) → body ≡ mail.body → StepHasCauses r (Given.Got mail) (mailed mail.from body (r, []))
-unfolding mailed
-mailed_shown r mail (Request group client seq op) e =
-    let input = Given.Got mail in
-    shown r input (request_row client seq op (r, [])) (request_fine r (A r input) (G r input) client seq op r [] (inr (subst (λ b. IsBroughtBy b (Call client seq op)) e refl)) (first r input))
-mailed_shown r mail (Prepare group ballot from_slot) e = let input = Given.Got mail in shown r input _ (prepare_fine r (A r input) (G r input) mail.from ballot from_slot r [] (first r input))
-mailed_shown r mail (Promise group ballot reports) e =
-    let input = Given.Got mail in
-    shown r input _ (promise_row_fine r (A r input) (G r input) mail.from ballot reports r [] (each_made r input (λ report. report.value) reports (λ command among. inr (subst (λ b. IsBroughtBy b command) e among))) (first r input))
-mailed_shown r mail (Accept group ballot slot command) e = let input = Given.Got mail in shown r input _ (accept_fine r (A r input) (G r input) mail.from ballot slot command r [] (first r input))
-mailed_shown r mail (Accepted group ballot slot) e = let input = Given.Got mail in shown r input _ (accepted_fine r (A r input) (G r input) mail.from ballot slot r [] (first r input))
-mailed_shown r mail (Nack group ballot) e = let input = Given.Got mail in shown r input _ (nack_fine r (A r input) (G r input) ballot r [] (first r input))
-mailed_shown r mail (Learn group slot command) e = let input = Given.Got mail in shown r input _ (learn_fine r (A r input) (G r input) mail.from slot command r [] (first r input))
-mailed_shown r mail (Ask group from_slot) e = let input = Given.Got mail in shown r input _ (ask_fine r (A r input) (G r input) mail.from from_slot r [] (first r input))
-mailed_shown r mail (Install group slot base sets) e = install_shown r (Given.Got mail) mail.from slot base sets (mail, refl, (group, slot, base, sets, sym e))
-mailed_shown r mail (Answer group seq answer) e = shown r (Given.Got mail) (r, []) (first r (Given.Got mail))
-mailed_shown r mail (TxPrepare tx offer) e = let input = Given.Got mail in shown r input _ (offer_fine r (A r input) (G r input) mail.from tx offer r [] (first r input))
-mailed_shown r mail (TxVote tx coord part vote) e = let input = Given.Got mail in shown r input _ (vote_fine r (A r input) (G r input) mail.from tx part vote r [] (first r input))
-mailed_shown r mail (TxOutcome tx part outcome) e = let input = Given.Got mail in shown r input _ (outcome_fine r (A r input) (G r input) tx outcome r [] (first r input))
-mailed_shown r mail (TxElsewhere tx coord hint) e = let input = Given.Got mail in shown r input _ (elsewhere_fine r (A r input) (G r input) mail.from tx hint r [] (first r input))
-mailed_shown r mail (TxWatch tx watch) e = let input = Given.Got mail in shown r input _ (watch_fine r (A r input) (G r input) mail.from tx watch r [] (first r input))
-mailed_shown r mail (TxWatched tx coord part vote) e = let input = Given.Got mail in shown r input _ (watched_fine r (A r input) (G r input) mail.from tx part vote r [] (first r input))
-mailed_shown r mail (Told order result) e = shown r (Given.Got mail) (r, []) (first r (Given.Got mail))
-
-pub steps_have_causes : StepsHaveCauses
-unfolding stepped
-steps_have_causes on drawer r (Given.Got mail) = mailed_shown r mail mail.body refl
-steps_have_causes on drawer r Given.Tick =
-    shown r Given.Tick _ (tick_fine r (A r Given.Tick) (G r Given.Tick) on drawer r [] (λ leads tx body order heard lock long. inr (refl, leads, long, (body, order, heard, lock))) (first r Given.Tick))
-steps_have_causes on drawer r (Given.Told line) = shown r (Given.Told line) _ (order_fine r (A r (Given.Told line)) (G r (Given.Told line)) drawer line r [] (first r (Given.Told line)))
-
--- ---- a request
-
-module _ (r : ReplicaState) where
-  -- here nothing is asked of the calls
-  abbrev Any : Command → Type 0
-  Any command = Unit {0}
-
-  abbrev Ever : Draw → Type 0
-  Ever tx = Unit {0}
-
-  abbrev Unnamed : Mail → Type 0
-  Unnamed mail = IsNotLeader mail.body → ⊥
-
-  none_named : (entries : List Command) (refused : Bool) (mail : Mail) → refused ≡ false → Caused r Any Ever entries refused mail → Unnamed mail
-  none_named entries refused mail e c named = let is : refused ≡ true = subst (CausedBody r Any Ever entries refused mail.to) named.3 c in absurd (true≢false (sym is ∙ e))
-
-  any_kept : (command : Command) → Kept Any Ever command
-  any_kept (Call client seq op) = tt
-  any_kept (GiveUp tx) = tt
-  any_kept Noop = tt
-  any_kept (Join node order) = tt
-  any_kept (Leave node order) = tt
-  any_kept (Split at child order) = tt
-  any_kept (Begin tx body order) = tt
-  any_kept (Prepared tx offer) = tt
-  any_kept (RecordVote tx vote by) = tt
-  any_kept (Finish tx outcome) = tt
-  any_kept (Watched tx watch) = tt
-  any_kept (RecordWatch tx vote by) = tt
-
-  each_any : {X : Type 0} (of : X → Command) (xs : List X) → Each (λ x. Kept Any Ever (of x)) xs
-  each_any of [] = tt
-  each_any of (x ∷ xs) = (any_kept (of x), each_any of xs)
-
-  begins : FineSo r Any Ever false (r, [])
-  begins = (
-    (
-      record {
-        calls = each_any (λ command. command) r.calls;
-        acts = each_any (λ command. command) r.acts;
-        flights = each_any (λ flight. flight.value) r.leader.flights;
-        ready = each_any (λ counted. counted.1) r.ready;
-        reports = each_any (λ report. report.value) r.leader.reports;
-      },
-      record { entries = []; group_is = refl; log_is = refl; top_is = omega arith; refused = false; out = λ e. absurd (true≢false (sym e)); sent = tt },
-    ),
-    refl,
-  )
-
-  -- what a running replica refuses for is another thing
-  not_named : (client seq : ℕ) (op : Op) (answer : AnswerBody) (group : Draw) → Untaken r Any Ever r client seq op answer → r.running ≡ true → IsNotLeader (Answer group seq answer) → ⊥
-  not_named client seq op answer group u runs (g, s, hint, e) =
-      let same : answer ≡ Says.NotLeader hint = cc in
-      let idle : r.running ≡ false = subst (Untaken r Any Ever r client seq op) same u in absurd (true≢false (sym runs ∙ idle))
-
-  taken : (o : Option AnswerBody) (client seq : ℕ) (op : Op) → ((answer : AnswerBody) → o ≡ Some answer → Untaken r Any Ever r client seq op answer) → r.running ≡ true → Each Unnamed (requested o client seq op (r, [])).1
-  unfolding requested
-  taken (Some answer) client seq op u runs = (not_named client seq op answer (name_of r) (u answer refl) runs, tt)
-  taken None client seq op u runs =
-      let f = queued_so r Any Ever false (call_of r.calls client) client seq op r [] tt begins in
-      Each-weaker (Caused r Any Ever f.0.1.entries f.0.1.refused) Unnamed (λ mail c. none_named f.0.1.entries f.0.1.refused mail f.1 c) (queued (call_of r.calls client) client seq op (r, [])).1 f.0.1.sent
-
-pub requests_are_taken : RunningReplicasTakeRequests
-unfolding stepped mailed request_row
-requests_are_taken on drawer r from to group client seq op runs =
-    taken r (refused_at r.group.core.gone op r) client seq op (λ answer e. refusal_by r (Any r) (Ever r) r.group.core.gone r client seq op answer refl e) runs

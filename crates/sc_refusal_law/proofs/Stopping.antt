@@ -1,11 +1,9 @@
--- A replica that stops answers all calls that it keeps, each with its cause; one that is elected runs in a later round.
-use Rattle.std.proofs.Common.{ℕ, ◌+◌, ◌-◌, ◌^◌, ◌≤◌, inl, inr, refl, arith, ◌&&◌, eqb, Bool, true, cond, List, [], ◌∷◌, Option, Some}
-use Rattle.std.proofs.lemmas.Bool.{cond_both}
+-- A replica that stops answers all calls that it keeps, each with its cause; one that is elected has waited for nothing yet.
+use Rattle.std.proofs.Common.{◌≡◌, ℕ, ◌+◌, ◌-◌, ◌^◌, refl, arith, ◌&&◌, eqb, Bool, true, false, cond, List, [], ◌∷◌, Option, Some}
 use Rattle.sc_base.specs.Limits.{client_actor}
 use Rattle.sc_base.specs.declared.names.Ballot.{Ballot}
 use Rattle.sc_base.specs.declared.names.Draw.{Draw}
 use Rattle.sc_base.specs.declared.ops.Op.{Op}
-use Rattle.sc_base.specs.Among.{Each}
 use Rattle.sc_cmd.specs.declared.commands.Command.{Command}
 use Rattle.sc_cmd.specs.declared.commands.Command.TheVariants.{Noop, Call, Join, Leave, Split, Begin, Prepared, RecordVote, GiveUp, Finish, Watched, RecordWatch}
 use Rattle.sc_cmd.specs.declared.orders.OrderRefusal.TheVariants as Why
@@ -15,7 +13,6 @@ use Rattle.sc_mail.specs.declared.bodies.AnswerBody.TheVariants as Says
 use Rattle.sc_mail.specs.declared.bodies.Mail.{Mail}
 use Rattle.sc_mail.specs.declared.bodies.MailBody.TheVariants.{Answer, Prepare, Install}
 use Rattle.sc_machine_table.specs.Group.{base_of}
-use Rattle.sc_law_lemmas.proofs.Ballots.{below_round}
 use Rattle.sc_paxos_words.specs.Ballots.{below}
 use Rattle.sc_paxos_words.specs.Leaders.{new_leader}
 use Rattle.sc_node_table.specs.Election.{open_nodes, elected, ended, stopped, saw}
@@ -25,20 +22,22 @@ use Rattle.sc_node_table.specs.Replica.{ReplicaState, Place, name_of, next, unde
 use Rattle.sc_law_lemmas.proofs.Ways.{either_way}
 use Rattle.sc_refusal_law.proofs.Keeping.{Kept, KeptAll, way_kept}
 use Rattle.sc_refusal_law.proofs.Plain.{sent_one, told_plain}
-use Rattle.sc_refusal_law.proofs.Standing.{Caused, CausedAnswer, caused_plain, stopped_caused, Stands, Fine, with_plain, with_all}
+use Rattle.sc_refusal_law.proofs.Standing.{CauseSo, Caused, AllCaused, caused_plain, stopped_caused, Stands, FineAs, Fine, with_plain, with_all}
 
-module _ (start : ReplicaState) (A : Command → Type 0) (G : Draw → Type 0) where
-  abbrev F : Place → Type 0
-  F place = Fine start A G place
+module _ (start : ReplicaState) (A : Command → Type 0) (G : Draw → Type 0) (W : Ballot → Draw → ℕ) (Q : Type 0) where
+  abbrev F : Bool → Bool → Place → Type 0
+  F refused turned place = FineAs start A G W Q refused turned place
 
   -- ---- answers to the calls that are kept
 
-  module _ (entries : List Command) (refused : Bool) (me : ℕ) (group : Draw) (answer : AnswerBody) (causes : (client seq : ℕ) (op : Op) → A (Call client seq op) → CausedAnswer start A G entries refused (client_actor client) seq answer) where
+  module _ (entries : List Command) (refused turned : Bool) (me : ℕ) (group : Draw) (own : group ≡ name_of start) (answer : AnswerBody) (causes : (client seq : ℕ) (op : Op) → CauseSo start A G W Q entries refused turned client seq op answer) where
     abbrev C : List Mail → Type 0
-    C mails = Each (Caused start A G entries refused) mails
+    C mails = AllCaused start A G W Q entries refused turned mails
 
     answered_one : (client seq : ℕ) (op : Op) (mails : List Mail) → A (Call client seq op) → C mails → C (sent me (client_actor client) (Answer group seq answer) mails)
-    answered_one client seq op mails a c = sent_one (Caused start A G entries refused) (caused_plain start A G entries refused) mails (record { from = me; to = client_actor client; body = Answer group seq answer }) (causes client seq op a) c
+    answered_one client seq op mails a c =
+        sent_one (Caused start A G W Q entries refused turned) (caused_plain start A G W Q entries refused turned) mails (record { from = me; to = client_actor client; body = Answer group seq answer })
+        (record { own = own; client = client; op = op; receiver = refl; was_asked = a; cause = causes client seq op }) c
 
     answered_caused : (command : Command) (mails : List Mail) → Kept A G command → C mails → C (answered me group answer command mails)
     unfolding answered
@@ -51,7 +50,7 @@ module _ (start : ReplicaState) (A : Command → Type 0) (G : Draw → Type 0) w
     answers_caused (command ∷ commands) mails k c = answers_caused commands (answered me group answer command mails) k.1 (answered_caused command mails k.0 c)
 
     desk : (number : ℕ) (hint : Option ℕ) (mails : List Mail) → C mails → C (told_order me number (Tells.Refused (Why.NotLeader hint)) mails)
-    desk number hint mails c = told_plain (Caused start A G entries refused) (caused_plain start A G entries refused) me number (Tells.Refused (Why.NotLeader hint)) mails c
+    desk number hint mails c = told_plain (Caused start A G W Q entries refused turned) (caused_plain start A G W Q entries refused turned) me number (Tells.Refused (Why.NotLeader hint)) mails c
 
     dismissed_caused : (hint : Option ℕ) (command : Command) (mails : List Mail) → Kept A G command → C mails → C (dismissed me group hint answer command mails)
     unfolding dismissed
@@ -75,75 +74,77 @@ module _ (start : ReplicaState) (A : Command → Type 0) (G : Draw → Type 0) w
 
   -- ---- it stops
 
-  -- with an answer whose cause is that it has stopped, or stands already
-  unfoldable pub ended_fine : (hint : Option ℕ) (answer : AnswerBody) (r : ReplicaState) (mails : List Mail) (f : F (r, mails))
-      → ((client seq : ℕ) (op : Op) → A (Call client seq op) → CausedAnswer start A G f.1.entries true (client_actor client) seq answer) → F (ended hint answer (r, mails))
+  -- with an answer whose cause is that it has stopped, or the executed state
+  unfoldable pub ended_fine : (refused turned refused' turned' : Bool) (hint : Option ℕ) (answer : AnswerBody) (r : ReplicaState) (mails : List Mail) (f : F refused turned (r, mails))
+      → ((ms : List Mail) → AllCaused start A G W Q f.1.entries refused turned ms → AllCaused start A G W Q f.1.entries refused' turned' ms)
+      → ((client seq : ℕ) (op : Op) → CauseSo start A G W Q f.1.entries refused' turned' client seq op answer) → F refused' turned' (ended hint answer (r, mails))
   unfolding ended
-  ended_fine hint answer r mails f causes =
-      let first = answers_caused f.1.entries true r.me (name_of r) answer causes (under_way r) mails (way_kept A G r f.0) (stopped_caused start A G f.1.entries f.1.refused mails f.1.sent) in (
-        record { calls = tt; acts = tt; flights = tt; ready = tt; reports = tt },
+  ended_fine refused turned refused' turned' hint answer r mails f later causes =
+      let first = answers_caused f.1.entries refused' turned' r.me (name_of r) f.1.name_is answer causes (under_way r) mails (way_kept A G r f.0) (later mails f.1.sent) in (
+        record { calls = tt; acts = tt; due = tt; flights = tt; ready = tt; reports = tt },
         record {
           entries = f.1.entries;
+          me_is = f.1.me_is;
+          name_is = f.1.name_is;
           group_is = f.1.group_is;
           log_is = f.1.log_is;
-          top_is = f.1.top_is;
-          refused = true;
-          out = λ e. inl refl;
-          sent = dismissals_caused f.1.entries true r.me (name_of r) answer causes hint r.calls (answered_all r.me (name_of r) answer (under_way r) mails) f.0.calls first;
+          out = λ e. refl;
+          patient = λ q runs. cc;
+          sent = dismissals_caused f.1.entries refused' turned' r.me (name_of r) f.1.name_is answer causes hint r.calls (answered_all r.me (name_of r) answer (under_way r) mails) f.0.calls first;
         },
       )
 
-  unfoldable pub stopped_fine : (hint : Option ℕ) (r : ReplicaState) (mails : List Mail) → F (r, mails) → F (stopped hint (r, mails))
-  stopped_fine hint r mails f = ended_fine hint (Says.NotLeader hint) r mails f (λ client seq op a. refl)
+  unfoldable pub stopped_fine : (refused turned : Bool) (hint : Option ℕ) (r : ReplicaState) (mails : List Mail) → F refused turned (r, mails) → F true turned (stopped hint (r, mails))
+  stopped_fine refused turned hint r mails f = ended_fine refused turned true turned hint (Says.NotLeader hint) r mails f (λ ms c. stopped_caused start A G W Q f.1.entries refused turned ms c) (λ client seq op. refl)
 
-  -- ---- it is elected
+  -- ---- it is elected, where no other leader was named
 
-  pub elected_fine : (r : ReplicaState) (mails : List Mail) → F (r, mails) → F (elected (r, mails))
+  pub elected_fine : (turned : Bool) (r : ReplicaState) (mails : List Mail) → F false turned (r, mails) → F false turned (elected (r, mails))
   unfolding elected
-  elected_fine r mails f =
+  elected_fine turned r mails f =
       let ballot : Ballot = record { round = r.top.round + 1; node = r.me } in
-      let low = f.1.top_is in
-      let s : Stands start A G r.group r.log (r.top.round + 1) true (r.top.round + 1) mails = record {
+      let s : Stands start A G W Q false turned r.me r.group r.log true ballot 0 mails = record {
         entries = f.1.entries;
+        me_is = f.1.me_is;
+        name_is = f.1.name_is;
         group_is = f.1.group_is;
         log_is = f.1.log_is;
-        top_is = omega (arith, low);
-        refused = f.1.refused;
-        out = λ e. inr (omega (arith, low));
+        out = λ e. cc;
+        patient = λ q runs. omega arith;
         sent = f.1.sent;
       } in
-      either_way F (eqb r.top.round (2 ^ 32 - 1)) _ _ f (
-        record { calls = f.0.calls; acts = f.0.acts; flights = tt; ready = tt; reports = tt },
-        with_all start A G (record r { top = ballot; hint = Some r.me; running = true; leader = new_leader ballot (next r); ready = []; waits = 0 }) mails r.me (open_nodes r.sets) (Prepare (name_of r) ballot (next r)) tt s,
+      either_way (F false turned) (eqb r.top.round (2 ^ 32 - 1)) _ _ f (
+        record { calls = f.0.calls; acts = f.0.acts; due = f.0.due; flights = tt; ready = tt; reports = tt },
+        with_all start A G W Q false turned (record r { top = ballot; hint = Some r.me; running = true; leader = new_leader ballot (next r); ready = []; waits = 0 }) mails r.me (open_nodes r.sets) (Prepare (name_of r) ballot (next r)) tt s,
       )
 
   -- ---- a ballot that is seen
 
-  raised : (r : ReplicaState) (ballot : Ballot) (mails : List Mail) → r.top.round ≤ ballot.round → F (r, mails) → F (record r { top = ballot }, mails)
-  raised r ballot mails le f =
-      let low = f.1.top_is in (
-        record { calls = f.0.calls; acts = f.0.acts; flights = f.0.flights; ready = f.0.ready; reports = f.0.reports },
-        record { entries = f.1.entries; group_is = f.1.group_is; log_is = f.1.log_is; top_is = omega (arith, low, le); refused = f.1.refused; out = f.1.out; sent = f.1.sent },
-      )
+  raised : (refused turned : Bool) (r : ReplicaState) (ballot : Ballot) (mails : List Mail) → F refused turned (r, mails) → F refused turned (record r { top = ballot }, mails)
+  raised refused turned r ballot mails f = (
+    record { calls = f.0.calls; acts = f.0.acts; due = f.0.due; flights = f.0.flights; ready = f.0.ready; reports = f.0.reports },
+    f.1,
+  )
 
-  pub saw_fine : (ballot : Ballot) (r : ReplicaState) (mails : List Mail) → F (r, mails) → F (saw ballot (r, mails))
+  pub saw_fine : (ballot : Ballot) (r : ReplicaState) (mails : List Mail) → F false true (r, mails) → Fine start A G W Q (saw ballot (r, mails))
   unfolding saw
   saw_fine ballot r mails f =
       let seen : ReplicaState = cond (below r.top ballot) (record r { top = ballot }) r in
-      let g : F (seen, mails) = cond_both (below r.top ballot) (record r { top = ballot }) r (λ s. F (s, mails)) (λ e. raised r ballot mails (below_round r.top ballot e) f) (λ e. f) in
-      either_way F (r.running && below r.leader.ballot ballot) (stopped (Some ballot.node) (seen, mails)) (seen, mails) (stopped_fine (Some ballot.node) seen mails g) g
+      let g : F false true (seen, mails) = either_way (λ (s : ReplicaState). F false true (s, mails)) (below r.top ballot) (record r { top = ballot }) r (raised false true r ballot mails f) f in
+      either_way (Fine start A G W Q) (r.running && below r.leader.ballot ballot) (stopped (Some ballot.node) (seen, mails)) (seen, mails) (true, stopped_fine false true (Some ballot.node) seen mails g) (false, g)
 
   -- ---- the state is sent
 
-  pub installed_fine : (node : ℕ) (place : Place) → F place → F (install_to node place)
+  pub installed_fine : (refused turned : Bool) (node : ℕ) (place : Place) → F refused turned place → F refused turned (install_to node place)
   unfolding install_to
-  installed_fine node (r, mails) f = (f.0, with_plain start A G r mails r.me node (Install (name_of r) (next r - 1) (base_of r.group) r.sets) tt f.1)
+  installed_fine refused turned node (r, mails) f = (f.0, with_plain start A G W Q refused turned r mails r.me node (Install (name_of r) (next r - 1) (base_of r.group) r.sets) tt f.1)
 
-  asked_fine : (node : ℕ) (place : Place) → F place → F (asked_to_promise node place)
-  asked_fine node (r, mails) f =
-      either_way F r.leader.is_first (r, mails) (r, sent r.me node (Prepare (name_of r) r.leader.ballot (next r)) mails) f (f.0, with_plain start A G r mails r.me node (Prepare (name_of r) r.leader.ballot (next r)) tt f.1)
+  asked_fine : (refused turned : Bool) (node : ℕ) (place : Place) → F refused turned place → F refused turned (asked_to_promise node place)
+  asked_fine refused turned node (r, mails) f =
+      either_way (F refused turned) r.leader.is_first (r, mails) (r, sent r.me node (Prepare (name_of r) r.leader.ballot (next r)) mails) f (f.0, with_plain start A G W Q refused turned r mails r.me node (Prepare (name_of r) r.leader.ballot (next r)) tt f.1)
 
-  pub welcomed_fine : (nodes : List ℕ) (place : Place) → F place → F (welcomed_all nodes place)
+  pub welcomed_fine : (refused turned : Bool) (nodes : List ℕ) (place : Place) → F refused turned place → F refused turned (welcomed_all nodes place)
   unfolding welcomed_all
-  welcomed_fine [] place f = f
-  welcomed_fine (node ∷ nodes) place f = welcomed_fine nodes (asked_to_promise node (install_to node place)) (asked_fine node (install_to node place) (installed_fine node place f))
+  welcomed_fine refused turned [] place f = f
+  welcomed_fine refused turned (node ∷ nodes) place f =
+      welcomed_fine refused turned nodes (asked_to_promise node (install_to node place)) (asked_fine refused turned node (install_to node place) (installed_fine refused turned node place f))

@@ -1,10 +1,11 @@
--- A node without a replica of a mail's group: what it answers to a client names no leader.
+-- A node without a replica of a mail's group: what it answers is to the request that came, and names no leader.
 use Rattle.std.proofs.Common.{◌≡◌, ℕ, ◌+◌, ◌-◌, ◌^◌, ◌||◌, not, nat_lt, eqb, List, [], length, Option, Some, None, refl, sym, subst}
 use Rattle.sc_base.specs.Among.{Each}
 use Rattle.sc_base.specs.declared.names.Draw.{Draw}
 use Rattle.sc_cmd.specs.declared.cores.Base.{Base}
 use Rattle.sc_cmd.specs.declared.links.Route.{Route}
-use Rattle.sc_mail.specs.declared.bodies.AnswerBody.TheVariants as Said
+use Rattle.sc_actor.specs.declared.rows.Input.TheVariants.{Got}
+use Rattle.sc_mail.specs.declared.bodies.AnswerBody.{AnswerBody}
 use Rattle.sc_mail.specs.declared.bodies.Mail.{Mail}
 use Rattle.sc_mail.specs.declared.bodies.MailBody.{MailBody}
 use Rattle.sc_mail.specs.declared.bodies.MailBody.TheVariants.{Request, Answer, Prepare, Promise, Accept, Accepted, Nack, Learn, Ask, Install, TxPrepare, TxVote, TxOutcome, TxElsewhere, TxWatch, TxWatched, Told}
@@ -12,75 +13,80 @@ use Rattle.sc_member.specs.Roster.{is_member, least_of}
 use Rattle.sc_node_table.specs.Election.{open_nodes, elected}
 use Rattle.sc_node_table.specs.Execute.{is_among, looked_for, looked}
 use Rattle.sc_node_table.specs.Install.{named}
-use Rattle.sc_node_table.specs.Node.{NodeState, with_made, unknown, may_come, taken_by, routed}
+use Rattle.sc_node_table.specs.Node.{NodeState, replica_of, group_of_mail, with_made, unknown}
 use Rattle.sc_node_table.specs.Replica.{ReplicaState, Place, name_of, next, members, last_slot, installed_replica}
 use Rattle.sc_node_table.specs.Rows.{looked_up, made_by}
 use Rattle.sc_node_table.specs.Slots.{slots_ahead}
 use Rattle.sc_law_lemmas.proofs.Ways.{either_way}
-use Rattle.sc_refusal_law.specs.Causes.{NamesNoLeader, StrangersNameNoLeader}
+use Rattle.sc_refusal_law.specs.Causes.{IfAnswer}
+use Rattle.sc_refusal_law.specs.NodeCauses.{TurnsAway}
 use Rattle.sc_refusal_law.proofs.Plain.{IsPlain, plain_has, sent_plain, all_plain}
 
-abbrev P : Mail → Type 0
-P mail = NamesNoLeader mail.body
+module _ (node : NodeState) (mail : Mail) (group : Draw) (missing : replica_of group node.replicas ≡ None) where
+  abbrev Turned : Mail → Draw → ℕ → AnswerBody → Type 0
+  Turned answer other seq says = TurnsAway node (Got mail) answer.to other seq says
 
-plain : (mail : Mail) → IsPlain mail.body → P mail
-plain mail p = plain_has (λ seq answer. answer ≡ Said.NotLeader None) mail.body p
+  abbrev pub P : Mail → Type 0
+  P answer = IfAnswer (Turned answer) answer.body
 
-abbrev Sends : Place → Type 0
-Sends place = Each P place.1
+  plain : (answer : Mail) → IsPlain answer.body → P answer
+  plain answer p = plain_has (Turned answer) answer.body p
 
--- ---- a replica that is made by a state that is sent
+  abbrev Sends : Place → Type 0
+  Sends place = Each P place.1
 
-elected_sends : (r : ReplicaState) (mails : List Mail) → Each P mails → Sends (elected (r, mails))
-unfolding elected
-elected_sends r mails m =
-    either_way Sends (eqb r.top.round (2 ^ 32 - 1)) _ _ m (all_plain P plain r.me (open_nodes r.sets) (Prepare (name_of r) (record { round = r.top.round + 1; node = r.me }) (next r)) mails tt m)
+  -- ---- a replica that is made by a state that is sent
 
-for_sends : (gone : Option Route) (r : ReplicaState) (mails : List Mail) → Each P mails → Sends (looked_for gone (r, mails))
-for_sends (Some into) r mails m = m
-for_sends None r mails m =
-    either_way Sends (is_among (members r) r.hint) (r, mails) _ m
-    (either_way Sends (eqb (least_of (members r)) r.me) (elected (record r { hint = Some r.me }, mails)) (record r { hint = Some (least_of (members r)) }, mails) (elected_sends (record r { hint = Some r.me }) mails m) m)
+  elected_sends : (r : ReplicaState) (mails : List Mail) → Each P mails → Sends (elected (r, mails))
+  unfolding elected
+  elected_sends r mails m =
+      either_way Sends (eqb r.top.round (2 ^ 32 - 1)) _ _ m (all_plain P plain r.me (open_nodes r.sets) (Prepare (name_of r) (record { round = r.top.round + 1; node = r.me }) (next r)) mails tt m)
 
-looked_sends : (r : ReplicaState) (mails : List Mail) → Each P mails → Sends (looked (r, mails))
-unfolding looked
-looked_sends r mails m = either_way Sends r.running (r, mails) (looked_for r.group.core.gone (r, mails)) m (for_sends r.group.core.gone r mails m)
+  for_sends : (gone : Option Route) (r : ReplicaState) (mails : List Mail) → Each P mails → Sends (looked_for gone (r, mails))
+  for_sends (Some into) r mails m = m
+  for_sends None r mails m =
+      either_way Sends (is_among (members r) r.hint) (r, mails) _ m
+      (either_way Sends (eqb (least_of (members r)) r.me) (elected (record r { hint = Some r.me }, mails)) (record r { hint = Some (least_of (members r)) }, mails) (elected_sends (record r { hint = Some r.me }) mails m) m)
 
-made_sends : (me from : ℕ) (group : Draw) (slot : ℕ) (base : Base) (sets : List (List ℕ)) → Sends (made_by me from group slot base sets)
-unfolding made_by looked_up
-made_sends me from group slot base sets =
-    let r : ReplicaState = installed_replica me slot (named group base) sets in
-    either_way Sends (is_member (members r) from) (record r { hint = Some from }, []) (looked (r, [])) tt (looked_sends r [] tt)
+  looked_sends : (r : ReplicaState) (mails : List Mail) → Each P mails → Sends (looked (r, mails))
+  unfolding looked
+  looked_sends r mails m = either_way Sends r.running (r, mails) (looked_for r.group.core.gone (r, mails)) m (for_sends r.group.core.gone r mails m)
 
--- ---- all mail
+  made_sends : (me from : ℕ) (group : Draw) (slot : ℕ) (base : Base) (sets : List (List ℕ)) → Sends (made_by me from group slot base sets)
+  unfolding made_by looked_up
+  made_sends me from group slot base sets =
+      let r : ReplicaState = installed_replica me slot (named group base) sets in
+      either_way Sends (is_member (members r) from) (record r { hint = Some from }, []) (looked (r, [])) tt (looked_sends r [] tt)
 
-abbrev Says : NodeState × List Mail → Type 0
-Says step = Each P step.1
+  -- ---- all mail
 
-with_made_says : (place : Place) (node : NodeState) → Sends place → Says (with_made place node)
-with_made_says (r, mails) node m = m
+  abbrev Says : NodeState × List Mail → Type 0
+  Says step = Each P step.1
 
-pub unknown_says : (from : ℕ) (body : MailBody) (node : NodeState) → Says (unknown from body node)
-unknown_says from (Install group slot base sets) node =
-    either_way Says (not (eqb (length sets) slots_ahead) || nat_lt last_slot slot) (node, []) (with_made (made_by node.me from group slot base sets) node) tt (with_made_says (made_by node.me from group slot base sets) node (made_sends node.me from group slot base sets))
-unknown_says from (Request group client seq op) node = (refl, tt)
-unknown_says from (Prepare group ballot from_slot) node = sent_plain P plain node.me from (Ask group 0) [] tt tt
-unknown_says from (Accept group ballot slot command) node = sent_plain P plain node.me from (Ask group 0) [] tt tt
-unknown_says from (Learn group slot command) node = sent_plain P plain node.me from (Ask group 0) [] tt tt
-unknown_says from (Answer group seq answer) node = tt
-unknown_says from (Promise group ballot reports) node = tt
-unknown_says from (Accepted group ballot slot) node = tt
-unknown_says from (Nack group promised) node = tt
-unknown_says from (Ask group from_slot) node = tt
-unknown_says from (TxPrepare tx offer) node = sent_plain P plain node.me from (TxElsewhere tx offer.coord None) [] tt tt
-unknown_says from (TxVote tx coord part vote) node = tt
-unknown_says from (TxOutcome tx part outcome) node = tt
-unknown_says from (TxElsewhere tx coord hint) node = tt
-unknown_says from (TxWatch tx watch) node = sent_plain P plain node.me from (TxElsewhere tx watch.coord None) [] tt tt
-unknown_says from (TxWatched tx coord part vote) node = tt
-unknown_says from (Told order result) node = tt
+  with_made_says : (place : Place) (node : NodeState) → Sends place → Says (with_made place node)
+  with_made_says (r, mails) node m = m
 
-pub strangers_name_no_leader : StrangersNameNoLeader
-strangers_name_no_leader node from body group named_is none =
-    either_way Says (may_come from body) _ (node, [])
-    (subst (λ o. Says (routed o from body node)) (sym named_is) (subst (λ r. Says (taken_by r group from body node)) (sym none) (unknown_says from body node))) tt
+  unknown_as : (body : MailBody) → body ≡ mail.body → group_of_mail body ≡ Some group → Says (unknown mail.from body node)
+  unknown_as (Install other slot base sets) e g =
+      either_way Says (not (eqb (length sets) slots_ahead) || nat_lt last_slot slot) (node, []) (with_made (made_by node.me mail.from other slot base sets) node) tt (with_made_says (made_by node.me mail.from other slot base sets) node (made_sends node.me mail.from other slot base sets))
+  unknown_as (Request other client seq op) e g =
+      let same : other ≡ group = cc in
+      (record { mail = mail; brought = refl; client = client; op = op; request = sym e; missing = subst (λ (name : Draw). replica_of name node.replicas ≡ None) (sym same) missing; receiver = refl; says = refl }, tt)
+  unknown_as (Prepare other ballot from_slot) e g = sent_plain P plain node.me mail.from (Ask other 0) [] tt tt
+  unknown_as (Accept other ballot slot command) e g = sent_plain P plain node.me mail.from (Ask other 0) [] tt tt
+  unknown_as (Learn other slot command) e g = sent_plain P plain node.me mail.from (Ask other 0) [] tt tt
+  unknown_as (Answer other seq answer) e g = tt
+  unknown_as (Promise other ballot reports) e g = tt
+  unknown_as (Accepted other ballot slot) e g = tt
+  unknown_as (Nack other ballot) e g = tt
+  unknown_as (Ask other from_slot) e g = tt
+  unknown_as (TxPrepare tx offer) e g = sent_plain P plain node.me mail.from (TxElsewhere tx offer.coord None) [] tt tt
+  unknown_as (TxVote tx coord part vote) e g = tt
+  unknown_as (TxOutcome tx part outcome) e g = tt
+  unknown_as (TxElsewhere tx coord hint) e g = tt
+  unknown_as (TxWatch tx watch) e g = sent_plain P plain node.me mail.from (TxElsewhere tx watch.coord None) [] tt tt
+  unknown_as (TxWatched tx coord part vote) e g = tt
+  unknown_as (Told order result) e g = tt
+
+  pub unknown_says : group_of_mail mail.body ≡ Some group → Each P (unknown mail.from mail.body node).1
+  unknown_says g = unknown_as mail.body refl g

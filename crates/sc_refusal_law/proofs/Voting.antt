@@ -1,5 +1,6 @@
 -- The rows of Paxos: what a replica makes of promises, votes and executed entries that it is sent.
-use Rattle.std.proofs.Common.{◌≡◌, ℕ, ◌&&◌, not, nat_le, nat_lt, eqb, Bool, true, false, List, Option, Some, None, refl, true≢false, sym, subst}
+use Rattle.std.proofs.Common.{◌≡◌, ◌≤◌, ℕ, ◌&&◌, not, nat_le, nat_lt, eqb, Bool, true, false, List, Option, Some, None, refl, sym, subst}
+use Rattle.std.proofs.lemmas.Bool.{cond_both, eqb-true}
 use Rattle.sc_base.specs.Among.{Each}
 use Rattle.sc_base.specs.Same.{same_ballot}
 use Rattle.sc_base.specs.declared.names.Ballot.{Ballot}
@@ -38,52 +39,61 @@ use Rattle.sc_law_lemmas.proofs.Places.{promised_place, asked_place}
 use Rattle.sc_law_lemmas.proofs.Ways.{either_way}
 use Rattle.sc_refusal_law.proofs.Keeping.{Kept, Flying, Reported, Holds}
 use Rattle.sc_refusal_law.proofs.Plain.{taught_plain}
-use Rattle.sc_refusal_law.proofs.Standing.{Caused, caused_plain, Stands, Fine, resent, with_plain}
+use Rattle.sc_refusal_law.proofs.Standing.{Caused, caused_plain, Stands, FineAs, Fine, turned_fine, resent, with_plain}
 use Rattle.sc_refusal_law.proofs.Stopping.{saw_fine, installed_fine}
 use Rattle.sc_refusal_law.proofs.Pumping.{pumped_fine}
-use Rattle.sc_refusal_law.proofs.Executing.{executed_fine}
+use Rattle.sc_refusal_law.proofs.Executing.{MayLose, executed_fine}
 
-module _ (start : ReplicaState) (A : Command → Type 0) (G : Draw → Type 0) where
-  abbrev F : Place → Type 0
-  F place = Fine start A G place
+module _ (start : ReplicaState) (A : Command → Type 0) (G : Draw → Type 0) (W : Ballot → Draw → ℕ) (Q : Type 0) (numbered : 1 ≤ start.me) where
+  -- whether or not another leader was named
+  abbrev F : Bool → Place → Type 0
+  F refused place = FineAs start A G W Q refused true place
+
+  abbrev After : Place → Type 0
+  After place = Fine start A G W Q place
+
+  -- .. and while entries are executed
+  abbrev E : Place → Type 0
+  E place = FineAs start A G W Q false false place
 
   -- what a replica keeps of commands is the same with another acceptor, hint or hint and acceptor
   with_acceptor : (r : ReplicaState) (acceptor : AcceptorState Command) → Holds A G r → Holds A G (record r { acceptor = acceptor })
-  with_acceptor r acceptor h = record { calls = h.calls; acts = h.acts; flights = h.flights; ready = h.ready; reports = h.reports }
+  with_acceptor r acceptor h = record { calls = h.calls; acts = h.acts; due = h.due; flights = h.flights; ready = h.ready; reports = h.reports }
 
-  hinted_fine : (ballot : Ballot) (r : ReplicaState) (mails : List Mail) → F (r, mails) → F (hinted ballot r, mails)
-  hinted_fine ballot r mails f =
-      either_way (λ (x : ReplicaState). F (x, mails)) r.running r (record r { hint = Some ballot.node }) f
-      (record { calls = f.0.calls; acts = f.0.acts; flights = f.0.flights; ready = f.0.ready; reports = f.0.reports }, f.1)
+  hinted_fine : (refused : Bool) (ballot : Ballot) (r : ReplicaState) (mails : List Mail) → F refused (r, mails) → F refused (hinted ballot r, mails)
+  hinted_fine refused ballot r mails f =
+      either_way (λ (x : ReplicaState). F refused (x, mails)) r.running r (record r { hint = Some ballot.node }) f
+      (record { calls = f.0.calls; acts = f.0.acts; due = f.0.due; flights = f.0.flights; ready = f.0.ready; reports = f.0.reports }, f.1)
 
   -- ---- Prepare and Accept
 
-  promise_fine : (from : ℕ) (ballot : Ballot) (p : PrepareAnswer Command × AcceptorState Command) (place : Place) → F place → F (promise_to from ballot p place)
-  promise_fine from ballot (Prepared.Promise reports, acceptor) (r, mails) f =
-      hinted_fine ballot (record r { acceptor = acceptor }) (sent r.me from (Promise (name_of r) ballot reports) mails) (with_acceptor r acceptor f.0, with_plain start A G r mails r.me from (Promise (name_of r) ballot reports) tt f.1)
-  promise_fine from ballot (Prepared.Ignored was, acceptor) (r, mails) f = (with_acceptor r acceptor f.0, with_plain start A G r mails r.me from (Nack (name_of r) was) tt f.1)
+  promise_fine : (refused : Bool) (from : ℕ) (ballot : Ballot) (p : PrepareAnswer Command × AcceptorState Command) (place : Place) → F refused place → F refused (promise_to from ballot p place)
+  promise_fine refused from ballot (Prepared.Promise reports, acceptor) (r, mails) f =
+      hinted_fine refused ballot (record r { acceptor = acceptor }) (sent r.me from (Promise (name_of r) ballot reports) mails) (with_acceptor r acceptor f.0, with_plain start A G W Q refused true r mails r.me from (Promise (name_of r) ballot reports) tt f.1)
+  promise_fine refused from ballot (Prepared.Ignored was, acceptor) (r, mails) f = (with_acceptor r acceptor f.0, with_plain start A G W Q refused true r mails r.me from (Nack (name_of r) was) tt f.1)
 
-  pub prepare_fine : (from : ℕ) (ballot : Ballot) (from_slot : ℕ) (r : ReplicaState) (mails : List Mail) → F (r, mails) → F (prepare_row from ballot from_slot (r, mails))
+  pub prepare_fine : (from : ℕ) (ballot : Ballot) (from_slot : ℕ) (r : ReplicaState) (mails : List Mail) → F false (r, mails) → After (prepare_row from ballot from_slot (r, mails))
   unfolding prepare_row
   prepare_fine from ballot from_slot r mails f =
       let seen : Place = saw ballot (r, mails) in
-      let g : F seen = saw_fine start A G ballot r mails f in
-      promised_place F from ballot from_slot seen (installed_fine start A G from seen g) (promise_fine from ballot (prepared ballot from_slot seen.0.acceptor) seen g)
+      let g : After seen = saw_fine start A G W Q ballot r mails f in
+      (g.0, promised_place (F g.0) from ballot from_slot seen (installed_fine start A G W Q g.0 true from seen g.1) (promise_fine g.0 from ballot (prepared ballot from_slot seen.0.acceptor) seen g.1))
 
-  accepted_to_fine : (from : ℕ) (ballot : Ballot) (slot : ℕ) (p : AcceptAnswer × AcceptorState Command) (place : Place) → F place → F (accepted_to from ballot slot p place)
-  accepted_to_fine from ballot slot (Asked.Accepted, acceptor) (r, mails) f =
-      hinted_fine ballot (record r { acceptor = acceptor }) (sent r.me from (Accepted (name_of r) ballot slot) mails) (with_acceptor r acceptor f.0, with_plain start A G r mails r.me from (Accepted (name_of r) ballot slot) tt f.1)
-  accepted_to_fine from ballot slot (Asked.Ignored was, acceptor) (r, mails) f = (with_acceptor r acceptor f.0, with_plain start A G r mails r.me from (Nack (name_of r) was) tt f.1)
+  accepted_to_fine : (refused : Bool) (from : ℕ) (ballot : Ballot) (slot : ℕ) (p : AcceptAnswer × AcceptorState Command) (place : Place) → F refused place → F refused (accepted_to from ballot slot p place)
+  accepted_to_fine refused from ballot slot (Asked.Accepted, acceptor) (r, mails) f =
+      hinted_fine refused ballot (record r { acceptor = acceptor }) (sent r.me from (Accepted (name_of r) ballot slot) mails) (with_acceptor r acceptor f.0, with_plain start A G W Q refused true r mails r.me from (Accepted (name_of r) ballot slot) tt f.1)
+  accepted_to_fine refused from ballot slot (Asked.Ignored was, acceptor) (r, mails) f = (with_acceptor r acceptor f.0, with_plain start A G W Q refused true r mails r.me from (Nack (name_of r) was) tt f.1)
 
-  took_fine : (from : ℕ) (report : Report Command) (place : Place) → F place → F (took from report place)
+  took_fine : (refused : Bool) (from : ℕ) (report : Report Command) (place : Place) → F refused place → F refused (took from report place)
   unfolding took
-  took_fine from report (r, mails) f =
-      either_way F (nat_le report.slot r.acceptor.floor) (install_to from (r, mails)) (accepted_to from report.ballot report.slot (accepted_by report r.acceptor) (r, mails)) (installed_fine start A G from (r, mails) f)
-      (accepted_to_fine from report.ballot report.slot (accepted_by report r.acceptor) (r, mails) f)
+  took_fine refused from report (r, mails) f =
+      either_way (F refused) (nat_le report.slot r.acceptor.floor) (install_to from (r, mails)) (accepted_to from report.ballot report.slot (accepted_by report r.acceptor) (r, mails)) (installed_fine start A G W Q refused true from (r, mails) f)
+      (accepted_to_fine refused from report.ballot report.slot (accepted_by report r.acceptor) (r, mails) f)
 
-  pub accept_fine : (from : ℕ) (ballot : Ballot) (slot : ℕ) (command : Command) (r : ReplicaState) (mails : List Mail) → F (r, mails) → F (accept_row from ballot slot command (r, mails))
+  pub accept_fine : (from : ℕ) (ballot : Ballot) (slot : ℕ) (command : Command) (r : ReplicaState) (mails : List Mail) → F false (r, mails) → After (accept_row from ballot slot command (r, mails))
   unfolding accept_row
-  accept_fine from ballot slot command r mails f = took_fine from (record { slot = slot; ballot = ballot; value = command }) (saw ballot (r, mails)) (saw_fine start A G ballot r mails f)
+  accept_fine from ballot slot command r mails f =
+      let g : After (saw ballot (r, mails)) = saw_fine start A G W Q ballot r mails f in (g.0, took_fine g.0 from (record { slot = slot; ballot = ballot; value = command }) (saw ballot (r, mails)) g.1)
 
   -- ---- Promise
 
@@ -93,10 +103,10 @@ module _ (start : ReplicaState) (A : Command → Type 0) (G : Draw → Type 0) w
     reports : Each (Reported A G) leader.reports
     ballot : leader.ballot ≡ r.leader.ballot
 
-  with_leader : (r : ReplicaState) (leader : LeaderState Command) (mails : List Mail) → Leads r leader → F (r, mails) → F (record r { leader = leader }, mails)
-  with_leader r leader mails l f = (
-    record { calls = f.0.calls; acts = f.0.acts; flights = l.flights; ready = f.0.ready; reports = l.reports },
-    subst (λ ballot. Stands start A G r.group r.log r.top.round r.running ballot.round mails) (sym l.ballot) f.1,
+  with_leader : (turned : Bool) (r : ReplicaState) (leader : LeaderState Command) (mails : List Mail) → Leads r leader → FineAs start A G W Q false turned (r, mails) → FineAs start A G W Q false turned (record r { leader = leader }, mails)
+  with_leader turned r leader mails l f = (
+    record { calls = f.0.calls; acts = f.0.acts; due = f.0.due; flights = l.flights; ready = f.0.ready; reports = l.reports },
+    subst (λ ballot. Stands start A G W Q false turned r.me r.group r.log r.running ballot r.waits mails) (sym l.ballot) f.1,
   )
 
   counted_leads : (node : ℕ) (ballot : Ballot) (reports : List (Report Command)) (r : ReplicaState) → Each (Reported A G) reports → Holds A G r → Leads r (promise_counted node ballot reports r.leader).1
@@ -104,11 +114,11 @@ module _ (start : ReplicaState) (A : Command → Type 0) (G : Draw → Type 0) w
       either_way (λ (x : Bool × LeaderState Command). Leads r x.1) (same_ballot ballot r.leader.ballot && not (is_member r.leader.promisers node)) _ _
       (record { flights = h.flights; reports = Each-append (Reported A G) r.leader.reports reports h.reports p; ballot = refl }) (record { flights = h.flights; reports = h.reports; ballot = refl })
 
-  pub promise_row_fine : (from : ℕ) (ballot : Ballot) (reports : List (Report Command)) (r : ReplicaState) (mails : List Mail) → Each (Reported A G) reports → F (r, mails) → F (promise_row from ballot reports (r, mails))
+  pub promise_row_fine : (from : ℕ) (ballot : Ballot) (reports : List (Report Command)) (r : ReplicaState) (mails : List Mail) → Each (Reported A G) reports → F false (r, mails) → F false (promise_row from ballot reports (r, mails))
   unfolding promise_row
   promise_row_fine from ballot reports r mails p f =
-      either_way F (leads ballot r) (pumped (record r { leader = (promise_counted from ballot reports r.leader).1 }, mails)) (r, mails)
-      (pumped_fine start A G (record r { leader = (promise_counted from ballot reports r.leader).1 }, mails) (with_leader r (promise_counted from ballot reports r.leader).1 mails (counted_leads from ballot reports r p f.0) f)) f
+      let next : Place = (record r { leader = (promise_counted from ballot reports r.leader).1 }, mails) in
+      either_way (F false) (leads ballot r) (pumped next) (r, mails) (pumped_fine start A G W Q false next (with_leader true r (promise_counted from ballot reports r.leader).1 mails (counted_leads from ballot reports r p f.0) f)) f
 
   -- ---- Accepted
 
@@ -137,39 +147,44 @@ module _ (start : ReplicaState) (A : Command → Type 0) (G : Draw → Type 0) w
       either_way (Counts r) (same_ballot ballot r.leader.ballot) (vote_at node slot members (flight_at slot r.leader.flights) r.leader) (NotYet 0, r.leader)
       (vote_counts node slot members (flight_at slot r.leader.flights) r (opt_find (Flying A G) (λ (flight : Flight Command). eqb flight.slot slot) r.leader.flights h.flights) h) (tt, same_leads r h)
 
-  readied_fine : (slot : ℕ) (command : Command) (place : Place) → Kept A G command → F place → F (readied slot command place)
+  -- one that executes nothing
+  still : (place : Place) → E place → After place
+  still place f = (false, turned_fine start A G W Q false false place f)
+
+  readied_fine : (slot : ℕ) (command : Command) (place : Place) → Kept A G command → E place → After (readied slot command place)
   unfolding readied
   readied_fine slot command (r, mails) k f =
       let after : ReplicaState = record r { ready = with_slot r.ready slot command } in
-      let g : F (after, mails) = (record { calls = f.0.calls; acts = f.0.acts; flights = f.0.flights; ready = slot_with (Kept A G) r.ready slot command k f.0.ready; reports = f.0.reports }, f.1) in
-      either_way F (eqb slot (next r) && has_room r) (executed true command (after, mails)) (after, mails) (executed_fine start A G true command (after, mails) (λ _. k) g) g
+      let g : E (after, mails) = (record { calls = f.0.calls; acts = f.0.acts; due = f.0.due; flights = f.0.flights; ready = slot_with (Kept A G) r.ready slot command k f.0.ready; reports = f.0.reports }, f.1) in
+      either_way After (eqb slot (next r) && has_room r) (executed true command (after, mails)) (after, mails) (executed_fine start A G W Q numbered true command (after, mails) (λ _. k) (λ other flies counted. cc) g) (still (after, mails) g)
 
-  tallied_fine : (slot : ℕ) (p : Counted Command × LeaderState Command) (r : ReplicaState) (mails : List Mail) → Counts r p → F (r, mails) → F (vote_tallied slot p (r, mails))
-  tallied_fine slot (Chosen command, leader) r mails c f = readied_fine slot command (record r { leader = leader }, mails) c.0 (with_leader r leader mails c.1 f)
-  tallied_fine slot (NotYet count, leader) r mails c f = with_leader r leader mails c.1 f
+  tallied_fine : (slot : ℕ) (p : Counted Command × LeaderState Command) (r : ReplicaState) (mails : List Mail) → Counts r p → E (r, mails) → After (vote_tallied slot p (r, mails))
+  tallied_fine slot (Chosen command, leader) r mails c f = readied_fine slot command (record r { leader = leader }, mails) c.0 (with_leader false r leader mails c.1 f)
+  tallied_fine slot (NotYet count, leader) r mails c f = still (record r { leader = leader }, mails) (with_leader false r leader mails c.1 f)
 
-  voted_fine : (from : ℕ) (ballot : Ballot) (slot : ℕ) (set : Option (List ℕ)) (r : ReplicaState) (mails : List Mail) → F (r, mails) → F (voted from ballot slot set (r, mails))
-  voted_fine from ballot slot None r mails f = f
+  voted_fine : (from : ℕ) (ballot : Ballot) (slot : ℕ) (set : Option (List ℕ)) (r : ReplicaState) (mails : List Mail) → E (r, mails) → After (voted from ballot slot set (r, mails))
+  voted_fine from ballot slot None r mails f = still (r, mails) f
   voted_fine from ballot slot (Some set) r mails f = tallied_fine slot (counted from ballot slot set r.leader) r mails (counted_counts from ballot slot set r f.0) f
 
-  pub accepted_fine : (from : ℕ) (ballot : Ballot) (slot : ℕ) (r : ReplicaState) (mails : List Mail) → F (r, mails) → F (accepted_row from ballot slot (r, mails))
+  pub accepted_fine : (from : ℕ) (ballot : Ballot) (slot : ℕ) (r : ReplicaState) (mails : List Mail) → E (r, mails) → After (accepted_row from ballot slot (r, mails))
   unfolding accepted_row
-  accepted_fine from ballot slot r mails f = either_way F (leads ballot r) (voted from ballot slot (set_at slot r) (r, mails)) (r, mails) (voted_fine from ballot slot (set_at slot r) r mails f) f
+  accepted_fine from ballot slot r mails f = either_way After (leads ballot r) (voted from ballot slot (set_at slot r) (r, mails)) (r, mails) (voted_fine from ballot slot (set_at slot r) r mails f) (still (r, mails) f)
 
   -- ---- Nack, Learn and Ask
 
-  pub nack_fine : (ballot : Ballot) (r : ReplicaState) (mails : List Mail) → F (r, mails) → F (nack_row ballot (r, mails))
+  pub nack_fine : (ballot : Ballot) (r : ReplicaState) (mails : List Mail) → F false (r, mails) → After (nack_row ballot (r, mails))
   unfolding nack_row
-  nack_fine ballot r mails f = saw_fine start A G ballot r mails f
+  nack_fine ballot r mails f = saw_fine start A G W Q ballot r mails f
 
-  pub learn_fine : (from slot : ℕ) (command : Command) (r : ReplicaState) (mails : List Mail) → F (r, mails) → F (learn_row from slot command (r, mails))
+  pub learn_fine : (from slot : ℕ) (command : Command) (r : ReplicaState) (mails : List Mail) → (slot ≡ next r → MayLose start A G W Q numbered false command r) → E (r, mails) → After (learn_row from slot command (r, mails))
   unfolding learn_row
-  learn_fine from slot command r mails f =
-      either_way F (nat_lt last_slot slot) _ _ f
-      (either_way F (eqb slot (next r)) _ _ (executed_fine start A G false command (r, mails) (λ e. absurd (true≢false (sym e))) f)
-      (either_way F (nat_lt (next r) slot) (r, sent r.me from (Ask (name_of r) (next r)) mails) (r, mails) (f.0, with_plain start A G r mails r.me from (Ask (name_of r) (next r)) tt f.1) f))
+  learn_fine from slot command r mails d f =
+      either_way After (nat_lt last_slot slot) _ _ (still (r, mails) f)
+      (cond_both (eqb slot (next r)) _ _ After (λ e. executed_fine start A G W Q numbered false command (r, mails) (λ counted. cc) (d (eqb-true slot (next r) e)) f)
+      (λ _. either_way After (nat_lt (next r) slot) (r, sent r.me from (Ask (name_of r) (next r)) mails) (r, mails)
+      (false, turned_fine start A G W Q false false (r, sent r.me from (Ask (name_of r) (next r)) mails) (f.0, with_plain start A G W Q false false r mails r.me from (Ask (name_of r) (next r)) tt f.1)) (still (r, mails) f)))
 
-  pub ask_fine : (from slot : ℕ) (r : ReplicaState) (mails : List Mail) → F (r, mails) → F (ask_row from slot (r, mails))
+  pub ask_fine : (from slot : ℕ) (r : ReplicaState) (mails : List Mail) → F false (r, mails) → F false (ask_row from slot (r, mails))
   ask_fine from slot r mails f =
-      asked_place F from slot (r, mails) f (installed_fine start A G from (r, mails) f)
-      (f.0, resent start A G r mails _ f.1 (taught_plain (Caused start A G f.1.entries f.1.refused) (caused_plain start A G f.1.entries f.1.refused) most_taught r from slot mails f.1.sent))
+      asked_place (F false) from slot (r, mails) f (installed_fine start A G W Q false true from (r, mails) f)
+      (f.0, resent start A G W Q false true r mails _ f.1 (taught_plain (Caused start A G W Q f.1.entries false true) (caused_plain start A G W Q f.1.entries false true) most_taught r from slot mails f.1.sent))

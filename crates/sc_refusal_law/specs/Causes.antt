@@ -1,4 +1,4 @@
--- Why a replica refuses what it is asked: each refusal by its cause, in the state that was executed when it was made. One row may execute several entries.
+-- Why a replica refuses what it is asked: each refusal by its cause, in the state that was executed when it was made. One step may execute several entries.
 use Rattle.std.specs.FinMap.{get}
 use Rattle.std.specs.Prelude.{◌≡◌, ℕ, ◌+◌, ◌<◌, ◌≤◌, Bool, true, false, List, [], ◌∷◌, ◌++◌, map, Option, None, Some, ◌⊎◌}
 use Rattle.sc_base.specs.Among.{Among, Each}
@@ -7,12 +7,15 @@ use Rattle.sc_base.specs.Limits.{client_actor}
 use Rattle.sc_base.specs.declared.names.Draw.{Draw}
 use Rattle.sc_base.specs.declared.ops.Noted.{Noted}
 use Rattle.sc_base.specs.declared.ops.Op.{Op}
+use Rattle.sc_actor.specs.declared.rows.Input.{Input}
+use Rattle.sc_actor.specs.declared.rows.Input.TheVariants.{Got, Tick, Go, Told as Tells}
 use Rattle.sc_ideal.specs.IdealStore.{key_of, holds_key}
 use Rattle.sc_cmd.specs.declared.bodies.Body.{Body}
 use Rattle.sc_cmd.specs.declared.commands.Command.{Command}
 use Rattle.sc_cmd.specs.declared.commands.Command.TheVariants.{Call, GiveUp}
 use Rattle.sc_cmd.specs.declared.cores.Base.{Base}
 use Rattle.sc_cmd.specs.declared.cores.Lock.TheVariants.{Coordinating}
+use Rattle.sc_cmd.specs.declared.orders.OrderLine.{OrderLine}
 use Rattle.sc_cmd.specs.declared.votes.Heard.{Heard}
 use Rattle.sc_mail.specs.declared.bodies.AnswerBody.{AnswerBody}
 use Rattle.sc_mail.specs.declared.bodies.AnswerBody.TheVariants.{Value, NotLeader, NotMine, Gone, Stale}
@@ -25,10 +28,11 @@ use Rattle.sc_paxos_words.specs.Logs.{LogState, next_of, log_cut}
 use Rattle.sc_node_table.specs.declared.ReplicaInput.{ReplicaInput}
 use Rattle.sc_node_table.specs.declared.ReplicaInput.TheVariants as Given
 use Rattle.sc_node_table.specs.Execute.{with_entry}
-use Rattle.sc_node_table.specs.Node.{NodeState, group_of_mail, replica_of, on_mail}
 use Rattle.sc_node_table.specs.Pump.{serves_calls}
-use Rattle.sc_node_table.specs.Replica.{ReplicaState, Place, floor_of, settled}
+use Rattle.sc_node_table.specs.Reminders.{patience}
+use Rattle.sc_node_table.specs.Replica.{ReplicaState, Place, floor_of, name_of, next, flying, settled}
 use Rattle.sc_node_table.specs.Rows.{stepped}
+use Rattle.sc_node_table.specs.Sameness.{same_command}
 
 -- ---- what was asked
 
@@ -58,13 +62,14 @@ IsBroughtBy (TxWatched tx coord part vote) command = ⊥
 IsBroughtBy (Told order result) command = ⊥
 
 -- an input brings what its mail brings
-abbrev pub IsBrought : ReplicaInput → Command → Type 0
-IsBrought (Given.Got mail) command = IsBroughtBy mail.body command
-IsBrought Given.Tick command = ⊥
-IsBrought (Given.Told line) command = ⊥
+abbrev pub IsBrought : Input Mail OrderLine → Command → Type 0
+IsBrought (Got mail) command = IsBroughtBy mail.body command
+IsBrought Tick command = ⊥
+IsBrought Go command = ⊥
+IsBrought (Tells line) command = ⊥
 
 -- what a replica was asked: it holds it, or its input brings it
-abbrev pub IsHeldOrBrought : ReplicaState → ReplicaInput → Command → Type 0
+abbrev pub IsHeldOrBrought : ReplicaState → Input Mail OrderLine → Command → Type 0
 IsHeldOrBrought r input command = HoldsCommand r command ⊎ IsBrought input command
 
 -- ---- what was executed
@@ -83,35 +88,67 @@ pub record HasExecuted (r after : ReplicaState) (entries : List Command) : Type 
   pub group : after.group ≡ state_after r.group entries
   pub log : after.log ≡ log_after r.log entries
 
--- ---- the causes
+-- the input brings a state to be taken over, after which no entry is executed
+abbrev pub IsTakenOver : Input Mail OrderLine → Type 0
+IsTakenOver input = (mail : Mail) × (input ≡ Got mail) × ((group : Draw) × (slot : ℕ) × (base : Base) × (sets : List (List ℕ)) × (mail.body ≡ Install group slot base sets))
 
--- a group in this state refuses a call so: its arc lacks the key, and it is bound in no transaction that would keep the call waiting; it is gone; or its table holds a greater number of the client
-abbrev pub RefusesCall : Group → ℕ → ℕ → Op → AnswerBody → Type 0
-RefusesCall group client seq op (NotMine arc succ) =
+-- ---- why a call is turned away
+
+-- a group in this state does not serve an operation: its arc lacks the key, and it is bound in no transaction that would keep the call waiting; or it is gone
+abbrev pub LacksKey : Group → Op → AnswerBody → Type 0
+LacksKey group op (NotMine arc succ) =
     (group.core.gone ≡ None) × (serves_calls group.core.lock ≡ true) × (holds_key group.core.arc (key_of op) ≡ false) × (arc ≡ group.core.arc) × (succ ≡ group.core.succ)
-RefusesCall group client seq op (Gone into) = group.core.gone ≡ Some into
+LacksKey group op (Gone into) = group.core.gone ≡ Some into
+LacksKey group op (Stale last) = ⊥
+LacksKey group op (NotLeader hint) = ⊥
+LacksKey group op (Value reply) = ⊥
+
+-- .. or, of a call that is executed, its table holds a greater number of the client
+abbrev pub RefusesCall : Group → ℕ → ℕ → Op → AnswerBody → Type 0
 RefusesCall group client seq op (Stale last) = (noted : Noted) × (get group.clients client ≡ Some noted) × (noted.seq ≡ last) × (seq < last)
+RefusesCall group client seq op (NotMine arc succ) = LacksKey group op (NotMine arc succ)
+RefusesCall group client seq op (Gone into) = LacksKey group op (Gone into)
 RefusesCall group client seq op (NotLeader hint) = ⊥
 RefusesCall group client seq op (Value reply) = ⊥
 
--- a client's call that was asked is refused so by a state that was executed: that after some of the entries
-pub record IsRefusedIn (asked : Command → Type 0) (group : Group) (entries : List Command) (to seq : ℕ) (answer : AnswerBody) : Type 0 where
+-- a call that is one of the entries is refused by the state that its entry met
+pub record IsRefusedAtEntry (group : Group) (entries : List Command) (client seq : ℕ) (op : Op) (answer : AnswerBody) : Type 0 where
   pub front : List Command
   pub rest : List Command
-  pub are : entries ≡ front ++ rest
+  pub are : entries ≡ front ++ Call client seq op ∷ rest
+  pub refuses : RefusesCall (state_after group front) client seq op answer
+
+-- a replica that ran was stopped by the state that it took over: no call waits there any more, and it was elected anew, in a round above all that it had seen
+pub record WasStopped (r : ReplicaState) (input : Input Mail OrderLine) (after : ReplicaState) : Type 0 where
+  pub ran : r.running ≡ true
+  pub over : IsTakenOver input
+  pub empty : after.calls ≡ []
+  pub anew : r.top.round < after.leader.ballot.round
+
+-- a replica does not run after a step, or was stopped in it
+abbrev pub LeadsNoMore : ReplicaState → Input Mail OrderLine → ReplicaState → Type 0
+LeadsNoMore r input after = (after.running ≡ false) ⊎ WasStopped r input after
+
+-- the cause of an answer to a call: one that is no reply is by the state that is executed when it is made, that which the call's own entry met or, of a call that was not executed, that which the step leaves
+abbrev pub HasCause : ReplicaState → Input Mail OrderLine → ReplicaState → List Command → ℕ → ℕ → Op → AnswerBody → Type 0
+HasCause r input after entries client seq op (Value reply) = Unit {0}
+HasCause r input after entries client seq op (NotLeader hint) = LeadsNoMore r input after
+HasCause r input after entries client seq op (NotMine arc succ) = IsRefusedAtEntry r.group entries client seq op (NotMine arc succ) ⊎ LacksKey after.group op (NotMine arc succ)
+HasCause r input after entries client seq op (Gone into) = IsRefusedAtEntry r.group entries client seq op (Gone into) ⊎ LacksKey after.group op (Gone into)
+HasCause r input after entries client seq op (Stale last) = IsRefusedAtEntry r.group entries client seq op (Stale last)
+
+-- an answer is of the replica's own group, to a call that was asked, at its client, and has its cause
+pub record AnswersCall (r : ReplicaState) (input : Input Mail OrderLine) (after : ReplicaState) (entries : List Command) (to : ℕ) (group : Draw) (seq : ℕ) (answer : AnswerBody) : Type 0 where
+  pub own : group ≡ name_of r
   pub client : ℕ
   pub op : Op
   pub receiver : to ≡ client_actor client
-  pub was_asked : asked (Call client seq op)
-  pub refuses : RefusesCall (state_after group front) client seq op answer
-
--- a replica does not lead after a step: it does not run, or it stopped in the step and was elected anew, in a round above all that it had seen
-abbrev pub LeadsNoMore : ReplicaState → ReplicaState → Type 0
-LeadsNoMore r after = (after.running ≡ false) ⊎ (r.top.round < after.leader.ballot.round)
+  pub was_asked : IsHeldOrBrought r input (Call client seq op)
+  pub cause : HasCause r input after entries client seq op answer
 
 -- a fact of the answer that a mail brings, if it brings one
-abbrev pub IfAnswer : (ℕ → AnswerBody → Type 0) → MailBody → Type 0
-IfAnswer Fact (Answer group seq answer) = Fact seq answer
+abbrev pub IfAnswer : (Draw → ℕ → AnswerBody → Type 0) → MailBody → Type 0
+IfAnswer Fact (Answer group seq answer) = Fact group seq answer
 IfAnswer Fact (Request group client seq op) = Unit {0}
 IfAnswer Fact (Prepare group ballot from_slot) = Unit {0}
 IfAnswer Fact (Promise group ballot reports) = Unit {0}
@@ -129,40 +166,52 @@ IfAnswer Fact (TxWatch tx watch) = Unit {0}
 IfAnswer Fact (TxWatched tx coord part vote) = Unit {0}
 IfAnswer Fact (Told order result) = Unit {0}
 
--- each answer but a reply has its cause
-abbrev pub AnswerHasCause : (Command → Type 0) → ReplicaState → ReplicaState → List Command → ℕ → ℕ → AnswerBody → Type 0
-AnswerHasCause asked r after entries to seq (Value reply) = Unit {0}
-AnswerHasCause asked r after entries to seq (NotLeader hint) = LeadsNoMore r after
-AnswerHasCause asked r after entries to seq (NotMine arc succ) = IsRefusedIn asked r.group entries to seq (NotMine arc succ)
-AnswerHasCause asked r after entries to seq (Gone into) = IsRefusedIn asked r.group entries to seq (Gone into)
-AnswerHasCause asked r after entries to seq (Stale last) = IsRefusedIn asked r.group entries to seq (Stale last)
+-- ---- when a coordinator gives up
 
--- .. of the answers among all mail
-abbrev pub BodyHasCause : (Command → Type 0) → ReplicaState → ReplicaState → List Command → ℕ → MailBody → Type 0
-BodyHasCause asked r after entries to body = IfAnswer (λ seq answer. AnswerHasCause asked r after entries to seq answer) body
+-- a settled coordinator gives up at a tick, after so many ticks before it
+pub record IsImpatient (ticks : ℕ) (r : ReplicaState) (input : Input Mail OrderLine) (tx : Draw) : Type 0 where
+  pub tick : input ≡ Tick
+  pub leads : settled r ≡ true
+  pub body : Body
+  pub order : ℕ
+  pub heard : Option Heard
+  pub locked : r.group.core.lock ≡ Coordinating tx body order heard
+  pub long : patience ≤ ticks + 1
 
--- a coordinator gives up only where it was to do so already, or at a tick: settled, and locked for at least so many ticks of its leadership
-abbrev pub MayGiveUp : ReplicaState → ReplicaInput → Draw → Type 0
-MayGiveUp r input tx =
-    IsHeldOrBrought r input (GiveUp tx)
-    ⊎ ((input ≡ Given.Tick) × (settled r ≡ true) × (8 ≤ r.waits + 1) × ((body : Body) × (order : ℕ) × (heard : Option Heard) × (r.group.core.lock ≡ Coordinating tx body order heard)))
+-- a command goes back from a flight: another was learnt at its slot, the next one
+pub record LostItsSlot (r : ReplicaState) (input : Input Mail OrderLine) (command : Command) : Type 0 where
+  pub mail : Mail
+  pub brought : input ≡ Got mail
+  pub group : Draw
+  pub slot : ℕ
+  pub learnt : Command
+  pub body : mail.body ≡ Learn group slot learnt
+  pub flies : flying r (next r) ≡ Some command
+  pub is_next : slot ≡ next r
+  pub other : same_command command learnt ≡ false
+
+-- an end of waiting that is queued was queued before, or is put there anew, after so many ticks, or goes back from a flight
+abbrev pub MayGiveUp : ℕ → ReplicaState → Input Mail OrderLine → Draw → Type 0
+MayGiveUp ticks r input tx = Among (GiveUp tx) r.acts ⊎ IsImpatient ticks r input tx ⊎ LostItsSlot r input (GiveUp tx)
 
 -- ---- the laws
 
--- whether an input is a state that is taken over, after which no entry of it is executed
-abbrev pub IsTakenOver : ReplicaInput → Type 0
-IsTakenOver input = (mail : Mail) × (input ≡ Given.Got mail) × ((group : Draw) × (slot : ℕ) × (base : Base) × (sets : List (List ℕ)) × (mail.body ≡ Install group slot base sets))
-
--- a step of a replica executes some entries, each of its refusals has its cause, and so has each end of waiting that it queues
-pub record StepHasCauses (r : ReplicaState) (input : ReplicaInput) (step : Place) : Type 0 where
+-- a step of a replica executes some entries, unless it takes a state over; each of its answers is to a call that was asked, with its cause, and each end of waiting that is queued after it has its own
+pub record StepHasCauses (r : ReplicaState) (input : Input Mail OrderLine) (step : Place) : Type 0 where
   pub entries : List Command
   pub executed : HasExecuted r step.0 entries ⊎ ((entries ≡ []) × IsTakenOver input)
-  pub answers : Each (λ (mail : Mail). BodyHasCause (IsHeldOrBrought r input) r step.0 entries mail.to mail.body) step.1
-  pub acts : (tx : Draw) → Among (GiveUp tx) step.0.acts → MayGiveUp r input tx
+  pub answers : Each (λ (mail : Mail). IfAnswer (λ group seq answer. AnswersCall r input step.0 entries mail.to group seq answer) mail.body) step.1
+  pub acts : (tx : Draw) → Among (GiveUp tx) step.0.acts → MayGiveUp r.waits r input tx
 
--- every step of a replica is so
+-- the input of a node that is this one of its replicas
+abbrev pub at_node : ReplicaInput → Input Mail OrderLine
+at_node (Given.Got mail) = Got mail
+at_node Given.Tick = Tick
+at_node (Given.Told line) = Tells line
+
+-- every step of a replica of a node is so; nodes are numbered from 1
 abbrev pub StepsHaveCauses : Type 0
-StepsHaveCauses = (on : Bool) (drawer : Drawer) (r : ReplicaState) (input : ReplicaInput) → StepHasCauses r input (stepped on drawer input (r, []))
+StepsHaveCauses = (on : Bool) (drawer : Drawer) (r : ReplicaState) (input : ReplicaInput) → 1 ≤ r.me → StepHasCauses r (at_node input) (stepped on drawer input (r, []))
 
 -- an answer that names another leader, or none
 abbrev pub IsNotLeader : MailBody → Type 0
@@ -172,14 +221,3 @@ IsNotLeader body = (group : Draw) × (seq : ℕ) × (hint : Option ℕ) × (body
 abbrev pub RunningReplicasTakeRequests : Type 0
 RunningReplicasTakeRequests = (on : Bool) (drawer : Drawer) (r : ReplicaState) (from : ℕ) (to : ℕ) (group : Draw) (client seq : ℕ) (op : Op) → r.running ≡ true
     → Each (λ (mail : Mail). IsNotLeader mail.body → ⊥) (stepped on drawer (Given.Got (record { from = from; to = to; body = Request group client seq op })) (r, [])).1
-
--- ---- a node without a replica of the group
-
--- an answer names no leader
-abbrev pub NamesNoLeader : MailBody → Type 0
-NamesNoLeader body = IfAnswer (λ seq answer. answer ≡ NotLeader None) body
-
--- a node that has no replica of a mail's group answers, if it answers a client, that it is not the leader, and names none
-abbrev pub StrangersNameNoLeader : Type 0
-StrangersNameNoLeader = (node : NodeState) (from : ℕ) (body : MailBody) (group : Draw) → group_of_mail body ≡ Some group → replica_of group node.replicas ≡ None
-    → Each (λ (mail : Mail). NamesNoLeader mail.body) (on_mail from body node).1

@@ -1,2 +1,4 @@
 pub mod Causes
+pub mod ClientTurns
+pub mod Journals
 pub mod NodeCauses

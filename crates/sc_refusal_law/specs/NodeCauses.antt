@@ -1,79 +1,92 @@
 -- A node's whole step: each answer that it sends has its cause at one of its replicas, and so has each end of waiting that is queued after it.
-use Rattle.std.specs.Prelude.{◌≡◌, None, Some, List, [], ◌⊎◌}
+use Rattle.std.specs.Prelude.{◌≡◌, ℕ, ◌≤◌, None, Some, List, ◌⊎◌}
 use Rattle.sc_base.specs.Among.{Among, Each}
-use Rattle.sc_base.specs.Drawing.{Drawer}
+use Rattle.sc_base.specs.Limits.{client_actor}
 use Rattle.sc_base.specs.declared.names.Draw.{Draw}
+use Rattle.sc_base.specs.declared.ops.Op.{Op}
 use Rattle.sc_actor.specs.declared.rows.Input.{Input}
-use Rattle.sc_actor.specs.declared.rows.Input.TheVariants.{Got, Tick, Told}
+use Rattle.sc_actor.specs.declared.rows.Input.TheVariants.{Got, Tick, Go, Told}
 use Rattle.sc_cmd.specs.declared.commands.Command.TheVariants.{GiveUp}
 use Rattle.sc_cmd.specs.declared.orders.OrderLine.{OrderLine}
+use Rattle.sc_mail.specs.declared.bodies.AnswerBody.{AnswerBody}
+use Rattle.sc_mail.specs.declared.bodies.AnswerBody.TheVariants.{NotLeader}
 use Rattle.sc_mail.specs.declared.bodies.Mail.{Mail}
-use Rattle.sc_node_table.specs.declared.ReplicaInput.{ReplicaInput}
-use Rattle.sc_node_table.specs.declared.ReplicaInput.TheVariants as Given
+use Rattle.sc_mail.specs.declared.bodies.MailBody.TheVariants.{Request}
 use Rattle.sc_node_table.specs.Node.{NodeState, group_of_mail, group_of_order, replica_of, node_table}
-use Rattle.sc_node_table.specs.Replica.{ReplicaState, Place}
-use Rattle.sc_node_table.specs.Rows.{stepped}
-use Rattle.sc_refusal_law.specs.Causes.{MayGiveUp, StepHasCauses, NamesNoLeader}
-
--- the input of a node that is this one of its replicas
-abbrev pub at_node : ReplicaInput → Input Mail OrderLine
-at_node (Given.Got mail) = Got mail
-at_node Given.Tick = Tick
-at_node (Given.Told line) = Told line
-
--- the step of a replica of a node, behind no other mail, with these names to draw
-abbrev pub own_step : NodeState → Drawer → ReplicaInput → ReplicaState → Place
-own_step node drawer input r = stepped node.policy drawer input (r, [])
+use Rattle.sc_node_table.specs.Replica.{ReplicaState, name_of}
+use Rattle.sc_refusal_law.specs.Causes.{IfAnswer, MayGiveUp, StepHasCauses}
 
 -- a replica of a node takes an input: it is that of the group that a mail or an order is for, and each takes a tick
-abbrev pub TakesInput : NodeState → ReplicaInput → ReplicaState → Type 0
-TakesInput node (Given.Got mail) r =
+abbrev pub TakesInput : NodeState → Input Mail OrderLine → ReplicaState → Type 0
+TakesInput node (Got mail) r =
     (group : Draw) × (group_of_mail mail.body ≡ Some group) × (replica_of group node.replicas ≡ Some r)
-TakesInput node (Given.Told line) r = replica_of (group_of_order line.order) node.replicas ≡ Some r
-TakesInput node Given.Tick r = Among r node.replicas
+TakesInput node (Told line) r = replica_of (group_of_order line.order) node.replicas ≡ Some r
+TakesInput node Tick r = Among r node.replicas
+TakesInput node Go r = ⊥
 
--- a node has no replica of the group that a mail or an order is for
-abbrev pub IsStranger : NodeState → ReplicaInput → Type 0
-IsStranger node (Given.Got mail) =
-    (group : Draw) × (group_of_mail mail.body ≡ Some group) × (replica_of group node.replicas ≡ None)
-IsStranger node (Given.Told line) = replica_of (group_of_order line.order) node.replicas ≡ None
-IsStranger node Given.Tick = ⊥
-
--- a mail of a node is sent in the step of a replica that takes the input, each refusal of which has its cause
-pub record IsOfReplica (node after : NodeState) (input : ReplicaInput) (mail : Mail) : Type 0 where
-  pub replica : ReplicaState
-  pub takes : TakesInput node input replica
-  pub drawer : Drawer
-  pub stands : Among (own_step node drawer input replica).0 after.replicas
-  pub sends : Among mail (own_step node drawer input replica).1
-  pub causes : StepHasCauses replica input (own_step node drawer input replica)
-
--- each mail of a node is so; or the node has no such replica, and an answer names no leader
-abbrev pub MailHasCause : NodeState → NodeState → ReplicaInput → Mail → Type 0
-MailHasCause node after input mail =
-    IsOfReplica node after input mail ⊎ (IsStranger node input × NamesNoLeader mail.body)
-
--- a replica may give up after a node's step: it is one that the node had, as it was, or after its step if it took the input
-pub record MayGiveUpAt (node : NodeState) (input : ReplicaInput) (later : ReplicaState) (tx : Draw) : Type 0 where
-  pub replica : ReplicaState
+-- a replica of a node before a step, and that of the same group after it
+pub record Became (node after : NodeState) (replica later : ReplicaState) : Type 0 where
   pub stood : Among replica node.replicas
-  pub drawer : Drawer
-  pub is_later :
-      (later ≡ replica)
-      ⊎ (TakesInput node input replica × (later ≡ (own_step node drawer input replica).0))
-  pub may : MayGiveUp replica input tx
+  pub stands : Among later after.replicas
+  pub same : name_of later ≡ name_of replica
 
--- each end of waiting that a replica has queued after a node's step has its cause
-abbrev pub ActsHaveCauses : NodeState → ReplicaInput → ReplicaState → Type 0
-ActsHaveCauses node input later =
-    (tx : Draw) → Among (GiveUp tx) later.acts → MayGiveUpAt node input later tx
+-- a mail of a node is of a replica that takes the input, each answer of which has its cause
+pub record IsOfReplica (node after : NodeState) (input : Input Mail OrderLine) (mail : Mail) : Type 0 where
+  pub replica : ReplicaState
+  pub later : ReplicaState
+  pub became : Became node after replica later
+  pub takes : TakesInput node input replica
+  pub mails : List Mail
+  pub sends : Among mail mails
+  pub causes : StepHasCauses replica input (later, mails)
 
--- the mails of a node's step have causes, and so have the ends of waiting that its replicas have queued after it
-pub record NodeHasCauses (node : NodeState) (input : ReplicaInput) (step : NodeState × List Mail) : Type 0 where
-  pub answers : Each (λ (mail : Mail). MailHasCause node step.0 input mail) step.1
-  pub acts : Each (λ (later : ReplicaState). ActsHaveCauses node input later) step.0.replicas
+-- an answer is to the request that came for a group of which the node has no replica: at its client, in the group's name, it says that the node does not lead, and names no other
+pub record TurnsAway (node : NodeState) (input : Input Mail OrderLine) (to : ℕ) (group : Draw) (seq : ℕ) (answer : AnswerBody) : Type 0 where
+  pub mail : Mail
+  pub brought : input ≡ Got mail
+  pub client : ℕ
+  pub op : Op
+  pub request : mail.body ≡ Request group client seq op
+  pub missing : replica_of group node.replicas ≡ None
+  pub receiver : to ≡ client_actor client
+  pub says : answer ≡ NotLeader None
 
--- every step of a node is so, whether it takes a mail, ticks or takes an order
+-- each mail of a node is of a replica so; or, if it is an answer, turns a request away
+abbrev pub MailHasCause : NodeState → NodeState → Input Mail OrderLine → Mail → Type 0
+MailHasCause node after input mail =
+    IsOfReplica node after input mail
+    ⊎ IfAnswer (λ group seq answer. TurnsAway node input mail.to group seq answer) mail.body
+
+-- a replica may give up after a node's step: that of its group may have before it, or may now if it took the input, after so many ticks
+pub record MayGiveUpAt (ticks : ReplicaState → Draw → ℕ) (node after : NodeState) (input : Input Mail OrderLine) (later : ReplicaState) (tx : Draw) : Type 0 where
+  pub replica : ReplicaState
+  pub became : Became node after replica later
+  pub may :
+      Among (GiveUp tx) replica.acts
+      ⊎ (TakesInput node input replica × MayGiveUp (ticks replica tx) replica input tx)
+
+-- the answers of a node's step have causes
+abbrev pub AnswersHaveCauses : NodeState → Input Mail OrderLine → NodeState → List Mail → Type 0
+AnswersHaveCauses node input after mails = Each (λ (mail : Mail). MailHasCause node after input mail) mails
+
+-- so has each end of waiting that its replicas have queued after it
+abbrev pub ActsHaveCauses : (ReplicaState → Draw → ℕ) → NodeState → Input Mail OrderLine → NodeState → Type 0
+ActsHaveCauses ticks node input after =
+    (later : ReplicaState) → Among later after.replicas
+    → (tx : Draw) → Among (GiveUp tx) later.acts → MayGiveUpAt ticks node after input later tx
+
+-- as many ticks as a replica has counted
+abbrev pub counted_ticks : ReplicaState → Draw → ℕ
+counted_ticks r tx = r.waits
+
+-- a step of a node has causes
+pub record NodeHasCauses (node : NodeState) (input : Input Mail OrderLine) (after : NodeState) (mails : List Mail) : Type 0 where
+  pub answers : AnswersHaveCauses node input after mails
+  pub acts : ActsHaveCauses counted_ticks node input after
+
+-- every step of a node is so, whether it takes a mail, ticks or takes an order; nodes are numbered from 1
 abbrev pub NodesHaveCauses : Type 0
 NodesHaveCauses =
-    (node : NodeState) (input : ReplicaInput) → NodeHasCauses node input (node_table node (at_node input))
+    (node : NodeState) (input : Input Mail OrderLine)
+    → Each (λ (r : ReplicaState). 1 ≤ r.me) node.replicas
+    → NodeHasCauses node input (node_table node input).0 (node_table node input).1

@@ -1,32 +1,34 @@
 //! Why a replica refuses: each answer by which it turns a client away has its cause in the state
-//! that it had executed when it answered; and so of a node's whole step. Laws of the tables of a
-//! replica and of a node. Definitions and laws, no logic.
+//! that was executed when it was made, each end of waiting its own, and a client asks in turn. Laws
+//! of the tables of a replica and of a node, and of every lawful journal. Definitions and laws, no
+//! logic.
 #![tactic(auto)]
 
-ghost use Rattle.sc_refusal_law.specs.Causes.{
-  RunningReplicasTakeRequests,
-  StepsHaveCauses,
-  StrangersNameNoLeader,
-};
+ghost use Rattle.sc_refusal_law.specs.Causes.{RunningReplicasTakeRequests, StepsHaveCauses};
+ghost use Rattle.sc_refusal_law.specs.Journals.{ValidJournalsRefuseWithCause};
 ghost use Rattle.sc_refusal_law.specs.NodeCauses.{NodesHaveCauses};
 
-/// A step of a replica executes some entries, or takes a state over. Each answer that it sends and
-/// that is no reply is to a call that was asked: one that the replica held, or that its input
-/// brings. NotMine comes where a state that was executed lacks the key in its arc, and is bound in
-/// no transaction that lets calls wait; Gone where that state is gone; Stale where its table holds
-/// a greater number of the client, which is carried; NotLeader where the replica does not run after
-/// the step, or stopped in it and was elected anew. A coordinator gives up only at a tick, settled,
-/// that is at least the eighth, or where it was to do so before.
+use sc_queue_law::queues_keep_one_call;
+
+/// A step of a replica executes some entries, or takes a state over. Each answer that it sends is
+/// of its own group, at its client, to a call that was asked: one that the replica held, or that
+/// its input brings. NotMine comes where the arc lacks the key, and no transaction keeps calls
+/// waiting; Gone where the group is gone; Stale where its table holds a greater number of the
+/// client, which is carried: of a call that was executed in the state that its own entry met, of
+/// another in the state that the step leaves. NotLeader comes where the replica does not run after
+/// the step, or was stopped by a state that it took over and elected anew. An end of waiting that
+/// is queued was queued before, or is put there at a tick of a settled coordinator that has counted
+/// its ticks, or goes back from a flight whose slot another command took.
 pub fn refusals_have_causes()
     ensures { StepsHaveCauses }
 {}
 
 /// So it is of a whole step of a node, whether it takes a mail, ticks with all its replicas, with a
-/// policy or without, or takes an order. Each mail that it sends is sent in the step of a replica
-/// that takes the input, which begins from the state that the node had of it and behind no other
-/// mail, and each refusal of which has its cause; or the node has no replica of the group that the
-/// mail or order is for, and an answer names no leader. Each end of waiting that a replica has
-/// queued after the step has its cause at that replica.
+/// policy or without, or takes an order. Each mail that it sends is of a replica that takes the
+/// input, each answer of which has its cause; or the node has no replica of the group that a
+/// request is for, and answers this at its client, in the group's name, that it does not lead, and
+/// names no other. Each end of waiting that a replica has queued after the step has its cause at
+/// the replica of that group before it.
 pub fn nodes_have_causes()
     ensures { NodesHaveCauses }
 {}
@@ -36,8 +38,12 @@ pub fn running_replicas_take_requests()
     ensures { RunningReplicasTakeRequests }
 {}
 
-/// A node that has no replica of a mail's group answers a client, if at all, NotLeader with no
-/// hint.
-pub fn strangers_name_no_leader()
-    ensures { StrangersNameNoLeader }
-{}
+/// In every lawful journal of a valid scenario each row says so. A coordinator gives up only after
+/// as many ticks of its leadership, under the lock of that transaction, as the rows of its node
+/// tell; at most one call of each client waits in a queue; and a client sends its requests one
+/// after another, each again while it waits, and ends only with the last.
+pub fn valid_journals_refuse_with_cause()
+    ensures { ValidJournalsRefuseWithCause }
+{
+    queues_keep_one_call();
+}

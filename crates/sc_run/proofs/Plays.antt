@@ -18,6 +18,7 @@ use Rattle.sc_actor.specs.declared.schedules.Played.TheVariants.{Ended, Full, Ou
 use Rattle.sc_scenario.specs.Valid.{IsValid}
 use Rattle.sc_scenario.specs.declared.scenarios.Scenario.{Scenario}
 use Rattle.sc_sound.specs.Players.{schedule, system_of, Lawful, parties, Player, as_nodes}
+use Rattle.sc_refusal_law.specs.Journals.{ValidJournalsRefuseWithCause}
 use Rattle.sc_whole_law.specs.Valid.{ValidJournalsAreSound}
 use Rattle.sc_statuses.specs.Causes.{said_of}
 use Rattle.sc_statuses.specs.declared.said.Said.TheVariants.{Filled}
@@ -40,7 +41,7 @@ pub actors_of : {A M O : Type 0} {g : Ghosts A M O} {h : MailGhosts M} (ss : Lis
 actors_of [] = refl
 actors_of (s ∷ ss) = ap (λ rest. s.actor ∷ rest) (actors_of ss)
 
-module _ (law : ValidJournalsAreSound) (scenario : Scenario) (valid : IsValid scenario) (lines : List (Line OrderLine)) (lines_are : lines ≡ schedule scenario) (limit : ℕ) (journal : List (Row Mail OrderLine)) where
+module _ (law : ValidJournalsAreSound) (causes : ValidJournalsRefuseWithCause) (scenario : Scenario) (valid : IsValid scenario) (lines : List (Line OrderLine)) (lines_are : lines ≡ schedule scenario) (limit : ℕ) (journal : List (Row Mail OrderLine)) where
   -- a driver's end is a play's
   pub ends : (cut quiet : Bool) (skips : ℕ) (left : List Player) →
       IsLawful (system_of as_nodes two_words scenario) lines journal → IsWhole (system_of as_nodes two_words scenario) lines journal → journal_bytes mail_weight journal ≤ limit →
@@ -52,6 +53,7 @@ module _ (law : ValidJournalsAreSound) (scenario : Scenario) (valid : IsValid sc
         lawful = allowed;
         whole = subst (λ l. IsWhole (system_of as_nodes two_words scenario) l journal) lines_are whole;
         sound = law as_nodes refl two_words scenario valid journal allowed;
+        refuses = causes as_nodes refl two_words scenario valid journal allowed;
         within = within;
         cut_is = cut_is ∙ ap (λ l. unsettled (system_of as_nodes two_words scenario) l journal) lines_are;
         quiet_is = quiet_is;
@@ -63,14 +65,14 @@ module _ (law : ValidJournalsAreSound) (scenario : Scenario) (valid : IsValid sc
   pub fills : IsFull (system_of as_nodes two_words scenario) mail_weight lines limit journal → HasFilled scenario limit journal
   fills h =
       let full : IsFull (system_of as_nodes two_words scenario) mail_weight (schedule scenario) limit journal = subst (λ l. IsFull (system_of as_nodes two_words scenario) mail_weight l limit journal) lines_are h in
-      record { full = full; sound = law as_nodes refl two_words scenario valid journal full.lawful }
+      record { full = full; sound = law as_nodes refl two_words scenario valid journal full.lawful; refuses = causes as_nodes refl two_words scenario valid journal full.lawful }
 
 -- the text of a run that ended
 pub comes_ended : (Shows : List (Row Mail OrderLine) → List (List ℕ) → Type 0) (scenario : Scenario) (cut quiet : Bool) (skips : ℕ) (journal : List (Row Mail OrderLine)) (parties : List Player) (text : Text) →
     HasPlayedToEnd scenario journal_limit cut quiet skips journal parties → Shows journal text.lines → text.journal ≡ Some journal → text.parties ≡ parties → Comes Shows scenario (said_of cut) text
 comes_ended Shows scenario cut quiet skips journal parties text e lines journal_is parties_is = inl (record {
   journal = journal;
-  reports = record { lawful = e.lawful; whole = e.whole; within = e.within; sound = e.sound; lines = lines; journal_is = journal_is; parties_are = parties_is ∙ e.parties_are };
+  reports = record { lawful = e.lawful; whole = e.whole; within = e.within; sound = e.sound; refuses = e.refuses; lines = lines; journal_is = journal_is; parties_are = parties_is ∙ e.parties_are };
   said_is = ap said_of e.cut_is;
 })
 

@@ -9,6 +9,7 @@ use Rattle.sc_actor.specs.Walk.{skipped, unsettled, is_quiet}
 use Rattle.sc_actor.specs.Counted.{IsFull}
 use Rattle.sc_scenario.specs.declared.scenarios.Scenario.{Scenario}
 use Rattle.sc_sound.specs.Soundness.{IsSoundThroughout}
+use Rattle.sc_refusal_law.specs.Journals.{RefusesWithCause}
 use Rattle.sc_sound.specs.Players.{system_of, schedule, Lawful, Whole, parties, Player, as_nodes}
 use Rattle.sc_actor.specs.declared.schedules.Played.{Played}
 use Rattle.sc_actor.specs.declared.schedules.Played.TheVariants.{Ended, Full, OutOfMemory}
@@ -18,21 +19,23 @@ use Rattle.sc_chance.specs.Words.{two_words}
 abbrev pub mail_weight : Mail → ℕ
 mail_weight mail = body_weight mail.body
 
--- The journal is lawful and whole and within the limit, each first part of it is sound, the counts are the walk's, and each party is its replay.
+-- The journal is lawful and whole and within the limit, each first part of it is sound and each refusal has its cause, the counts are the walk's, and each party is its replay.
 pub record HasPlayedToEnd (scenario : Scenario) (limit : ℕ) (cut quiet : Bool) (skips : ℕ) (journal : List (Row Mail OrderLine)) (left : List Player) : Type 0 where
   pub lawful : Lawful as_nodes two_words scenario journal
   pub whole : Whole as_nodes two_words scenario journal
   pub sound : IsSoundThroughout as_nodes scenario journal
+  pub refuses : RefusesWithCause as_nodes scenario journal
   pub within : journal_bytes mail_weight journal ≤ limit
   pub cut_is : cut ≡ unsettled (system_of as_nodes two_words scenario) (schedule scenario) journal
   pub quiet_is : quiet ≡ is_quiet (system_of as_nodes two_words scenario) journal
   pub skips_are : skips ≡ skipped (system_of as_nodes two_words scenario) (schedule scenario) journal
   pub parties_are : left ≡ parties as_nodes scenario journal
 
--- The journal is lawful and within the limit, each first part of it is sound, and a row that may come next passes the limit.
+-- The journal is lawful and within the limit, each first part of it is sound and each refusal has its cause, and a row that may come next passes the limit.
 pub record HasFilled (scenario : Scenario) (limit : ℕ) (journal : List (Row Mail OrderLine)) : Type 0 where
   pub full : IsFull (system_of as_nodes two_words scenario) mail_weight (schedule scenario) limit journal
   pub sound : IsSoundThroughout as_nodes scenario journal
+  pub refuses : RefusesWithCause as_nodes scenario journal
 
 -- How a scenario was played within a limit: the journal, and the parties as they were left.
 abbrev pub IsPlayed : Scenario → ℕ → List (Row Mail OrderLine) → List Player → Played → Type 0

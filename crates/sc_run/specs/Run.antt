@@ -16,6 +16,7 @@ use Rattle.sc_report.specs.Report.{report_lines}
 use Rattle.sc_row_text.specs.RowText.{IsHeld}
 use Rattle.sc_journal_file.specs.Stored.{file_lines, IsBadFile}
 use Rattle.sc_sound.specs.Soundness.{IsSoundThroughout}
+use Rattle.sc_refusal_law.specs.Journals.{RefusesWithCause}
 use Rattle.sc_sound.specs.Players.{system_of, schedule, Lawful, Whole, parties, as_nodes}
 use Rattle.sc_world.specs.Replays.{IsBadRow}
 use Rattle.sc_world.specs.Summary.{summary_of}
@@ -66,12 +67,13 @@ ShowsReport scenario journal lines = lines ≡ report_lines (summary_of scenario
 abbrev pub ShowsFile : List ℕ → List (Row Mail OrderLine) → List (List ℕ) → Type 0
 ShowsFile text journal lines = (lines ≡ file_lines text journal) × Each IsHeld journal
 
--- The text shows a journal of a scenario that is lawful, whole and within the limit, of which each first part is sound, and the parties are the replays of their rows.
+-- The text shows a journal of a scenario that is lawful, whole and within the limit, of which each first part is sound and each refusal has its cause, and the parties are the replays of their rows.
 pub record ReportsJournal (Shows : List (Row Mail OrderLine) → List (List ℕ) → Type 0) (scenario : Scenario) (journal : List (Row Mail OrderLine)) (text : Text) : Type 0 where
   pub lawful : Lawful as_nodes two_words scenario journal
   pub whole : Whole as_nodes two_words scenario journal
   pub within : journal_bytes mail_weight journal ≤ journal_limit
   pub sound : IsSoundThroughout as_nodes scenario journal
+  pub refuses : RefusesWithCause as_nodes scenario journal
   pub lines : Shows journal text.lines
   pub journal_is : text.journal ≡ Some journal
   pub parties_are : text.parties ≡ parties as_nodes scenario journal
@@ -144,10 +146,11 @@ pub record TellsOfRows (line : List ℕ) (rows : List (Row Mail OrderLine)) (tex
   pub journal : text.journal ≡ Some rows
   pub parties : text.parties ≡ []
 
--- Rows are a lawful journal of a scenario, of which each first part is sound, and the text says how many they are.
+-- Rows are a lawful journal of a scenario, of which each first part is sound and each refusal has its cause, and the text says how many they are.
 pub record HoldsLawful (scenario : Scenario) (rows : List (Row Mail OrderLine)) (said : Said) (text : Text) : Type 0 where
   pub lawful : Lawful as_nodes two_words scenario rows
   pub sound : IsSoundThroughout as_nodes scenario rows
+  pub refuses : RefusesWithCause as_nodes scenario rows
   pub tells : TellsOfRows (lawful_line (length rows)) rows text
   pub said_is : said ≡ Yes
 

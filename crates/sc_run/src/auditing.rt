@@ -6,6 +6,7 @@ ghost use Rattle.sc_sound.specs.Players.{Lawful, as_nodes};
 ghost use Rattle.sc_world.specs.Replays.{IsBadRow};
 ghost use Rattle.sc_scenario.specs.Valid.{IsValid};
 ghost use Rattle.sc_sound.specs.Soundness.{IsSoundThroughout};
+ghost use Rattle.sc_refusal_law.specs.Journals.{RefusesWithCause};
 ghost use Rattle.sc_run.specs.Audited.{LawfulFilesAreTold, PrintedJournalsAreTold};
 ghost use Rattle.sc_run.specs.Run.{AuditsAs};
 
@@ -32,7 +33,8 @@ fn bad_row(
     requires few_mails { length (mails rows.now) < 2 ^ 31 }
     ensures { IfOk result (λ bad. MatchOption bad
         (Lawful as_nodes two_words scenario.now rows.now
-        × IsSoundThroughout as_nodes scenario.now rows.now)
+        × IsSoundThroughout as_nodes scenario.now rows.now
+        × RefusesWithCause as_nodes scenario.now rows.now)
         (λ at. IsBadRow scenario.now rows.now at)) }
 {
     match replay_rows(alloc, scenario, rows) {

@@ -9,6 +9,7 @@ ghost use Rattle.sc_run.specs.Played.{IsPlayed};
 
 use sc_actor::{Gate, Played};
 use sc_drive::{Company, drive};
+use sc_refusal_law::valid_journals_refuse_with_cause;
 use sc_scenario::Scenario;
 use sc_whole_law::valid_journals_are_sound;
 use sc_workers::Way;
@@ -34,6 +35,7 @@ fn play_by<G: Gate, R: Threads + Wait + Sync>(
 {
     valid_scenarios_can_play();
     valid_journals_are_sound();
+    valid_journals_refuse_with_cause();
     let Ok(lines) = schedule(alloc, scenario) else {
         return Played::OutOfMemory;
     };

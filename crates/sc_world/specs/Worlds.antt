@@ -7,6 +7,7 @@ use Rattle.sc_actor.specs.Walk.{skipped, is_quiet}
 use Rattle.sc_scenario.specs.declared.scenarios.Scenario.{Scenario}
 use Rattle.sc_sound.specs.Players.{system_of, schedule, Lawful, parties, Player, as_nodes}
 use Rattle.sc_sound.specs.Soundness.{IsSoundThroughout}
+use Rattle.sc_refusal_law.specs.Journals.{RefusesWithCause}
 use Rattle.sc_chance.specs.Words.{two_words}
 
 -- a scenario, and rows of it
@@ -22,10 +23,11 @@ pub record WorldHolds (scenario : Scenario) (rows : List (Row Mail OrderLine)) (
   pub skips_are : skips ≡ skipped (system_of as_nodes two_words scenario) (schedule scenario) rows
   pub quiet_is : quiet ≡ is_quiet (system_of as_nodes two_words scenario) rows
 
--- a world stands for these rows of a scenario, which are lawful, and each first part of which is sound
+-- a world stands for these rows of a scenario, which are lawful, each first part of which is sound, and whose refusals have causes
 pub record StandsFor (scenario : Scenario) (rows : List (Row Mail OrderLine)) (world : Standing) : Type 0 where
   pub lawful : Lawful as_nodes two_words scenario rows
   pub sound : IsSoundThroughout as_nodes scenario rows
+  pub refuses : RefusesWithCause as_nodes scenario rows
   pub scenario_is : world.scenario ≡ scenario
   pub rows_are : world.rows ≡ rows
 

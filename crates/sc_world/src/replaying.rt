@@ -18,6 +18,7 @@ use sc_base::OutOfMemory;
 use sc_checker::{Replayed, replay, rows_replayed};
 use sc_cmd::OrderLine;
 use sc_mail::Mail;
+use sc_refusal_law::valid_journals_refuse_with_cause;
 use sc_scenario::Scenario;
 use sc_whole_law::valid_journals_are_sound;
 use std::alloc::Global;
@@ -137,6 +138,7 @@ fn world_of<'a>(
     ensures { IfOk result (λ world. MayReplay scenario.now rows.now world) }
 {
     valid_journals_are_sound();
+    valid_journals_refuse_with_cause();
     match left_by(alloc, scenario, rows.as_slice())? {
         None => Ok(None),
         Some(left) => {
@@ -153,9 +155,9 @@ fn world_of<'a>(
 }
 
 /// Replays rows: the world that they leave where they are a lawful journal of a scenario, of which
-/// each first part is sound, and else which row, from 1, is the first that is not lawful. The
-/// scenario is one that some text is, or that is made, and rows and their mails are fewer than 2^31
-/// each.
+/// each first part is sound and each refusal has its cause, and else which row, from 1, is the
+/// first that is not lawful. The scenario is one that some text is, or that is made, and rows and
+/// their mails are fewer than 2^31 each.
 pub fn replay_rows<'a>(
     alloc: Global,
     scenario: &'a Scenario,

@@ -1,4 +1,4 @@
-use Rattle.sc_refusal_law.proofs.Steps.{steps_have_causes}
+use Rattle.sc_refusal_law.proofs.Inputs.{steps_have_causes}
 use Rattle.sc_refusal_law.proofs.refusals_have_causes.Goals as goal
 
 pub returns : goal.returns

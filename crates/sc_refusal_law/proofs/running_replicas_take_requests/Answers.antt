@@ -1,4 +1,4 @@
-use Rattle.sc_refusal_law.proofs.Steps.{requests_are_taken}
+use Rattle.sc_refusal_law.proofs.Inputs.{requests_are_taken}
 use Rattle.sc_refusal_law.proofs.running_replicas_take_requests.Goals as goal
 
 pub returns : goal.returns

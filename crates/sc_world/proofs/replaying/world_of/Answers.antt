@@ -23,6 +23,7 @@ returns-in_ok-parties-in-Some c =
     record {
       lawful = here.replayed.lawful;
       sound = c.valid_journals_are_sound.ensures as_nodes refl two_words c.args.scenario.now c.requires.valid c.args.rows.now here.replayed.lawful;
+      refuses = c.valid_journals_refuse_with_cause.ensures as_nodes refl two_words c.args.scenario.now c.requires.valid c.args.rows.now here.replayed.lawful;
       scenario_is = refl;
       rows_are = refl;
     }

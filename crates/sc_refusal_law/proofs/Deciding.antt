@@ -1,0 +1,65 @@
+-- Until a slot is decided its leader is as it was.
+use Rattle.std.proofs.Common.{◌≡◌, ℕ, Bool, cond, List, [], ◌∷◌, Option, Some, None, refl}
+use Rattle.sc_paxos_words.specs.Leaders.{LeaderState}
+use Rattle.sc_node_table.specs.Install.{install_to, asked_to_promise, welcomed_all}
+use Rattle.sc_cmd.specs.declared.commands.Command.{Command}
+use Rattle.sc_cmd.specs.declared.commands.Command.TheVariants.{Call}
+use Rattle.sc_cmd.specs.declared.effects.Effect.{Effect}
+use Rattle.sc_cmd.specs.declared.orders.ToldResult.{ToldResult}
+use Rattle.sc_mail.specs.declared.bodies.AnswerBody.{AnswerBody}
+use Rattle.sc_mail.specs.declared.bodies.Mail.{Mail}
+use Rattle.sc_mail.specs.declared.bodies.MailBody.TheVariants.{Learn, Prepare}
+use Rattle.sc_node_table.specs.declared.Before.{Before}
+use Rattle.sc_node_table.specs.Execute.{entered, answer_of, told_call, order_result, told_effect, announced, learnt_to, welcomed}
+use Rattle.sc_node_table.specs.Mails.{sent, sent_others}
+use Rattle.sc_node_table.specs.Queues.{put_back}
+use Rattle.sc_node_table.specs.Replica.{ReplicaState, Place, name_of, next, members, forgotten}
+use Rattle.sc_node_table.specs.Spoken.{before_of, spoken}
+use Rattle.sc_law_lemmas.proofs.Places.{welcomed_place}
+use Rattle.sc_law_lemmas.proofs.Ways.{either_way}
+
+module _ (leader : LeaderState Command) where
+  abbrev L : Place → Type 0
+  L place = place.0.leader ≡ leader
+
+  told_leads : (answer : Option AnswerBody) (command : Command) (place : Place) → L place → L (told_call answer command place)
+  unfolding told_call put_back
+  told_leads (Some answer) (Call client seq op) (r, mails) l = l
+  told_leads None (Call client seq op) (r, mails) l = l
+  told_leads (Some answer) _ place l = l
+  told_leads None _ place l = l
+
+  effect_leads : (result : Option ToldResult) (command : Command) (place : Place) → L place → L (told_effect result command place)
+  unfolding told_effect
+  effect_leads None command place l = l
+  effect_leads (Some result) command (r, mails) l = l
+
+  announced_leads : (counted : Bool) (effect : Effect) (command : Command) (place : Place) → L place → L (announced counted effect command place)
+  unfolding announced
+  announced_leads counted effect command place l =
+      effect_leads (order_result command effect) command (cond counted (told_call (answer_of effect) command place) place) (either_way L counted (told_call (answer_of effect) command place) place (told_leads (answer_of effect) command place l) l)
+
+  spoken_leads : (counted : Bool) (before : Before) (effect : Effect) (command : Command) (place : Place) → L place → L (spoken counted before effect command place)
+  unfolding spoken
+  spoken_leads counted before effect command (r, mails) l = l
+
+  learnt_leads : (counted : Bool) (nodes : List ℕ) (slot : ℕ) (command : Command) (place : Place) → L place → L (learnt_to counted nodes slot command place)
+  unfolding learnt_to
+  learnt_leads counted nodes slot command (r, mails) l = either_way L counted (r, sent_others r.me nodes (Learn (name_of r) slot command) mails) (r, mails) l l
+
+  welcomed_leads : (nodes : List ℕ) (place : Place) → L place → L (welcomed_all nodes place)
+  unfolding welcomed_all install_to
+  welcomed_leads [] place l = l
+  welcomed_leads (node ∷ nodes) (r, mails) l =
+      welcomed_leads nodes (asked_to_promise node (install_to node (r, mails)))
+      (either_way L r.leader.is_first (install_to node (r, mails)) (r, sent r.me node (Prepare (name_of r) r.leader.ballot (next r)) (install_to node (r, mails)).1) l l)
+
+pub same_leader : (counted : Bool) (effect : Effect) (command : Command) (r : ReplicaState) (mails : List Mail)
+    → (welcomed counted (members r) (learnt_to counted (members r) (next r) command (spoken counted (before_of r.group.core) effect command (announced counted effect command (entered command r, mails))))).0.leader ≡ r.leader
+unfolding entered forgotten
+same_leader counted effect command r mails =
+    let place1 : Place = announced counted effect command (entered command r, mails) in
+    let place2 : Place = spoken counted (before_of r.group.core) effect command place1 in
+    let place3 : Place = learnt_to counted (members r) (next r) command place2 in
+    welcomed_place (L r.leader) (welcomed_leads r.leader) counted (members r) place3
+    (learnt_leads r.leader counted (members r) (next r) command place2 (spoken_leads r.leader counted (before_of r.group.core) effect command place1 (announced_leads r.leader counted effect command (entered command r, mails) refl)))

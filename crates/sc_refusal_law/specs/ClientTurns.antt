@@ -1,0 +1,39 @@
+-- A client over a lawful journal: it sends its requests one after another, and ends with the last.
+use Rattle.std.specs.Prelude.{◌≡◌, ℕ, ◌+◌, nat_le, List, [], ◌∷◌, ◌++◌, length, Option, Some, None, ◌⊎◌, if◌then◌else◌}
+use Rattle.sc_base.specs.declared.ops.Op.{Op}
+use Rattle.sc_base.specs.declared.ops.Reply.{Reply}
+use Rattle.sc_actor.specs.declared.rows.Input.{Input}
+use Rattle.sc_actor.specs.declared.rows.Input.TheVariants.{Go}
+use Rattle.sc_cmd.specs.declared.orders.OrderLine.{OrderLine}
+use Rattle.sc_mail.specs.declared.bodies.Mail.{Mail}
+use Rattle.sc_client_table.specs.Client.{Client}
+use Rattle.sc_client_table.specs.Turns.{SendsWaiting, IsReplyTo, Waits}
+
+-- a number, where there is a request with it
+abbrev pub number_in : List Op → ℕ → Option ℕ
+number_in requests seq = if nat_le seq (length requests) then Some seq else None
+
+-- the first request is begun, by a client that had begun none
+pub record Starts (before after : Client) (input : Input Mail OrderLine) : Type 0 where
+  pub go : input ≡ Go
+  pub fresh : before.waiting ≡ None
+  pub unanswered : before.replies ≡ []
+  pub number : after.waiting ≡ number_in after.requests 1
+  pub replies : after.replies ≡ []
+
+-- the reply to the waiting request is taken, and the next one is begun; none waits only where that was the last
+pub record GoesOn (before after : Client) (input : Input Mail OrderLine) : Type 0 where
+  pub seq : ℕ
+  pub reply : Reply
+  pub is_reply : IsReplyTo seq reply input
+  pub waited : before.waiting ≡ Some seq
+  pub number : after.waiting ≡ number_in after.requests (seq + 1)
+  pub replies : after.replies ≡ before.replies ++ reply ∷ []
+
+-- what an input makes of a client and of its mail: it sends nothing or the waiting request, whose number is the next after its replies; while one waits nothing else is begun
+pub record KeepsTurn (before after : Client) (input : Input Mail OrderLine) (mails : List Mail) : Type 0 where
+  pub me : after.me ≡ before.me
+  pub requests : after.requests ≡ before.requests
+  pub sends : SendsWaiting after mails
+  pub rises : (seq : ℕ) → after.waiting ≡ Some seq → seq ≡ length after.replies + 1
+  pub moves : Waits before after ⊎ Starts before after input ⊎ GoesOn before after input
