@@ -12,7 +12,7 @@ use Rattle.sc_base.specs.Limits.{most_nodes, most_clients, most_requests}
 use Rattle.sc_base.specs.Number.{number_of}
 use Rattle.sc_base.specs.declared.ops.Op.{Op}
 use Rattle.sc_cmd.specs.declared.orders.Order.{Order}
-use Rattle.sc_lines.specs.Reasons.{reason_code, or_reason, then_on}
+use Rattle.sc_lines.specs.Reasons.{or_reason, then_on}
 use Rattle.sc_lines.specs.Words.{nth, words_of, count_in}
 use Rattle.sc_lines.specs.Lines.{is_too_long, lines_of, trimmed, is_skipped, has_bad_byte, most_lines}
 use Rattle.sc_lines.specs.Kinds.{kind_of, phase_of, is_inner, has_count}
@@ -330,7 +330,7 @@ line_read_is reading line more is e =
 -- what a line gave, where the reading went on to a scenario
 pub going_ok : (number : ℕ) (onward : Reading → Result Scenario ScenarioFault) (r : Result Reading Reason) (scenario : Scenario) → going_on number onward r ≡ Ok scenario → (more : Reading) × (r ≡ Ok more) × (onward more ≡ Ok scenario)
 going_ok number onward (Ok more) scenario e = (more, refl, e)
-going_ok number onward (Err reason) scenario e = absurd (err_ok (Bad number (reason_code reason)) scenario e)
+going_ok number onward (Err reason) scenario e = absurd (err_ok (Bad number reason) scenario e)
 
 not_zero : (n : ℕ) → eqb n 0 ≡ false → 1 ≤ n
 not_zero n e = let ne = eqb-false n 0 e in omega (arith, ne)
