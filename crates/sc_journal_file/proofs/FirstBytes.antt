@@ -9,6 +9,7 @@ use Rattle.sc_mail.specs.declared.bodies.Mail.{Mail}
 use Rattle.sc_scenario.specs.declared.scenarios.Scenario.{Scenario}
 use Rattle.sc_journal_file.specs.Stored.{most_file_bytes, IsFile, IsTooLarge, IsBadFile}
 use Rattle.sc_journal_file.specs.Laws.{first_bytes, FirstBytesDecideFiles, FirstBytesDecideFaults}
+use Rattle.sc_lines.specs.declared.reasons.Reason.{Reason}
 
 -- both ways, where two lists are one
 along : (P : List ℕ → Type 0) (one other : List ℕ) → one ≡ other → P one ↔ P other
@@ -22,13 +23,13 @@ not_within : (file : List ℕ) → most_file_bytes < length file → length file
 not_within file over within = absurd (omega (arith, over, within))
 
 -- a file with too many bytes is bad for that alone
-large_alone : (file : List ℕ) (line why : ℕ) → most_file_bytes < length file → IsBadFile file line why → IsTooLarge file line why
+large_alone : (file : List ℕ) (line : ℕ) (why : Reason) → most_file_bytes < length file → IsBadFile file line why → IsTooLarge file line why
 large_alone file line why over (inl large) = large
 large_alone file line why over (inr (inl bad)) = absurd (not_within file over bad.within)
 large_alone file line why over (inr (inr (inl bad))) = absurd (not_within file over bad.within)
 large_alone file line why over (inr (inr (inr bad))) = absurd (not_within file over bad.within)
 
-large_too : (file other : List ℕ) (line why : ℕ) → most_file_bytes < length file → most_file_bytes < length other → IsBadFile file line why → IsBadFile other line why
+large_too : (file other : List ℕ) (line : ℕ) (why : Reason) → most_file_bytes < length file → most_file_bytes < length other → IsBadFile file line why → IsBadFile other line why
 large_too file other line why over over' bad =
     let large = large_alone file line why over bad in inl (record { over = over'; line_is = large.line_is; why_is = large.why_is })
 
@@ -39,7 +40,7 @@ files_by input scenario rows (inl over) = (
   λ is. absurd (not_within input (omega (arith, over)) is.within),
 )
 
-bad_by : (input : List ℕ) (line why : ℕ) → (most_file_bytes + 1 < length input) ⊎ (length input ≤ most_file_bytes + 1) → IsBadFile (first_bytes input) line why ↔ IsBadFile input line why
+bad_by : (input : List ℕ) (line : ℕ) (why : Reason) → (most_file_bytes + 1 < length input) ⊎ (length input ≤ most_file_bytes + 1) → IsBadFile (first_bytes input) line why ↔ IsBadFile input line why
 bad_by input line why (inr le) = along (λ file. IsBadFile file line why) (first_bytes input) input (take_all (most_file_bytes + 1) input le)
 bad_by input line why (inl over) =
     let more : most_file_bytes < length input = omega (arith, over) in

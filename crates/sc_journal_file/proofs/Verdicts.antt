@@ -17,6 +17,7 @@ use Rattle.sc_journal_file.specs.Laws.{TextsAreApart, FilesHaveOneVerdict}
 use Rattle.sc_journal_file.proofs.Plain.{fed_apart}
 use Rattle.sc_journal_file.proofs.Rows.{AreLines, some_bytes}
 use Rattle.sc_journal_file.proofs.OneFile.{same_cut, same_Ok}
+use Rattle.sc_lines.specs.declared.reasons.Reason.{Reason}
 
 -- ---- rows
 
@@ -69,7 +70,7 @@ clash scenario fault r e f = cc
 not_ok : (scenario : Scenario) (fault : ScenarioFault) (text text' : List ℕ) → text ≡ text' → verdict_of text ≡ Ok scenario → verdict_of text' ≡ Err fault → ⊥
 not_ok scenario fault text text' e read bad = clash scenario fault (verdict_of text) read (ap verdict_of e ∙ bad)
 
-same_fault : (line line' why why' : ℕ) (r : Result Scenario ScenarioFault) → r ≡ Err (Bad line why) → r ≡ Err (Bad line' why') → (line ≡ line') × (why ≡ why')
+same_fault : (line line' : ℕ) (why why' : Reason) (r : Result Scenario ScenarioFault) → r ≡ Err (Bad line why) → r ≡ Err (Bad line' why') → (line ≡ line') × (why ≡ why')
 same_fault line line' why why' r e f = (cc, cc)
 
 -- a file with a line `journal` does not lack it
@@ -79,13 +80,13 @@ no_cut file text lines behind cut none = none-some (cut.0, lines) (sym none ∙ 
 within_over : (file : List ℕ) → length file ≤ most_file_bytes → most_file_bytes < length file → ⊥
 within_over file within over = absurd (omega (arith, within, over))
 
-rows_bad : AreLines → (file : List ℕ) (scenario : Scenario) (rows : List (Row Mail OrderLine)) (line why : ℕ) → IsFile file scenario rows → LacksRow file line why → ⊥
+rows_bad : AreLines → (file : List ℕ) (scenario : Scenario) (rows : List (Row Mail OrderLine)) (line : ℕ) (why : Reason) → IsFile file scenario rows → LacksRow file line why → ⊥
 rows_bad are file scenario rows line why is bad =
     let same = same_cut file is.text bad.text is.lines bad.lines is.behind bad.behind is.cut bad.cut in
     no_bad are rows bad.bad.before bad.bad.rest is.held bad.bad.held bad.bad.bad (sym is.rows_are ∙ same.ends ∙ bad.bad.bytes_are)
 
 -- a file is not bad
-not_bad : AreLines → (file : List ℕ) (scenario : Scenario) (rows : List (Row Mail OrderLine)) (line why : ℕ) → IsFile file scenario rows → IsBadFile file line why → ⊥
+not_bad : AreLines → (file : List ℕ) (scenario : Scenario) (rows : List (Row Mail OrderLine)) (line : ℕ) (why : Reason) → IsFile file scenario rows → IsBadFile file line why → ⊥
 not_bad are file scenario rows line why is (inl bad) = within_over file is.within bad.over
 not_bad are file scenario rows line why is (inr (inl bad)) = no_cut file is.text is.lines is.behind is.cut bad.nowhere
 not_bad are file scenario rows line why is (inr (inr (inl bad))) =
@@ -94,22 +95,22 @@ not_bad are file scenario rows line why is (inr (inr (inr bad))) = rows_bad are 
 
 -- ---- one bad line
 
-not_both_ways : (file : List ℕ) (line line' why why' : ℕ) → LacksScenario file line why → LacksRow file line' why' → ⊥
+not_both_ways : (file : List ℕ) (line line' : ℕ) (why why' : Reason) → LacksScenario file line why → LacksRow file line' why' → ⊥
 not_both_ways file line line' why why' a b =
     not_ok b.scenario (Bad line why) b.text a.text (same_cut file b.text a.text b.lines a.lines b.behind a.behind b.cut a.cut).texts b.read a.read
 
-one_scenario : (file : List ℕ) (line line' why why' : ℕ) → LacksScenario file line why → LacksScenario file line' why' → (line ≡ line') × (why ≡ why')
+one_scenario : (file : List ℕ) (line line' : ℕ) (why why' : Reason) → LacksScenario file line why → LacksScenario file line' why' → (line ≡ line') × (why ≡ why')
 one_scenario file line line' why why' a b =
     same_fault line line' why why' (verdict_of a.text) a.read (ap verdict_of (same_cut file a.text b.text a.lines b.lines a.behind b.behind a.cut b.cut).texts ∙ b.read)
 
-one_row : AreLines → (file : List ℕ) (line line' why why' : ℕ) → LacksRow file line why → LacksRow file line' why' → (line ≡ line') × (why ≡ why')
+one_row : AreLines → (file : List ℕ) (line line' : ℕ) (why why' : Reason) → LacksRow file line why → LacksRow file line' why' → (line ≡ line') × (why ≡ why')
 one_row are file line line' why why' a b =
     let same = same_cut file a.text b.text a.lines b.lines a.behind b.behind a.cut b.cut in
     let counts = same_count are a.bad.before b.bad.before a.bad.rest b.bad.rest a.bad.held b.bad.held a.bad.bad b.bad.bad (sym a.bad.bytes_are ∙ same.ends ∙ b.bad.bytes_are) in
     (omega (arith, a.line_is, b.line_is, same.counts, a.bad.count_is, b.bad.count_is, counts), a.why_is ∙ sym b.why_is)
 
 -- a bad file has one bad line, and one reason
-one_bad : AreLines → (file : List ℕ) (line line' why why' : ℕ) → IsBadFile file line why → IsBadFile file line' why' → (line ≡ line') × (why ≡ why')
+one_bad : AreLines → (file : List ℕ) (line line' : ℕ) (why why' : Reason) → IsBadFile file line why → IsBadFile file line' why' → (line ≡ line') × (why ≡ why')
 one_bad are file line line' why why' (inl a) (inl b) = (a.line_is ∙ sym b.line_is, a.why_is ∙ sym b.why_is)
 one_bad are file line line' why why' (inl a) (inr (inl b)) = absurd (within_over file b.within a.over)
 one_bad are file line line' why why' (inl a) (inr (inr (inl b))) = absurd (within_over file b.within a.over)

@@ -9,6 +9,7 @@ use Rattle.sc_row_text.specs.RowText.{text_of, IsHeld}
 use Rattle.sc_scenario.specs.Grammar.{verdict_of}
 use Rattle.sc_scenario.specs.declared.scenarios.Scenario.{Scenario}
 use Rattle.sc_journal_file.specs.Stored.{most_file_bytes, file_text, IsFile, IsBadFile}
+use Rattle.sc_lines.specs.declared.reasons.Reason.{Reason}
 
 -- a file is the file of this scenario and these rows, and of no other
 abbrev pub IsFileOfOne : List ℕ → Scenario → List (Row Mail OrderLine) → Type 0
@@ -29,7 +30,7 @@ FirstBytesDecideFiles = (input : List ℕ) (scenario : Scenario) (rows : List (R
 
 -- .. and is bad exactly where they are
 abbrev pub FirstBytesDecideFaults : Type 0
-FirstBytesDecideFaults = (input : List ℕ) (line why : ℕ) → IsBadFile (first_bytes input) line why ↔ IsBadFile input line why
+FirstBytesDecideFaults = (input : List ℕ) (line : ℕ) (why : Reason) → IsBadFile (first_bytes input) line why ↔ IsBadFile input line why
 
 -- no two rows have the same text
 abbrev pub TextsAreApart : Type 0
@@ -40,8 +41,8 @@ pub record FilesHaveOneVerdict : Type 0 where
   pub scenarios : (file : List ℕ) (one other : Scenario) (rows others : List (Row Mail OrderLine)) → IsFile file one rows → IsFile file other others → one ≡ other
   pub texts : (file : List ℕ) (one other : Scenario) (rows others : List (Row Mail OrderLine)) → IsFile file one rows → IsFile file other others → map text_of rows ≡ map text_of others
   pub rows : TextsAreApart → (file : List ℕ) (one other : Scenario) (rows others : List (Row Mail OrderLine)) → IsFile file one rows → IsFile file other others → rows ≡ others
-  pub not_both : (file : List ℕ) (scenario : Scenario) (rows : List (Row Mail OrderLine)) (line why : ℕ) → IsFile file scenario rows → IsBadFile file line why → ⊥
-  pub lines : (file : List ℕ) (line line' why why' : ℕ) → IsBadFile file line why → IsBadFile file line' why' → (line ≡ line') × (why ≡ why')
+  pub not_both : (file : List ℕ) (scenario : Scenario) (rows : List (Row Mail OrderLine)) (line : ℕ) (why : Reason) → IsFile file scenario rows → IsBadFile file line why → ⊥
+  pub lines : (file : List ℕ) (line line' : ℕ) (why why' : Reason) → IsBadFile file line why → IsBadFile file line' why' → (line ≡ line') × (why ≡ why')
 
 -- a text that is a scenario has no more bytes than a text may have
 abbrev pub ScenariosAreShort : Type 0

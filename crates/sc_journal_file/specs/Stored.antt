@@ -12,6 +12,8 @@ use Rattle.sc_scenario.specs.declared.reading.ScenarioFault.{ScenarioFault}
 use Rattle.sc_scenario.specs.declared.reading.ScenarioFault.TheVariants.{Bad, OutOfMemory}
 use Rattle.sc_scenario.specs.declared.scenarios.Scenario.{Scenario}
 use Rattle.sc_journal_file.specs.Files.{divider, fed, whole, front_of, IsCut}
+use Rattle.sc_lines.specs.declared.reasons.Reason.{Reason}
+use Rattle.sc_lines.specs.declared.reasons.Reason.TheVariants.{MissingJournal, BadRow, FileTooLarge}
 
 -- the most bytes of a file
 abbrev pub most_file_bytes : ℕ
@@ -44,18 +46,6 @@ pub record IsFile (file : List ℕ) (scenario : Scenario) (rows : List (Row Mail
 
 -- ---- bad files
 
--- the numbers of the reasons that only files have; those of scenarios go up to 15
-abbrev pub missing_journal : ℕ
-missing_journal = 16
-
--- a row's line that is none
-abbrev pub bad_row : ℕ
-bad_row = 17
-
--- too many bytes
-abbrev pub file_too_large : ℕ
-file_too_large = 18
-
 -- there is a line at the beginning, and it lacks its line feed or is no row's text
 abbrev pub BeginsBadly : List ℕ → Type 0
 BeginsBadly bytes = (0 < length bytes) × ((row : Row Mail OrderLine) (more : List ℕ) → IsHeld row → bytes ≡ fed (text_of row) ++ more → ⊥)
@@ -70,20 +60,20 @@ pub record HasBadRow (bytes : List ℕ) (count : ℕ) : Type 0 where
   pub bad : BeginsBadly rest
 
 -- a file with too many bytes
-pub record IsTooLarge (file : List ℕ) (line why : ℕ) : Type 0 where
+pub record IsTooLarge (file : List ℕ) (line : ℕ) (why : Reason) : Type 0 where
   pub over : most_file_bytes < length file
   pub line_is : line ≡ 0
-  pub why_is : why ≡ file_too_large
+  pub why_is : why ≡ FileTooLarge
 
 -- no line that a line feed ends is `journal`, which would follow the last line
-pub record LacksJournal (file : List ℕ) (line why : ℕ) : Type 0 where
+pub record LacksJournal (file : List ℕ) (line : ℕ) (why : Reason) : Type 0 where
   pub within : length file ≤ most_file_bytes
   pub nowhere : front_of file ≡ None
   pub line_is : line ≡ length (lines_in false file) + 1
-  pub why_is : why ≡ missing_journal
+  pub why_is : why ≡ MissingJournal
 
 -- the part before the line `journal` is no scenario
-pub record LacksScenario (file : List ℕ) (line why : ℕ) : Type 0 where
+pub record LacksScenario (file : List ℕ) (line : ℕ) (why : Reason) : Type 0 where
   pub within : length file ≤ most_file_bytes
   pub text : List ℕ
   pub lines : ℕ
@@ -92,7 +82,7 @@ pub record LacksScenario (file : List ℕ) (line why : ℕ) : Type 0 where
   pub read : verdict_of text ≡ Err (Bad line why)
 
 -- the part before the line `journal` is a scenario, and the part behind it has a bad line, the first of whose lines follows `journal`
-pub record LacksRow (file : List ℕ) (line why : ℕ) : Type 0 where
+pub record LacksRow (file : List ℕ) (line : ℕ) (why : Reason) : Type 0 where
   pub within : length file ≤ most_file_bytes
   pub text : List ℕ
   pub lines : ℕ
@@ -103,10 +93,10 @@ pub record LacksRow (file : List ℕ) (line why : ℕ) : Type 0 where
   pub count : ℕ
   pub bad : HasBadRow behind count
   pub line_is : line ≡ lines + 2 + count
-  pub why_is : why ≡ bad_row
+  pub why_is : why ≡ BadRow
 
--- this line of a file is bad, counted from 1, and this is the number of the reason: the first cause that applies
-abbrev pub IsBadFile : List ℕ → ℕ → ℕ → Type 0
+-- this line of a file is bad, counted from 1, and this is the reason: the first cause that applies
+abbrev pub IsBadFile : List ℕ → ℕ → Reason → Type 0
 IsBadFile file line why = IsTooLarge file line why ⊎ LacksJournal file line why ⊎ LacksScenario file line why ⊎ LacksRow file line why
 
 -- what a fault says of a file; want of memory says nothing
@@ -134,5 +124,5 @@ pub record AreRows (bytes : List ℕ) (rows : List (Row Mail OrderLine)) : Type 
 
 -- what a fault says of the lines of rows, of which the first has this number
 abbrev pub IsRowFault : List ℕ → ℕ → ScenarioFault → Type 0
-IsRowFault bytes first (Bad line why) = (count : ℕ) × HasBadRow bytes count × (line ≡ first + count) × (why ≡ bad_row)
+IsRowFault bytes first (Bad line why) = (count : ℕ) × HasBadRow bytes count × (line ≡ first + count) × (why ≡ BadRow)
 IsRowFault bytes first OutOfMemory = ⊤

@@ -11,7 +11,7 @@ use sc_actor::{Journal, Row};
 use sc_base::{OutOfMemory, Sequence};
 use sc_cmd::OrderLine;
 use sc_journal::{RowFault, read_row};
-use sc_lines::next_line;
+use sc_lines::{Reason, next_line};
 use sc_mail::Mail;
 use sc_row_text::row_texts_are_lines;
 use sc_scenario::{Scenario, ScenarioFault, read_scenario};
@@ -19,12 +19,6 @@ use std::alloc::Global;
 
 /// The most bytes that a file has.
 pub const FILE_LIMIT: u64 = 268_435_456;
-
-const MISSING_JOURNAL: u8 = 16;
-
-const BAD_ROW: u8 = 17;
-
-const FILE_TOO_LARGE: u8 = 18;
 
 // How many lines a file has.
 fn line_count(file: &[u8]) -> u32
@@ -80,7 +74,10 @@ fn read_rows(
     let mut line = first;
     while !rest.is_empty() {
         let Some((row, more)) = next_row(alloc, rest)? else {
-            return Err(ScenarioFault::Bad { line, why: BAD_ROW });
+            return Err(ScenarioFault::Bad {
+                line,
+                why: Reason::BadRow,
+            });
         };
         rows.push(row)?;
         rest = more;
@@ -90,12 +87,13 @@ fn read_rows(
 }
 
 /// The scenario and the rows that a file is. `Bad` exactly where it is none: the bad line, and the
-/// number of the reason.
+/// reason.
 ///
-/// The first of these causes counts. The file has more than `FILE_LIMIT` bytes: line 0, reason 18.
-/// None of the lines that a line feed ends is `journal`: the line after the last, reason 16. The
-/// part before `journal` is no scenario: the line and the reason of `read_scenario`. A line behind
-/// `journal` has no line feed, or is no row's text: the first such line, reason 17.
+/// The first of these causes counts. The file has more than `FILE_LIMIT` bytes: line 0,
+/// `FileTooLarge`. None of the lines that a line feed ends is `journal`: the line after the last,
+/// `MissingJournal`. The part before `journal` is no scenario: the line and the reason of
+/// `read_scenario`. A line behind `journal` has no line feed, or is no row's text: the first such
+/// line, `BadRow`.
 pub fn read_file(
     alloc: Global,
     file: &[u8],
@@ -111,13 +109,13 @@ pub fn read_file(
     if file.len() as u64 > FILE_LIMIT {
         return Err(ScenarioFault::Bad {
             line: 0,
-            why: FILE_TOO_LARGE,
+            why: Reason::FileTooLarge,
         });
     }
     let Some(parts) = cut(file) else {
         return Err(ScenarioFault::Bad {
             line: line_count(file) + 1,
-            why: MISSING_JOURNAL,
+            why: Reason::MissingJournal,
         });
     };
     let scenario = read_scenario(alloc, parts.scenario)?;

@@ -1,9 +1,11 @@
--- Why a text is no scenario.
-use Rattle.std.specs.Prelude.{ℕ, List, [], ◌∷◌, get_or, codes, Option, Some, None, Result, Ok, Err}
+-- Why a line is bad.
+use Rattle.std.specs.Prelude.{◌≡◌, ⊤, ℕ, List, codes, Option, Some, None, Result, Ok, Err, MatchResult}
+use Rattle.sc_lines.specs.declared.reasons.LineFault.{LineFault}
+use Rattle.sc_lines.specs.declared.reasons.LineFault.TheVariants.{Bad, OutOfMemory}
 use Rattle.sc_lines.specs.declared.reasons.Reason.{Reason}
-use Rattle.sc_lines.specs.declared.reasons.Reason.TheVariants.{MissingHeader, BadByte, UnknownWord, OutOfPlace, WrongCount, BadNumber, BadKey, BadValue, UnknownName, Repeated, BadBoundary, TooMany, UnendedClient, MissingPart, TooLarge}
+use Rattle.sc_lines.specs.declared.reasons.Reason.TheVariants.{MissingHeader, BadByte, UnknownWord, OutOfPlace, WrongCount, BadNumber, BadKey, BadValue, UnknownName, Repeated, BadBoundary, TooMany, UnendedClient, MissingPart, TooLarge, MissingJournal, BadRow, FileTooLarge}
 
--- the number of a reason
+-- the number of a reason: up to 15 those of scenarios, then those of files of stored journals
 abbrev pub reason_code : Reason → ℕ
 reason_code MissingHeader = 1
 reason_code BadByte = 2
@@ -20,17 +22,30 @@ reason_code TooMany = 12
 reason_code UnendedClient = 13
 reason_code MissingPart = 14
 reason_code TooLarge = 15
+reason_code MissingJournal = 16
+reason_code BadRow = 17
+reason_code FileTooLarge = 18
 
--- the words for the reasons, in the order of their numbers; none for 0
-abbrev pub reasons : List (List ℕ)
-reasons =
-    codes "" ∷ codes "missing header" ∷ codes "bad byte" ∷ codes "unknown word" ∷ codes "out of place" ∷ codes "wrong count"
-    ∷ codes "bad number" ∷ codes "bad key" ∷ codes "bad value" ∷ codes "unknown name" ∷ codes "repeated"
-    ∷ codes "bad boundary" ∷ codes "too many" ∷ codes "unended client" ∷ codes "missing part" ∷ codes "too large" ∷ []
-
--- the words for the reason of this number
-abbrev pub reason_text : ℕ → List ℕ
-reason_text why = get_or reasons why []
+-- the words for a reason
+abbrev pub reason_text : Reason → List ℕ
+reason_text MissingHeader = codes "missing header"
+reason_text BadByte = codes "bad byte"
+reason_text UnknownWord = codes "unknown word"
+reason_text OutOfPlace = codes "out of place"
+reason_text WrongCount = codes "wrong count"
+reason_text BadNumber = codes "bad number"
+reason_text BadKey = codes "bad key"
+reason_text BadValue = codes "bad value"
+reason_text UnknownName = codes "unknown name"
+reason_text Repeated = codes "repeated"
+reason_text BadBoundary = codes "bad boundary"
+reason_text TooMany = codes "too many"
+reason_text UnendedClient = codes "unended client"
+reason_text MissingPart = codes "missing part"
+reason_text TooLarge = codes "too large"
+reason_text MissingJournal = codes "missing journal"
+reason_text BadRow = codes "bad row"
+reason_text FileTooLarge = codes "file too large"
 
 -- what goes on with what was read; else the reason why nothing was
 abbrev pub or_reason : {X Y : Type 0} → Option X → Reason → (X → Result Y Reason) → Result Y Reason
@@ -41,3 +56,12 @@ or_reason None reason onward = Err reason
 abbrev pub then_on : {X Y : Type 0} → Result X Reason → (X → Result Y Reason) → Result Y Reason
 then_on (Ok x) onward = onward x
 then_on (Err reason) onward = Err reason
+
+-- what a fault says of what a line says: the reason why it says nothing; want of memory says nothing
+abbrev pub HasReason : {X : Type 0} → Result X Reason → LineFault → Type 0
+HasReason said (Bad reason) = said ≡ Err reason
+HasReason said OutOfMemory = ⊤
+
+-- what a call answers of what a line says
+abbrev pub IsSaid : {X : Type 0} → Result X Reason → Result X LineFault → Type 0
+IsSaid said result = MatchResult result (λ x. said ≡ Ok x) (λ fault. HasReason said fault)

@@ -1,9 +1,13 @@
-//! Why a text is no scenario.
+//! Why a line is bad.
 ghost use Rattle.std.specs.Prelude.{◌≡◌};
 ghost use Rattle.sc_lines.specs.Reasons.{reason_code, reason_text};
+ghost use Rattle.sc_lines.specs.declared.reasons.LineFault.TheVariants.{Bad, OutOfMemory};
+
+use sc_base;
+use std::alloc::AllocError;
 
 /// Why a line is bad. Of the reasons of one line the one with the lowest number counts.
-#[derive(Clone, Copy)]
+#[derive(Clone, Copy, Debug, PartialEq, Eq)]
 pub enum Reason {
     /// Line 1 is neither `scatter 1` nor `scatter 2`, or there is no line.
     MissingHeader,
@@ -33,10 +37,16 @@ pub enum Reason {
     MissingPart,
     /// The line of the first byte too many, or the first line too many.
     TooLarge,
+    /// The file of a stored journal has no line `journal`.
+    MissingJournal,
+    /// A line of such a file that has to be a row's text and is none.
+    BadRow,
+    /// Such a file has too many bytes.
+    FileTooLarge,
 }
 
 impl Reason {
-    /// The number of the reason, from 1 to 15.
+    /// The number of the reason, from 1 to 18: up to 15 those of scenarios, then those of files.
     pub fn code(self) -> u8
         ensures { result ≡ reason_code self }
     {
@@ -56,30 +66,67 @@ impl Reason {
             Reason::UnendedClient => 13,
             Reason::MissingPart => 14,
             Reason::TooLarge => 15,
+            Reason::MissingJournal => 16,
+            Reason::BadRow => 17,
+            Reason::FileTooLarge => 18,
+        }
+    }
+
+    /// The words for the reason.
+    pub fn text(self) -> &'static [u8]
+        ensures { result.now ≡ reason_text self }
+    {
+        match self {
+            Reason::MissingHeader => b"missing header",
+            Reason::BadByte => b"bad byte",
+            Reason::UnknownWord => b"unknown word",
+            Reason::OutOfPlace => b"out of place",
+            Reason::WrongCount => b"wrong count",
+            Reason::BadNumber => b"bad number",
+            Reason::BadKey => b"bad key",
+            Reason::BadValue => b"bad value",
+            Reason::UnknownName => b"unknown name",
+            Reason::Repeated => b"repeated",
+            Reason::BadBoundary => b"bad boundary",
+            Reason::TooMany => b"too many",
+            Reason::UnendedClient => b"unended client",
+            Reason::MissingPart => b"missing part",
+            Reason::TooLarge => b"too large",
+            Reason::MissingJournal => b"missing journal",
+            Reason::BadRow => b"bad row",
+            Reason::FileTooLarge => b"file too large",
         }
     }
 }
 
-/// The words for the reason of this number, from 1 to 15. Empty for other numbers.
-pub fn reason_text(why: u8) -> &'static [u8]
-    ensures { result.now ≡ reason_text why }
-{
-    match why {
-        1 => b"missing header",
-        2 => b"bad byte",
-        3 => b"unknown word",
-        4 => b"out of place",
-        5 => b"wrong count",
-        6 => b"bad number",
-        7 => b"bad key",
-        8 => b"bad value",
-        9 => b"unknown name",
-        10 => b"repeated",
-        11 => b"bad boundary",
-        12 => b"too many",
-        13 => b"unended client",
-        14 => b"missing part",
-        15 => b"too large",
-        _ => b"",
+/// Why nothing was read of a line.
+#[derive(Clone, Copy)]
+pub enum LineFault {
+    /// The line is bad.
+    Bad(Reason),
+    OutOfMemory,
+}
+
+impl From<Reason> for LineFault {
+    ghost from_gives = { λ reason e. e ≡ Bad reason };
+
+    fn from(reason: Reason) -> LineFault {
+        LineFault::Bad(reason)
+    }
+}
+
+impl From<sc_base::OutOfMemory> for LineFault {
+    ghost from_gives = { λ _ e. e ≡ OutOfMemory };
+
+    fn from(_e: sc_base::OutOfMemory) -> LineFault {
+        LineFault::OutOfMemory
+    }
+}
+
+impl From<AllocError> for LineFault {
+    ghost from_gives = { λ _ e. e ≡ OutOfMemory };
+
+    fn from(_e: AllocError) -> LineFault {
+        LineFault::OutOfMemory
     }
 }

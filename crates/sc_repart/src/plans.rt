@@ -1,9 +1,7 @@
 //! The coordinator's side.
-ghost use Rattle.std.specs.Prelude.{◌≡◌, ◌&&◌, IfOk, true};
-ghost use Rattle.sc_base.specs.Arc.{before, joined};
-ghost use Rattle.sc_machine_table.specs.Plans.{can_cut, can_join, can_repart, kept_arc, moved_arc, repart_core};
+ghost use Rattle.std.specs.Prelude.{◌≡◌, IfOk, Some, None, true, if◌then◌else◌};
+ghost use Rattle.sc_machine_table.specs.Plans.{can_repart, kept_arc, moved_arc, repart_core};
 
-use crate::arcs::{can_cut, can_join, cut, join};
 use sc_base::{Dup, OutOfMemory, RingArc};
 use sc_cmd::{Core, Frozen, Link};
 use std::alloc::Global;
@@ -13,10 +11,7 @@ use std::alloc::Global;
 pub fn can_repart(core: &Core, at: u32, frozen: &Frozen) -> bool
     ensures { result ≡ can_repart core.now at frozen.now }
 {
-    if core.arc.holds(at) {
-        return can_cut(&core.arc, at);
-    }
-    can_take(core, at, frozen)
+    arcs(core, at, frozen).is_some()
 }
 
 /// The group after the boundary moved to `at`, and the arc that changed hands: the group gives what
@@ -32,7 +27,9 @@ pub fn plan_repart(
     ensures { IfOk result
         (λ plan. plan ≡ (repart_core core.now at frozen.now, moved_arc core.now at frozen.now)) }
 {
-    let (kept, moved) = arcs(core, at, frozen);
+    let Some((kept, moved)) = arcs(core, at, frozen) else {
+        unreachable!();
+    };
     let mut after = core.dup(alloc)?;
     after.arc = kept;
     after.succ = Link {
@@ -42,25 +39,16 @@ pub fn plan_repart(
     Ok((after, moved))
 }
 
-fn can_take(core: &Core, at: u32, frozen: &Frozen) -> bool
-    ensures { result
-        ≡ (can_cut frozen.now.arc at && can_join core.now.arc (before frozen.now.arc at)) }
-{
-    if !can_cut(&frozen.arc, at) {
-        return false;
-    }
-    let (more, _rest) = cut(&frozen.arc, at);
-    can_join(&core.arc, &more)
-}
-
-// The arc that the group has afterwards, and the one that changes hands.
-fn arcs(core: &Core, at: u32, frozen: &Frozen) -> (RingArc, RingArc)
-    requires { can_repart core.now at frozen.now ≡ true }
-    ensures { result ≡ (kept_arc core.now at frozen.now, moved_arc core.now at frozen.now) }
+// The arc that the group has afterwards, and the one that changes hands, where the boundary can
+// move.
+fn arcs(core: &Core, at: u32, frozen: &Frozen) -> Option<(RingArc, RingArc)>
+    ensures { result ≡ (if can_repart core.now at frozen.now
+        then Some (kept_arc core.now at frozen.now, moved_arc core.now at frozen.now) else None) }
 {
     if core.arc.holds(at) {
-        return cut(&core.arc, at);
+        return core.arc.cut(at).ok();
     }
-    let (more, _rest) = cut(&frozen.arc, at);
-    (join(&core.arc, &more), more)
+    let (more, _rest) = frozen.arc.cut(at).ok()?;
+    let kept = core.arc.join(&more).ok()?;
+    Some((kept, more))
 }

@@ -4,6 +4,7 @@ use Rattle.sc_actor.specs.declared.rows.Row.{Row}
 use Rattle.sc_cmd.specs.declared.orders.OrderLine.{OrderLine}
 use Rattle.sc_edges.specs.Uses.{SourceUse}
 use Rattle.sc_journal_file.specs.Stored.{IsBadFile}
+use Rattle.sc_lines.specs.declared.reasons.Reason.{Reason}
 use Rattle.sc_mail.specs.declared.bodies.Mail.{Mail}
 use Rattle.sc_scenario.specs.declared.scenarios.Scenario.{Scenario}
 use Rattle.sc_statuses.specs.declared.said.Said.{Said}
@@ -18,7 +19,7 @@ use Rattle.sc_run.specs.Shown.{ShowsScan}
 use Rattle.sc_words.specs.declared.subcommands.Sight.{Sight}
 
 -- a text about the fault that an input has refuses the input
-refuses : (IsBad : List ℕ → ℕ → ℕ → Type 0) (source : SourceUse) (fault : InputFault) (said : Said) (text : Text) → HasFault IsBad source fault → TellsFault fault said text → Refuses IsBad source said text
+refuses : (IsBad : List ℕ → ℕ → Reason → Type 0) (source : SourceUse) (fault : InputFault) (said : Said) (text : Text) → HasFault IsBad source fault → TellsFault fault said text → Refuses IsBad source said text
 refuses IsBad source Failed said text rose tells = inl (record { rose = rose; tells = tells.1; said_is = tells.0 })
 refuses IsBad source (Bad line why) said text bad tells = inr (record { line = line; why = why; bad = bad; tells = tells.1; said_is = tells.0 })
 refuses IsBad source OutOfMemory said text bad tells = absurd tells

@@ -34,6 +34,7 @@ use Rattle.sc_wants.specs.Inputs.{ReadsFile, ReadsScenario, ReadsText}
 use Rattle.sc_statuses.specs.declared.said.Said.{Said}
 use Rattle.sc_statuses.specs.declared.said.Said.TheVariants.{Filled, Usage, BadScenario, ReadFault, Lawful as Yes, Unlawful as No}
 use Rattle.sc_chance.specs.Words.{two_words}
+use Rattle.sc_lines.specs.declared.reasons.Reason.{Reason}
 
 -- the text for other words
 abbrev pub usage : List ℕ
@@ -102,15 +103,15 @@ pub record FailsToRead (source : SourceUse) (said : Said) (text : Text) : Type 0
   pub said_is : said ≡ ReadFault
 
 -- the text names the first bad line of the input, and its reason
-pub record NamesBadLine (IsBad : List ℕ → ℕ → ℕ → Type 0) (source : SourceUse) (said : Said) (text : Text) : Type 0 where
+pub record NamesBadLine (IsBad : List ℕ → ℕ → Reason → Type 0) (source : SourceUse) (said : Said) (text : Text) : Type 0 where
   pub line : ℕ
-  pub why : ℕ
+  pub why : Reason
   pub bad : IfSome source.left (λ input. IsBad input line why)
   pub tells : TellsLine (fault_text line why) text
   pub said_is : said ≡ BadScenario
 
 -- the input is not what was asked for
-abbrev pub Refuses : (List ℕ → ℕ → ℕ → Type 0) → SourceUse → Said → Text → Type 0
+abbrev pub Refuses : (List ℕ → ℕ → Reason → Type 0) → SourceUse → Said → Text → Type 0
 Refuses IsBad source said text = FailsToRead source said text ⊎ NamesBadLine IsBad source said text
 
 -- the input is a scenario, and its report is shown

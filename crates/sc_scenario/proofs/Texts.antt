@@ -12,7 +12,7 @@ use Rattle.sc_base.specs.Limits.{most_nodes, most_clients, most_requests}
 use Rattle.sc_base.specs.Number.{number_of}
 use Rattle.sc_base.specs.declared.ops.Op.{Op}
 use Rattle.sc_cmd.specs.declared.orders.Order.{Order}
-use Rattle.sc_lines.specs.Reasons.{reason_code, or_reason, then_on}
+use Rattle.sc_lines.specs.Reasons.{or_reason, then_on}
 use Rattle.sc_lines.specs.Words.{nth, words_of, count_in}
 use Rattle.sc_lines.specs.Lines.{is_too_long, lines_of, trimmed, is_skipped, has_bad_byte, most_lines}
 use Rattle.sc_lines.specs.Kinds.{kind_of, phase_of, is_inner, has_count}
@@ -26,7 +26,7 @@ use Rattle.sc_scenario.specs.Taking.{is_order_known, is_line_known, is_above, mo
 use Rattle.sc_scenario.specs.Grammar.{begun, are_two, header_read, said, words_read, is_fresh, line_read, scenario_by, reading_ended, text_ended, going_on, lines_read, verdict_of}
 use Rattle.sc_scenario.specs.Valid.{IsWritten, IsBounded, IsBoundedGroup, IsShortOp, IsBoundedClient, IsBoundedLine, IsUpTo, ValidScenariosAreBounded}
 use Rattle.sc_lines.specs.declared.reasons.Reason.{Reason}
-use Rattle.sc_lines.specs.declared.reasons.Reason.TheVariants.{MissingHeader, BadByte, UnknownWord, OutOfPlace, WrongCount, BadNumber, UnknownName, Repeated, BadBoundary, TooMany}
+use Rattle.sc_lines.specs.declared.reasons.Reason.TheVariants.{MissingHeader, BadByte, UnknownWord, OutOfPlace, WrongCount, BadNumber, UnknownName, Repeated, BadBoundary, TooMany, UnendedClient, MissingPart, TooLarge}
 use Rattle.sc_lines.specs.declared.kinds.Kind.{Kind}
 use Rattle.sc_lines.specs.declared.kinds.Kind.TheVariants.{Header, Nodes, Group, Policy, Client, End, Asking, Playing, Telling}
 use Rattle.sc_scenario.specs.declared.statements.Statement.{Statement}
@@ -330,7 +330,7 @@ line_read_is reading line more is e =
 -- what a line gave, where the reading went on to a scenario
 pub going_ok : (number : ℕ) (onward : Reading → Result Scenario ScenarioFault) (r : Result Reading Reason) (scenario : Scenario) → going_on number onward r ≡ Ok scenario → (more : Reading) × (r ≡ Ok more) × (onward more ≡ Ok scenario)
 going_ok number onward (Ok more) scenario e = (more, refl, e)
-going_ok number onward (Err reason) scenario e = absurd (err_ok (Bad number (reason_code reason)) scenario e)
+going_ok number onward (Err reason) scenario e = absurd (err_ok (Bad number reason) scenario e)
 
 not_zero : (n : ℕ) → eqb n 0 ≡ false → 1 ≤ n
 not_zero n e = let ne = eqb-false n 0 e in omega (arith, ne)
@@ -351,21 +351,21 @@ draft_is draft is some filled = record {
 }
 
 finished_is : (number : ℕ) (reading : Reading) (scenario : Scenario) → IsReading reading → reading_ended number reading ≡ Ok scenario → IsBounded scenario
-finished_is number Fresh scenario is e = absurd (err_ok (Bad number 1) scenario e)
-finished_is number (Within draft asks) scenario is e = absurd (err_ok (Bad number 13) scenario e)
+finished_is number Fresh scenario is e = absurd (err_ok (Bad number MissingHeader) scenario e)
+finished_is number (Within draft asks) scenario is e = absurd (err_ok (Bad number UnendedClient) scenario e)
 finished_is number (Outside draft) scenario is e =
-    let p = passed (eqb draft.nodes 0 || eqb (length draft.groups) 0) (Bad number 14) (Ok (scenario_by draft)) scenario e in
+    let p = passed (eqb draft.nodes 0 || eqb (length draft.groups) 0) (Bad number MissingPart) (Ok (scenario_by draft)) scenario e in
     let parts = or_parts (eqb draft.nodes 0) (eqb (length draft.groups) 0) p.0 in
     subst IsBounded (same_Ok _ scenario p.1) (draft_is draft is parts.0 parts.1)
 
 ended_is : (is_long : Bool) (number : ℕ) (reading : Reading) (scenario : Scenario) → IsReading reading → text_ended is_long number reading ≡ Ok scenario → IsBounded scenario
-ended_is true number reading scenario is e = absurd (err_ok (Bad number 15) scenario e)
+ended_is true number reading scenario is e = absurd (err_ok (Bad number TooLarge) scenario e)
 ended_is false number reading scenario is e = finished_is number reading scenario is e
 
 lines_are : (is_long : Bool) (lines : List (List ℕ)) (number : ℕ) (reading : Reading) (scenario : Scenario) → IsReading reading → lines_read is_long number reading lines ≡ Ok scenario → IsBounded scenario
 lines_are is_long [] number reading scenario is e = ended_is is_long number reading scenario is e
 lines_are is_long (line ∷ lines) number reading scenario is e =
-    let p = passed (nat_lt most_lines number) (Bad number 15) (going_on number (λ more. lines_read is_long (number + 1) more lines) (line_read reading (trimmed line))) scenario e in
+    let p = passed (nat_lt most_lines number) (Bad number TooLarge) (going_on number (λ more. lines_read is_long (number + 1) more lines) (line_read reading (trimmed line))) scenario e in
     let g = going_ok number (λ more. lines_read is_long (number + 1) more lines) (line_read reading (trimmed line)) scenario p.1 in
     lines_are is_long lines (number + 1) g.0 scenario (line_read_is reading (trimmed line) g.0 is g.1) g.2
 

@@ -1,7 +1,7 @@
 -- Which texts are a scenario, which scenario, and else the first bad line and its reason.
 use Rattle.std.specs.Prelude.{ℕ, ◌+◌, ◌==◌, ◌&&◌, ◌||◌, not, nat_lt, Bool, true, false, List, [], ◌∷◌, length, codes, Option, Some, None, Result, Ok, Err, if◌then◌else◌, option_and_then, ◌≡◌, ◌⊎◌, MatchResult}
 use Rattle.std.specs.Result.{result_ok}
-use Rattle.sc_lines.specs.Reasons.{reason_code, or_reason, then_on}
+use Rattle.sc_lines.specs.Reasons.{or_reason, then_on}
 use Rattle.sc_lines.specs.Words.{same, nth, words_of}
 use Rattle.sc_lines.specs.Lines.{most_lines, is_too_long, lines_of, trimmed, is_skipped, has_bad_byte}
 use Rattle.sc_lines.specs.Kinds.{kind_of, has_count}
@@ -69,7 +69,7 @@ line_read reading line =
 
 -- a bad line, by its number
 abbrev pub bad : ℕ → Reason → Result Scenario ScenarioFault
-bad number reason = Err (Bad number (reason_code reason))
+bad number reason = Err (Bad number reason)
 
 -- the scenario of what was read
 abbrev pub scenario_by : Draft → Scenario

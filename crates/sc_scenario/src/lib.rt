@@ -17,5 +17,5 @@ pub use reading::{
     INPUT_LIMIT, LINE_LIMIT, ScenarioFault, first_bytes_decide, read_scenario,
     valid_scenarios_are_bounded,
 };
-pub use sc_lines::reason_text;
+pub use sc_lines::Reason;
 pub use scenarios::{Asks, ClientList, GroupList, Scenario, SchedLine, Schedule};

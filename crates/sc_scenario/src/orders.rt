@@ -1,20 +1,18 @@
 //! The orders that nodes are told.
 ghost use Rattle.std.specs.Prelude.{◌≡◌, map, IfOk};
+ghost use Rattle.sc_lines.specs.Reasons.{IsSaid};
 ghost use Rattle.sc_scenario.specs.Orders.{name_in_parts, name_in, order_in};
 ghost use Rattle.sc_lines.specs.declared.kinds.OrderKind.TheVariants.{Join, Leave, Split, Merge, Repart, Migrate};
 
 use sc_base::{Draw, MOST_NODES, OutOfMemory, read_number};
 use sc_cmd::Order;
-use sc_lines::{OrderKind, Reason, count_in, dotted_parts, nth};
+use sc_lines::{LineFault, OrderKind, Reason, count_in, dotted_parts, nth};
 use std::alloc::Global;
 
 const MOST_NAMES: u32 = 4_294_967_295;
 
 /// The last position of the circle.
 pub const LAST_POSITION: u64 = 4_294_967_295;
-
-/// An order, or the reason why there is none.
-pub type OrderSaid = Result<Order, Reason>;
 
 fn name_of(parts: &[&[u8]]) -> Option<Draw>
     ensures { result ≡ name_in_parts (map (λ part. part.now) parts.now) }
@@ -35,94 +33,72 @@ fn name_in(alloc: Global, word: &[u8]) -> Result<Option<Draw>, OutOfMemory>
     Ok(name_of(&parts))
 }
 
-fn join_in(alloc: Global, words: &[&[u8]]) -> Result<OrderSaid, OutOfMemory>
-    ensures { IfOk result (λ order. order ≡ order_in Join (map (λ word. word.now) words.now)) }
+fn join_in(alloc: Global, words: &[&[u8]]) -> Result<Order, LineFault>
+    ensures { IsSaid (order_in Join (map (λ word. word.now) words.now)) result }
 {
-    let Some(node) = count_in(nth(words, 3), MOST_NODES) else {
-        return Ok(Err(Reason::BadNumber));
-    };
-    match name_in(alloc, nth(words, 4))? {
-        Some(group) => Ok(Ok(Order::Join {
-            node: node as u16,
-            group,
-        })),
-        None => Ok(Err(Reason::BadNumber)),
-    }
+    let node = count_in(nth(words, 3), MOST_NODES).ok_or(Reason::BadNumber)?;
+    let group = name_in(alloc, nth(words, 4))?.ok_or(Reason::BadNumber)?;
+    Ok(Order::Join {
+        node: node as u16,
+        group,
+    })
 }
 
-fn leave_in(alloc: Global, words: &[&[u8]]) -> Result<OrderSaid, OutOfMemory>
-    ensures { IfOk result (λ order. order ≡ order_in Leave (map (λ word. word.now) words.now)) }
+fn leave_in(alloc: Global, words: &[&[u8]]) -> Result<Order, LineFault>
+    ensures { IsSaid (order_in Leave (map (λ word. word.now) words.now)) result }
 {
-    let Some(node) = count_in(nth(words, 3), MOST_NODES) else {
-        return Ok(Err(Reason::BadNumber));
-    };
-    match name_in(alloc, nth(words, 4))? {
-        Some(group) => Ok(Ok(Order::Leave {
-            node: node as u16,
-            group,
-        })),
-        None => Ok(Err(Reason::BadNumber)),
-    }
+    let node = count_in(nth(words, 3), MOST_NODES).ok_or(Reason::BadNumber)?;
+    let group = name_in(alloc, nth(words, 4))?.ok_or(Reason::BadNumber)?;
+    Ok(Order::Leave {
+        node: node as u16,
+        group,
+    })
 }
 
-fn split_in(alloc: Global, words: &[&[u8]]) -> Result<OrderSaid, OutOfMemory>
-    ensures { IfOk result (λ order. order ≡ order_in Split (map (λ word. word.now) words.now)) }
+fn split_in(alloc: Global, words: &[&[u8]]) -> Result<Order, LineFault>
+    ensures { IsSaid (order_in Split (map (λ word. word.now) words.now)) result }
 {
-    let Some(group) = name_in(alloc, nth(words, 3))? else {
-        return Ok(Err(Reason::BadNumber));
-    };
-    match read_number(nth(words, 4), LAST_POSITION) {
-        Some(at) => Ok(Ok(Order::Split {
-            group,
-            at: at as u32,
-        })),
-        None => Ok(Err(Reason::BadNumber)),
-    }
+    let group = name_in(alloc, nth(words, 3))?.ok_or(Reason::BadNumber)?;
+    let at = read_number(nth(words, 4), LAST_POSITION).ok_or(Reason::BadNumber)?;
+    Ok(Order::Split {
+        group,
+        at: at as u32,
+    })
 }
 
-fn merge_in(alloc: Global, words: &[&[u8]]) -> Result<OrderSaid, OutOfMemory>
-    ensures { IfOk result (λ order. order ≡ order_in Merge (map (λ word. word.now) words.now)) }
+fn merge_in(alloc: Global, words: &[&[u8]]) -> Result<Order, LineFault>
+    ensures { IsSaid (order_in Merge (map (λ word. word.now) words.now)) result }
 {
-    match name_in(alloc, nth(words, 3))? {
-        Some(group) => Ok(Ok(Order::Merge { group })),
-        None => Ok(Err(Reason::BadNumber)),
-    }
+    let group = name_in(alloc, nth(words, 3))?.ok_or(Reason::BadNumber)?;
+    Ok(Order::Merge { group })
 }
 
-fn repart_in(alloc: Global, words: &[&[u8]]) -> Result<OrderSaid, OutOfMemory>
-    ensures { IfOk result (λ order. order ≡ order_in Repart (map (λ word. word.now) words.now)) }
+fn repart_in(alloc: Global, words: &[&[u8]]) -> Result<Order, LineFault>
+    ensures { IsSaid (order_in Repart (map (λ word. word.now) words.now)) result }
 {
-    let Some(group) = name_in(alloc, nth(words, 3))? else {
-        return Ok(Err(Reason::BadNumber));
-    };
-    match read_number(nth(words, 4), LAST_POSITION) {
-        Some(at) => Ok(Ok(Order::Repart {
-            group,
-            at: at as u32,
-        })),
-        None => Ok(Err(Reason::BadNumber)),
-    }
+    let group = name_in(alloc, nth(words, 3))?.ok_or(Reason::BadNumber)?;
+    let at = read_number(nth(words, 4), LAST_POSITION).ok_or(Reason::BadNumber)?;
+    Ok(Order::Repart {
+        group,
+        at: at as u32,
+    })
 }
 
-fn migrate_in(alloc: Global, words: &[&[u8]]) -> Result<OrderSaid, OutOfMemory>
-    ensures { IfOk result (λ order. order ≡ order_in Migrate (map (λ word. word.now) words.now)) }
+fn migrate_in(alloc: Global, words: &[&[u8]]) -> Result<Order, LineFault>
+    ensures { IsSaid (order_in Migrate (map (λ word. word.now) words.now)) result }
 {
-    let Some(group) = name_in(alloc, nth(words, 3))? else {
-        return Ok(Err(Reason::BadNumber));
-    };
-    match count_in(nth(words, 4), MOST_NODES) {
-        Some(node) => Ok(Ok(Order::Migrate {
-            group,
-            node: node as u16,
-        })),
-        None => Ok(Err(Reason::BadNumber)),
-    }
+    let group = name_in(alloc, nth(words, 3))?.ok_or(Reason::BadNumber)?;
+    let node = count_in(nth(words, 4), MOST_NODES).ok_or(Reason::BadNumber)?;
+    Ok(Order::Migrate {
+        group,
+        node: node as u16,
+    })
 }
 
 /// The order of this kind that the words of a line spell; or the first that is no number of a
 /// node, a group or a position.
-pub fn order_in(alloc: Global, kind: OrderKind, words: &[&[u8]]) -> Result<OrderSaid, OutOfMemory>
-    ensures { IfOk result (λ order. order ≡ order_in kind (map (λ word. word.now) words.now)) }
+pub fn order_in(alloc: Global, kind: OrderKind, words: &[&[u8]]) -> Result<Order, LineFault>
+    ensures { IsSaid (order_in kind (map (λ word. word.now) words.now)) result }
 {
     match kind {
         OrderKind::Join => join_in(alloc, words),
@@ -131,6 +107,6 @@ pub fn order_in(alloc: Global, kind: OrderKind, words: &[&[u8]]) -> Result<Order
         OrderKind::Merge => merge_in(alloc, words),
         OrderKind::Repart => repart_in(alloc, words),
         OrderKind::Migrate => migrate_in(alloc, words),
-        OrderKind::Short => Ok(Err(Reason::WrongCount)),
+        OrderKind::Short => Err(LineFault::Bad(Reason::WrongCount)),
     }
 }

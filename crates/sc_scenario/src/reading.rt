@@ -1,6 +1,7 @@
 //! The reader: line by line, up to the first bad line.
 ghost use Rattle.std.specs.Prelude.{◌≡◌, map, IfOk};
 ghost use Rattle.sc_scenario.specs.Grammar.{HasVerdict, begun, are_two, header_read, said, words_read, is_fresh, line_read, bad, scenario_by, reading_ended, lines_read, verdict_of};
+ghost use Rattle.sc_lines.specs.Reasons.{IsSaid};
 ghost use Rattle.sc_lines.specs.Lines.{is_too_long, lines_in};
 ghost use Rattle.sc_scenario.specs.Valid.{ValidScenariosAreBounded, FirstBytesDecide};
 ghost use Rattle.sc_scenario.specs.declared.drafts.Reading.TheVariants.{Fresh, Outside, Within};
@@ -10,12 +11,12 @@ use crate::drafts::{Draft, Reading};
 use crate::groups::bases_of;
 use crate::places::may_stand;
 use crate::scenarios::{Asks, Scenario};
-use crate::statements::{Stated, statement_in};
-use crate::taking::{Taken, taken_outside, taken_within};
+use crate::statements::{Statement, statement_in};
+use crate::taking::{taken_outside, taken_within};
 use sc_base::{self, Sequence};
 use sc_lines::{
-    Kind, Reason, has_bad_byte, has_count, is_inner, is_skipped, is_text, kind_of, next_line, nth,
-    trimmed, words_of,
+    Kind, LineFault, Reason, has_bad_byte, has_count, is_inner, is_skipped, is_text, kind_of,
+    next_line, nth, trimmed, words_of,
 };
 use std::alloc::Global;
 
@@ -28,8 +29,8 @@ pub const LINE_LIMIT: u32 = 20_000;
 /// Why a text is no scenario.
 #[derive(Clone, Copy, Debug, PartialEq, Eq)]
 pub enum ScenarioFault {
-    /// The first bad line, from 1, and the number of its reason, from 1 to 15.
-    Bad { line: u32, why: u8 },
+    /// The first bad line, from 1, and the reason.
+    Bad { line: u32, why: Reason },
     OutOfMemory,
 }
 
@@ -61,7 +62,7 @@ fn are_two(words: &[&[u8]], one: &[u8], other: &[u8]) -> bool
     words.len() == 2 && is_text(nth(words, 0), one) && is_text(nth(words, 1), other)
 }
 
-fn header_read(alloc: Global, words: &[&[u8]]) -> Taken
+fn header_read(alloc: Global, words: &[&[u8]]) -> Result<Reading, Reason>
     ensures { result ≡ header_read (map (λ word. word.now) words.now) }
 {
     if are_two(words, b"scatter", b"1") {
@@ -74,36 +75,24 @@ fn header_read(alloc: Global, words: &[&[u8]]) -> Taken
 }
 
 // What a line of a kind says, which may stand here or not.
-fn said(
-    alloc: Global,
-    in_place: bool,
-    kind: Kind,
-    words: &[&[u8]],
-) -> Result<Stated, sc_base::OutOfMemory>
-    ensures { IfOk result (λ sentence. sentence ≡
-        said in_place kind (map (λ word. word.now) words.now)) }
+fn said(alloc: Global, in_place: bool, kind: Kind, words: &[&[u8]]) -> Result<Statement, LineFault>
+    ensures { IsSaid (said in_place kind (map (λ word. word.now) words.now)) result }
 {
     if !in_place {
-        return Ok(Err(Reason::OutOfPlace));
+        return Err(LineFault::Bad(Reason::OutOfPlace));
     }
     if !has_count(kind, words.len()) {
-        return Ok(Err(Reason::WrongCount));
+        return Err(LineFault::Bad(Reason::WrongCount));
     }
     statement_in(alloc, kind, words)
 }
 
-fn read_outside(alloc: Global, draft: Draft, words: &[&[u8]]) -> Result<Taken, sc_base::OutOfMemory>
-    ensures { IfOk result
-        (λ taken. taken ≡ words_read (Outside draft) (map (λ word. word.now) words.now)) }
+fn read_outside(alloc: Global, draft: Draft, words: &[&[u8]]) -> Result<Reading, LineFault>
+    ensures { IsSaid (words_read (Outside draft) (map (λ word. word.now) words.now)) result }
 {
-    let Some(kind) = kind_of(draft.version, words) else {
-        return Ok(Err(Reason::UnknownWord));
-    };
-    let in_place = may_stand(&draft, kind);
-    match said(alloc, in_place, kind, words)? {
-        Ok(statement) => taken_outside(alloc, draft, statement),
-        Err(reason) => Ok(Err(reason)),
-    }
+    let kind = kind_of(draft.version, words).ok_or(Reason::UnknownWord)?;
+    let statement = said(alloc, may_stand(&draft, kind), kind, words)?;
+    taken_outside(alloc, draft, statement)
 }
 
 fn read_within(
@@ -111,29 +100,19 @@ fn read_within(
     draft: Draft,
     asks: Asks,
     words: &[&[u8]],
-) -> Result<Taken, sc_base::OutOfMemory>
-    ensures { IfOk result
-        (λ taken. taken ≡ words_read (Within draft asks) (map (λ word. word.now) words.now)) }
+) -> Result<Reading, LineFault>
+    ensures { IsSaid (words_read (Within draft asks) (map (λ word. word.now) words.now)) result }
 {
-    let Some(kind) = kind_of(draft.version, words) else {
-        return Ok(Err(Reason::UnknownWord));
-    };
-    match said(alloc, is_inner(kind), kind, words)? {
-        Ok(statement) => taken_within(draft, asks, statement),
-        Err(reason) => Ok(Err(reason)),
-    }
+    let kind = kind_of(draft.version, words).ok_or(Reason::UnknownWord)?;
+    let statement = said(alloc, is_inner(kind), kind, words)?;
+    taken_within(draft, asks, statement)
 }
 
-fn words_read(
-    alloc: Global,
-    reading: Reading,
-    words: &[&[u8]],
-) -> Result<Taken, sc_base::OutOfMemory>
-    ensures { IfOk result
-        (λ taken. taken ≡ words_read reading (map (λ word. word.now) words.now)) }
+fn words_read(alloc: Global, reading: Reading, words: &[&[u8]]) -> Result<Reading, LineFault>
+    ensures { IsSaid (words_read reading (map (λ word. word.now) words.now)) result }
 {
     match reading {
-        Reading::Fresh => Ok(header_read(alloc, words)),
+        Reading::Fresh => Ok(header_read(alloc, words)?),
         Reading::Outside(draft) => read_outside(alloc, draft, words),
         Reading::Within(draft, asks) => read_within(alloc, draft, asks, words),
     }
@@ -149,16 +128,16 @@ fn is_fresh(reading: &Reading) -> bool
 }
 
 // What is read after one more line.
-fn line_read(alloc: Global, reading: Reading, line: &[u8]) -> Result<Taken, sc_base::OutOfMemory>
-    ensures { IfOk result (λ taken. taken ≡ line_read reading line.now) }
+fn line_read(alloc: Global, reading: Reading, line: &[u8]) -> Result<Reading, LineFault>
+    ensures { IsSaid (line_read reading line.now) result }
 {
     let words = words_of(alloc, line)?;
     if !is_fresh(&reading) {
         if is_skipped(line, &words) {
-            return Ok(Ok(reading));
+            return Ok(reading);
         }
         if has_bad_byte(line) {
-            return Ok(Err(Reason::BadByte));
+            return Err(LineFault::Bad(Reason::BadByte));
         }
     }
     words_read(alloc, reading, &words)
@@ -169,7 +148,7 @@ fn bad(number: u32, reason: Reason) -> Result<Scenario, ScenarioFault>
 {
     Err(ScenarioFault::Bad {
         line: number,
-        why: reason.code(),
+        why: reason,
     })
 }
 
@@ -217,9 +196,10 @@ fn lines_read(alloc: Global, is_long: bool, text: &[u8]) -> Result<Scenario, Sce
         let Some((line, behind)) = next_line(is_long, rest) else {
             return bad(number, Reason::TooLarge);
         };
-        match line_read(alloc, reading, trimmed(line))? {
+        match line_read(alloc, reading, trimmed(line)) {
             Ok(more) => reading = more,
-            Err(reason) => return bad(number, reason),
+            Err(LineFault::Bad(reason)) => return bad(number, reason),
+            Err(LineFault::OutOfMemory) => return Err(ScenarioFault::OutOfMemory),
         }
         rest = behind;
         number += 1;

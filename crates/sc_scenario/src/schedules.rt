@@ -15,9 +15,6 @@ const MOST_WORKERS: u32 = 16;
 
 const LAST_STORM: u64 = 18_446_744_073_709_551_615;
 
-/// A line, or the reason why there is none.
-pub type LineSaid = Result<SchedLine, Reason>;
-
 // The number of an actor.
 fn actor_in(word: &[u8]) -> Option<u32>
     ensures { result ≡ actor_in word.now }
@@ -29,103 +26,77 @@ fn actor_in(word: &[u8]) -> Option<u32>
     }
 }
 
-fn go_in(words: &[&[u8]]) -> LineSaid
+fn go_in(words: &[&[u8]]) -> Result<SchedLine, Reason>
     ensures { result ≡ line_in Go (map (λ word. word.now) words.now) }
 {
-    match count_in(nth(words, 1), MOST_CLIENTS) {
-        Some(client) => Ok(SchedLine::Go {
-            client: client as u16,
-        }),
-        None => Err(Reason::BadNumber),
-    }
+    let client = count_in(nth(words, 1), MOST_CLIENTS).ok_or(Reason::BadNumber)?;
+    Ok(SchedLine::Go {
+        client: client as u16,
+    })
 }
 
-fn deliver_in(words: &[&[u8]]) -> LineSaid
+fn deliver_in(words: &[&[u8]]) -> Result<SchedLine, Reason>
     ensures { result ≡ line_in Deliver (map (λ word. word.now) words.now) }
 {
-    let Some(who) = actor_in(nth(words, 1)) else {
-        return Err(Reason::BadNumber);
-    };
-    match count_in(nth(words, 2), MOST_MAILS) {
-        Some(k) => Ok(SchedLine::Deliver { who, k }),
-        None => Err(Reason::BadNumber),
-    }
+    let who = actor_in(nth(words, 1)).ok_or(Reason::BadNumber)?;
+    let k = count_in(nth(words, 2), MOST_MAILS).ok_or(Reason::BadNumber)?;
+    Ok(SchedLine::Deliver { who, k })
 }
 
-fn drop_in(words: &[&[u8]]) -> LineSaid
+fn drop_in(words: &[&[u8]]) -> Result<SchedLine, Reason>
     ensures { result ≡ line_in Drop (map (λ word. word.now) words.now) }
 {
-    let Some(who) = actor_in(nth(words, 1)) else {
-        return Err(Reason::BadNumber);
-    };
-    match count_in(nth(words, 2), MOST_MAILS) {
-        Some(k) => Ok(SchedLine::Drop { who, k }),
-        None => Err(Reason::BadNumber),
-    }
+    let who = actor_in(nth(words, 1)).ok_or(Reason::BadNumber)?;
+    let k = count_in(nth(words, 2), MOST_MAILS).ok_or(Reason::BadNumber)?;
+    Ok(SchedLine::Drop { who, k })
 }
 
-fn again_in(words: &[&[u8]]) -> LineSaid
+fn again_in(words: &[&[u8]]) -> Result<SchedLine, Reason>
     ensures { result ≡ line_in Again (map (λ word. word.now) words.now) }
 {
-    match count_in(nth(words, 1), MOST_MAILS) {
-        Some(mail) => Ok(SchedLine::Again { mail }),
-        None => Err(Reason::BadNumber),
-    }
+    let mail = count_in(nth(words, 1), MOST_MAILS).ok_or(Reason::BadNumber)?;
+    Ok(SchedLine::Again { mail })
 }
 
-fn tick_in(words: &[&[u8]]) -> LineSaid
+fn tick_in(words: &[&[u8]]) -> Result<SchedLine, Reason>
     ensures { result ≡ line_in Tick (map (λ word. word.now) words.now) }
 {
-    match actor_in(nth(words, 1)) {
-        Some(who) => Ok(SchedLine::Tick { who }),
-        None => Err(Reason::BadNumber),
-    }
+    let who = actor_in(nth(words, 1)).ok_or(Reason::BadNumber)?;
+    Ok(SchedLine::Tick { who })
 }
 
-fn crash_in(words: &[&[u8]]) -> LineSaid
+fn crash_in(words: &[&[u8]]) -> Result<SchedLine, Reason>
     ensures { result ≡ line_in Crash (map (λ word. word.now) words.now) }
 {
-    match count_in(nth(words, 1), MOST_NODES) {
-        Some(node) => Ok(SchedLine::Crash { node: node as u16 }),
-        None => Err(Reason::BadNumber),
-    }
+    let node = count_in(nth(words, 1), MOST_NODES).ok_or(Reason::BadNumber)?;
+    Ok(SchedLine::Crash { node: node as u16 })
 }
 
-fn settle_in(words: &[&[u8]]) -> LineSaid
+fn settle_in(words: &[&[u8]]) -> Result<SchedLine, Reason>
     ensures { result ≡ line_in Settle (map (λ word. word.now) words.now) }
 {
-    match count_in(nth(words, 1), MOST_DELIVERIES) {
-        Some(most) => Ok(SchedLine::Settle { most }),
-        None => Err(Reason::BadNumber),
-    }
+    let most = count_in(nth(words, 1), MOST_DELIVERIES).ok_or(Reason::BadNumber)?;
+    Ok(SchedLine::Settle { most })
 }
 
-fn free_in(words: &[&[u8]]) -> LineSaid
+fn free_in(words: &[&[u8]]) -> Result<SchedLine, Reason>
     ensures { result ≡ line_in Free (map (λ word. word.now) words.now) }
 {
-    let Some(most) = count_in(nth(words, 1), MOST_DELIVERIES) else {
-        return Err(Reason::BadNumber);
-    };
-    match count_in(nth(words, 2), MOST_WORKERS) {
-        Some(workers) => Ok(SchedLine::Free { most, workers }),
-        None => Err(Reason::BadNumber),
-    }
+    let most = count_in(nth(words, 1), MOST_DELIVERIES).ok_or(Reason::BadNumber)?;
+    let workers = count_in(nth(words, 2), MOST_WORKERS).ok_or(Reason::BadNumber)?;
+    Ok(SchedLine::Free { most, workers })
 }
 
-fn storm_in(words: &[&[u8]]) -> LineSaid
+fn storm_in(words: &[&[u8]]) -> Result<SchedLine, Reason>
     ensures { result ≡ line_in Storm (map (λ word. word.now) words.now) }
 {
-    let Some(number) = read_number(nth(words, 1), LAST_STORM) else {
-        return Err(Reason::BadNumber);
-    };
-    match count_in(nth(words, 2), MOST_DELIVERIES) {
-        Some(most) => Ok(SchedLine::Storm { number, most }),
-        None => Err(Reason::BadNumber),
-    }
+    let number = read_number(nth(words, 1), LAST_STORM).ok_or(Reason::BadNumber)?;
+    let most = count_in(nth(words, 2), MOST_DELIVERIES).ok_or(Reason::BadNumber)?;
+    Ok(SchedLine::Storm { number, most })
 }
 
 /// The line of this kind that the words spell, if each is a number or an actor of its range.
-pub fn line_in(kind: LineKind, words: &[&[u8]]) -> LineSaid
+pub fn line_in(kind: LineKind, words: &[&[u8]]) -> Result<SchedLine, Reason>
     ensures { result ≡ line_in kind (map (λ word. word.now) words.now) }
 {
     match kind {

@@ -1,6 +1,7 @@
 //! What a line says, taken to what was read so far.
 ghost use Rattle.std.specs.Prelude.{◌≡◌, ◌≤◌, ◌+◌, ◌==◌, true, length, IfOk};
 ghost use Rattle.std.specs.List.{list_any};
+ghost use Rattle.sc_lines.specs.Reasons.{IsSaid};
 ghost use Rattle.sc_base.specs.Limits.{client_actor};
 ghost use Rattle.sc_scenario.specs.Schedules.{is_client};
 ghost use Rattle.sc_scenario.specs.Taking.{is_actor, is_order_known, is_line_known, is_above, with_group_line, has_stranger, group_taken, client_place, with_client, with_op, client_taken, request_taken, with_sched_line, telling_of, with_order, line_taken, telling_taken, taken_outside, taken_within};
@@ -11,16 +12,13 @@ use crate::scenarios::{Asks, SchedLine};
 use crate::statements::Statement;
 use sc_base::{MOST_NODES, MOST_REQUESTS, Op, OutOfMemory, Sequence};
 use sc_cmd::{Order, OrderLine};
-use sc_lines::Reason;
+use sc_lines::{LineFault, Reason};
 use sc_member::Members;
 use std::alloc::Global;
 
 const MOST_GROUPS: usize = 16;
 
 const MOST_MEMBERS: usize = 9;
-
-/// What was read with one more line, or the reason why the line is bad.
-pub type Taken = Result<Reading, Reason>;
 
 fn is_client(clients: &[Asks], client: u16) -> bool
     ensures { result ≡ is_client clients.now client }
@@ -88,23 +86,23 @@ fn has_stranger(most: u16, nodes: &[u16]) -> bool
     nodes.iter().any(|node| most < *node)
 }
 
-fn group_taken(draft: Draft, lo: u32, first: u16, others: &[u16]) -> Result<Taken, OutOfMemory>
-    ensures { IfOk result (λ taken. taken ≡ group_taken draft lo first others.now) }
+fn group_taken(draft: Draft, lo: u32, first: u16, others: &[u16]) -> Result<Reading, LineFault>
+    ensures { IsSaid (group_taken draft lo first others.now) result }
 {
     if draft.nodes < first || has_stranger(draft.nodes, others) {
-        return Ok(Err(Reason::UnknownName));
+        return Err(LineFault::Bad(Reason::UnknownName));
     }
     if have_repeat(first, others) {
-        return Ok(Err(Reason::Repeated));
+        return Err(LineFault::Bad(Reason::Repeated));
     }
     if !is_above(draft.groups.as_slice(), lo) {
-        return Ok(Err(Reason::BadBoundary));
+        return Err(LineFault::Bad(Reason::BadBoundary));
     }
     if MOST_GROUPS <= draft.groups.len() || MOST_MEMBERS <= others.len() {
-        return Ok(Err(Reason::TooMany));
+        return Err(LineFault::Bad(Reason::TooMany));
     }
     let more = with_group_line(draft, lo, set_of(first, others))?;
-    Ok(Ok(Reading::Outside(more)))
+    Ok(Reading::Outside(more))
 }
 
 // The place of a client among others: before the first of a greater number.
@@ -147,7 +145,7 @@ fn with_client(draft: Draft, asks: Asks) -> Result<Draft, OutOfMemory>
     })
 }
 
-fn client_taken(alloc: Global, draft: Draft, client: u16) -> Taken
+fn client_taken(alloc: Global, draft: Draft, client: u16) -> Result<Reading, Reason>
     ensures { result ≡ client_taken draft client }
 {
     if is_client(draft.clients.as_slice(), client) {
@@ -160,15 +158,15 @@ fn client_taken(alloc: Global, draft: Draft, client: u16) -> Taken
     Ok(Reading::Within(draft, asks))
 }
 
-fn request_taken(draft: Draft, asks: Asks, op: Op) -> Result<Taken, OutOfMemory>
-    ensures { IfOk result (λ taken. taken ≡ request_taken draft asks op) }
+fn request_taken(draft: Draft, asks: Asks, op: Op) -> Result<Reading, LineFault>
+    ensures { IsSaid (request_taken draft asks op) result }
 {
     if MOST_REQUESTS <= asks.ops.len() {
-        return Ok(Err(Reason::TooMany));
+        return Err(LineFault::Bad(Reason::TooMany));
     }
     let Asks { client, mut ops } = asks;
     ops.push(op)?;
-    Ok(Ok(Reading::Within(draft, Asks { client, ops })))
+    Ok(Reading::Within(draft, Asks { client, ops }))
 }
 
 fn with_sched_line(draft: Draft, line: SchedLine) -> Result<Draft, OutOfMemory>
@@ -190,30 +188,28 @@ fn with_order(draft: Draft, line: SchedLine, number: u32) -> Result<Draft, OutOf
     Ok(more)
 }
 
-fn line_taken(draft: Draft, line: SchedLine) -> Result<Taken, OutOfMemory>
-    ensures { IfOk result (λ taken. taken ≡ line_taken draft line) }
+fn line_taken(draft: Draft, line: SchedLine) -> Result<Reading, LineFault>
+    ensures { IsSaid (line_taken draft line) result }
 {
     if !is_line_known(draft.nodes, draft.clients.as_slice(), &line) {
-        return Ok(Err(Reason::UnknownName));
+        return Err(LineFault::Bad(Reason::UnknownName));
     }
     let more = with_sched_line(draft, line)?;
-    Ok(Ok(Reading::Outside(more)))
+    Ok(Reading::Outside(more))
 }
 
 // More orders than there are numbers have no room in memory.
-fn telling_taken(draft: Draft, node: u16, order: Order) -> Result<Taken, OutOfMemory>
-    ensures { IfOk result (λ taken. taken ≡ telling_taken draft (telling_of draft node order)) }
+fn telling_taken(draft: Draft, node: u16, order: Order) -> Result<Reading, LineFault>
+    ensures { IsSaid (telling_taken draft (telling_of draft node order)) result }
 {
-    let Some(number) = draft.orders.checked_add(1) else {
-        return Err(OutOfMemory);
-    };
+    let number = draft.orders.checked_add(1).ok_or(OutOfMemory)?;
     let line = OrderLine { number, order };
     let told = SchedLine::Told { node, line };
     if !is_line_known(draft.nodes, draft.clients.as_slice(), &told) {
-        return Ok(Err(Reason::UnknownName));
+        return Err(LineFault::Bad(Reason::UnknownName));
     }
     let more = with_order(draft, told, number)?;
-    Ok(Ok(Reading::Outside(more)))
+    Ok(Reading::Outside(more))
 }
 
 fn with_nodes(draft: Draft, nodes: u16) -> Draft
@@ -237,31 +233,33 @@ pub fn taken_outside(
     alloc: Global,
     draft: Draft,
     statement: Statement,
-) -> Result<Taken, OutOfMemory>
-    ensures { IfOk result (λ taken. taken ≡ taken_outside draft statement) }
+) -> Result<Reading, LineFault>
+    ensures { IsSaid (taken_outside draft statement) result }
 {
     match statement {
-        Statement::NodeCount(nodes) => Ok(Ok(Reading::Outside(with_nodes(draft, nodes)))),
+        Statement::NodeCount(nodes) => Ok(Reading::Outside(with_nodes(draft, nodes))),
         Statement::NewGroup(lo, first, others) => {
             group_taken(draft, lo, first, others.as_slice())
         }
-        Statement::WithPolicy => Ok(Ok(Reading::Outside(with_policy(draft)))),
-        Statement::NewClient(client) => Ok(client_taken(alloc, draft, client)),
-        Statement::Ask(_) | Statement::SectionEnd => Ok(Err(Reason::OutOfPlace)),
+        Statement::WithPolicy => Ok(Reading::Outside(with_policy(draft))),
+        Statement::NewClient(client) => Ok(client_taken(alloc, draft, client)?),
+        Statement::Ask(_) | Statement::SectionEnd => Err(LineFault::Bad(Reason::OutOfPlace)),
         Statement::Play(line) => line_taken(draft, line),
         Statement::Tell(node, order) => telling_taken(draft, node, order),
     }
 }
 
 /// What was read, with a statement inside a client's section.
-pub fn taken_within(draft: Draft, asks: Asks, statement: Statement) -> Result<Taken, OutOfMemory>
-    ensures { IfOk result (λ taken. taken ≡ taken_within draft asks statement) }
+pub fn taken_within(draft: Draft, asks: Asks, statement: Statement) -> Result<Reading, LineFault>
+    ensures { IsSaid (taken_within draft asks statement) result }
 {
     match statement {
         Statement::Ask(op) => request_taken(draft, asks, op),
-        Statement::SectionEnd => Ok(Ok(Reading::Outside(with_client(draft, asks)?))),
-        Statement::NodeCount(_) | Statement::NewGroup(_, _, _) => Ok(Err(Reason::OutOfPlace)),
-        Statement::WithPolicy | Statement::NewClient(_) => Ok(Err(Reason::OutOfPlace)),
-        Statement::Play(_) | Statement::Tell(_, _) => Ok(Err(Reason::OutOfPlace)),
+        Statement::SectionEnd => Ok(Reading::Outside(with_client(draft, asks)?)),
+        Statement::NodeCount(_) | Statement::NewGroup(_, _, _) => Err(LineFault::Bad(
+            Reason::OutOfPlace,
+        )),
+        Statement::WithPolicy | Statement::NewClient(_) => Err(LineFault::Bad(Reason::OutOfPlace)),
+        Statement::Play(_) | Statement::Tell(_, _) => Err(LineFault::Bad(Reason::OutOfPlace)),
     }
 }

@@ -1,10 +1,9 @@
 //! The plan of a merge.
 ghost use Rattle.std.specs.Prelude.{◌≡◌, ◌<◌, ◌^◌, IfOk, true};
-ghost use Rattle.sc_base.specs.Arc.{joined};
 ghost use Rattle.sc_member.specs.Union.{united};
-ghost use Rattle.sc_machine_table.specs.Plans.{can_join, can_merge, merged_succ, merged_core};
+ghost use Rattle.sc_machine_table.specs.Plans.{can_merge, merged_succ, merged_core};
 
-use sc_base::{Dup, OutOfMemory, RingArc};
+use sc_base::{Dup, OutOfMemory};
 use sc_cmd::{Core, Frozen, Link, same_draw};
 use sc_member::Members;
 use std::alloc::Global;
@@ -14,7 +13,7 @@ use std::alloc::Global;
 pub fn can_merge(core: &Core, frozen: &Frozen) -> bool
     ensures { result ≡ can_merge core.now frozen.now }
 {
-    can_join(&core.arc, &frozen.arc) && core.members.count_with(&frozen.members) <= 9
+    core.arc.join(&frozen.arc).is_ok() && core.members.count_with(&frozen.members) <= 9
 }
 
 /// The group after it took over its successor: it has both arcs as one and the members of both, and
@@ -24,7 +23,9 @@ pub fn plan_merge(alloc: Global, core: &Core, frozen: &Frozen) -> Result<Core, O
     requires { can_merge core.now frozen.now ≡ true }
     ensures { IfOk result (λ after. after ≡ merged_core core.now frozen.now) }
 {
-    let arc = whole_of(&core.arc, &frozen.arc);
+    let Ok(arc) = core.arc.join(&frozen.arc) else {
+        unreachable!();
+    };
     let members = core.members.union(&frozen.members);
     let succ = succ_of(core, frozen, members);
     let mut after = core.dup(alloc)?;
@@ -32,22 +33,6 @@ pub fn plan_merge(alloc: Global, core: &Core, frozen: &Frozen) -> Result<Core, O
     after.members = members;
     after.succ = succ;
     Ok(after)
-}
-
-fn can_join(arc: &RingArc, next: &RingArc) -> bool
-    ensures { result ≡ can_join arc.now next.now }
-{
-    next.lo() == arc.end() && arc.len() + next.len() <= 1 << 32
-}
-
-fn whole_of(arc: &RingArc, next: &RingArc) -> RingArc
-    requires { can_join arc.now next.now ≡ true }
-    ensures { result ≡ joined arc.now next.now }
-{
-    match arc.join(next) {
-        Ok(whole) => whole,
-        Err(_) => unreachable!(),
-    }
 }
 
 /// Who stands after both: the successor's successor, or the group itself with all members.

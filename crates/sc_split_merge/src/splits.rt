@@ -1,6 +1,5 @@
 //! The plan of a split.
 ghost use Rattle.std.specs.Prelude.{◌≡◌, ◌↔◌, IsTrue, ◌≤◌, ◌<◌, IfOk, All, length, [], ◌∷◌, ◌++◌, None, if◌then◌else◌};
-ghost use Rattle.sc_base.specs.Arc.{CanCut, before, from};
 ghost use Rattle.sc_cmd.specs.declared.cores.Lock.TheVariants.{Free};
 ghost use Rattle.sc_member.specs.Roster.{IsRoster, least_of};
 ghost use Rattle.sc_machine_table.specs.Orders.{is_alone};
@@ -36,7 +35,9 @@ pub fn plan_split(
     ensures { IfOk result
         (λ parts. parts ≡ (left_core core.now at child, right_core core.now at child)) }
 {
-    let (before, from) = cut(&core.arc, at);
+    let Ok((before, from)) = core.arc.cut(at) else {
+        unreachable!();
+    };
     let (staying, leaving) = halves(&core.members);
     let to_left = Link {
         group: core.id,
@@ -49,16 +50,6 @@ pub fn plan_split(
     let left = left_part(alloc, core, before, &to_left, &to_right)?;
     let right = right_part(alloc, core, from, &to_left, &to_right);
     Ok((left, right))
-}
-
-fn cut(arc: &RingArc, at: u32) -> (RingArc, RingArc)
-    requires { CanCut arc.now at }
-    ensures { result ≡ (before arc.now at, from arc.now at) }
-{
-    match arc.cut(at) {
-        Ok(parts) => parts,
-        Err(_) => unreachable!(),
-    }
 }
 
 /// The first `n - n/2` of `n` members, and the others.

@@ -99,7 +99,7 @@ fn fault_of(alloc: Global, text: &[u8]) -> (u32, u8) {
             forget(scenario);
             (0, 0)
         }
-        Err(ScenarioFault::Bad { line, why }) => (line, why),
+        Err(ScenarioFault::Bad { line, why }) => (line, why.code()),
         Err(ScenarioFault::OutOfMemory) => (0, 255),
     }
 }

@@ -18,6 +18,7 @@ use Rattle.sc_scenario.specs.declared.scenarios.Scenario.{Scenario}
 use Rattle.sc_wants.specs.Faults.{of_scenario, HasFault, IsBadText}
 use Rattle.sc_wants.specs.declared.faults.InputFault.{InputFault}
 use Rattle.sc_wants.specs.Inputs.{AreAll, ReadsFile, ReadsScenario, ReadsText, Stores}
+use Rattle.sc_lines.specs.declared.reasons.Reason.{Reason}
 
 -- what was read of a source comes out as the whole
 read_whole : FirstBytesDecide → (left : Option (List ℕ)) (bytes : List ℕ) (verdict : Result Scenario ScenarioFault) → IfSome left (λ input. bytes ≡ take (most_bytes + 1) input) → verdict_of bytes ≡ verdict → IfSome left (λ input. verdict_of input ≡ verdict)
@@ -52,7 +53,7 @@ bad_text decide source bytes (Bad line why) taken (inl short) = absurd (let same
 bad_text decide source bytes (Bad line why) taken (inr is) = read_whole decide source.left bytes (Err (Bad line why)) taken is
 bad_text decide source bytes OutOfMemory taken is = tt
 
-bad_whole : FirstBytesDecideFaults → (left : Option (List ℕ)) (bytes : List ℕ) (line why : ℕ) → IfSome left (λ input. bytes ≡ take (most_file_bytes + 1) input) → IsBadFile bytes line why → IfSome left (λ input. IsBadFile input line why)
+bad_whole : FirstBytesDecideFaults → (left : Option (List ℕ)) (bytes : List ℕ) (line : ℕ) (why : Reason) → IfSome left (λ input. bytes ≡ take (most_file_bytes + 1) input) → IsBadFile bytes line why → IfSome left (λ input. IsBadFile input line why)
 bad_whole decide None bytes line why taken bad = tt
 bad_whole decide (Some input) bytes line why taken bad = (decide input line why).0 (subst (λ file. IsBadFile file line why) taken bad)
 
