@@ -1,5 +1,6 @@
 mod Lists
 mod Made
+pub mod Spaced
 pub mod BetweenWhole
 pub mod BetweenClients
 pub mod BetweenTurns

@@ -4,11 +4,15 @@ use Rattle.std.specs.Prelude.{false, length}
 use Rattle.sc_cmd.specs.declared.cores.Base.{Base}
 use Rattle.sc_actor.specs.Mail.{mails}
 use Rattle.sc_actor.specs.Replay.{value}
+use Rattle.sc_cmd.specs.declared.orders.OrderLine.{OrderLine}
 use Rattle.sc_scenario.specs.declared.scenarios.Asks.{Asks}
-use Rattle.sc_scenario.specs.declared.scenarios.SchedLine.TheVariants.{Settle}
+use Rattle.sc_scenario.specs.declared.scenarios.Scenario.{Scenario}
+use Rattle.sc_scenario.specs.declared.scenarios.SchedLine.TheVariants.{Go, Told, Settle}
 use Rattle.sc_sound.specs.Requests.{kept_replies}
 use Rattle.sc_sound.specs.Example.{alone, put_it, get_it, example_rows, put_get_scenario}
-use Rattle.sc_sound.specs.Players.{player_table, node_seat, client_seat, as_nodes, route_of}
+use Rattle.sc_sound.specs.Players.{player_table, node_seat, client_seat, as_nodes, route_of, schedule}
+use Rattle.sc_orderly_law.specs.Timely.{AreSpaced, Nothing}
+use Rattle.sc_budget_law.specs.Calm.{calm_budget_of}
 use Rattle.sc_budget_law.specs.Budget.{requests_of, budget_of, IsAtBudget, IsServed, AreAnswered}
 use Rattle.sc_budget_law.specs.Owed.{mail_owes, player_owes}
 use Rattle.sc_budget_law.specs.PlainClient.{begun_of}
@@ -23,6 +27,18 @@ budget = refl
 -- its line of 100 deliveries has room for them
 at_budget : IsAtBudget put_get_scenario
 at_budget = (tt, (lit≤ tt, tt))
+
+-- with an order before them, three times 48 and 512
+ordered : OrderLine → Scenario
+ordered order = record put_get_scenario { lines = Told 1 order ∷ Settle 656 ∷ Go 1 ∷ Settle 656 ∷ [] }
+
+calm_budget : (order : OrderLine) → calm_budget_of (ordered order) ≡ 656
+unfolding ordered
+calm_budget order = refl
+
+spaced : (order : OrderLine) → AreSpaced Nothing (schedule (ordered order))
+unfolding ordered
+spaced order = (tt, (tt, tt))
 
 -- the client
 asks : Asks

@@ -2,6 +2,7 @@ pub mod Between
 pub mod BetweenJournal
 pub mod BetweenRows
 pub mod Budget
+pub mod Calm
 pub mod Frames
 pub mod Laws
 pub mod Owed

@@ -5,6 +5,7 @@
 //! is so many deliveries in each line: for each request 32, and 4 for each group.
 #![tactic(auto)]
 
+ghost use Rattle.sc_budget_law.specs.Calm.{CalmLinesAreSpaced};
 ghost use Rattle.sc_budget_law.specs.Laws.{MadeScenariosAreAtBudget, PlainJournalsAreLight, PlainLinesEndQuiet, PlainRequestsAreAnswered};
 
 use sc_scenario::valid_scenarios_are_bounded;
@@ -38,4 +39,10 @@ pub fn plain_journals_are_light()
 /// Every made scenario of up to 1,000 requests a client is plain and at its budget.
 pub fn made_scenarios_are_at_budget()
     ensures { MadeScenariosAreAtBudget }
+{}
+
+/// A calm scenario at its budget has its orders alone between lines of deliveries, and each of
+/// these has room for the budget: what is owed in a quiet journal, and what one order raises.
+pub fn calm_lines_are_spaced()
+    ensures { CalmLinesAreSpaced }
 {}

@@ -16,9 +16,11 @@ use Rattle.sc_actor.specs.System.{System, row_of, is_go, has_gone, are_apart}
 use Rattle.sc_actor.specs.Walk.{IsLawful}
 use Rattle.sc_actor.proofs.PendingLemmas.{waiting_one}
 use Rattle.sc_actor.proofs.ReplayLemmas.{mails-snoc}
-use Rattle.sc_orderly_law.specs.Orderly.{IsPlainLine, IsInOrder, mail_with, is_born, deliveries, goes}
+use Rattle.sc_orderly_law.specs.Orderly.{IsPlainLine, IsInOrder, IsCalmEvent, IsCalmRow, mail_with, is_born, is_told, deliveries, goes, orders}
+use Rattle.sc_orderly_law.specs.Timely.{AreInTime}
 use Rattle.sc_orderly_law.specs.Owing.{Owing, SendsToActors, under_way, owed}
-use Rattle.sc_orderly_law.proofs.Ordering.{orderly, by_rows}
+use Rattle.sc_orderly_law.proofs.Ordering.{orderly_is_calm, orderly, by_rows}
+use Rattle.sc_orderly_law.proofs.InTime.{by_time, last_in_time}
 use Rattle.sc_orderly_law.proofs.Rests.{count_owes}
 use Rattle.sc_orderly_law.proofs.Resting.{after-row, is_born-from}
 use Rattle.sc_orderly_law.proofs.Seats.{one_changes}
@@ -115,7 +117,7 @@ module _ {A M O : Type 0} (s : System A M O) where
         ap (λ b. cond b 1 0) (gone_row rows row seat.who (is_go event) (ap (λ b. b && is_go event) (eq-eqb seat.who seat.who refl))) in
         one_changes f g seat.who stays s.births seat apart born ∙ ap (λ n. sum_by f s.births + n) here
 
-    goes-row : (rows : List (Row M O)) (seat : Seat A) (event : Event O) → find (λ other. eqb other.who seat.who) s.births ≡ Some seat → IsInOrder s rows seat.who event →
+    goes-row : (rows : List (Row M O)) (seat : Seat A) (event : Event O) → find (λ other. eqb other.who seat.who) s.births ≡ Some seat → IsCalmEvent s rows seat.who event →
         goes rows ≤ count_by (λ other. has_gone rows other.who) s.births → goes (rows ++ row_of s.table seat rows event ∷ []) ≤ count_by (λ other. has_gone (rows ++ row_of s.table seat rows event ∷ []) other.who) s.births
     goes-row rows seat (Deliver number) born fine le =
         let gone = gone-row rows seat (Deliver number) born in
@@ -129,21 +131,58 @@ module _ {A M O : Type 0} (s : System A M O) where
         let count = count_push (λ (r : Row M O). is_go r.event) rows (row_of s.table seat rows Go) true refl in
         omega (arith, gone, before, after, count, le)
     goes-row rows seat Tick born fine le = absurd fine
-    goes-row rows seat (Told order) born fine le = absurd fine
+    goes-row rows seat (Told order) born fine le =
+        let gone = gone-row rows seat (Told order) born in
+        let same = ap one_if (or-false (has_gone rows seat.who)) in
+        let count = count_push (λ (r : Row M O). is_go r.event) rows (row_of s.table seat rows (Told order)) false refl in
+        omega (arith, gone, same, count, le)
     goes-row rows seat Crash born fine le = absurd fine
     goes-row rows seat (Drop mail) born fine le = absurd fine
     goes-row rows seat (Again mail) born fine le = absurd fine
 
+    few_of : (journal : List (Row M O)) → goes journal ≤ count_by (λ other. has_gone journal other.who) s.births → goes journal ≤ length s.births
+    few_of journal le = let all = count_by-le-length (λ (other : Seat A). has_gone journal other.who) s.births in omega (arith, le, all)
+
+    row_goes : (rows : List (Row M O)) (row : Row M O) → IsCalmRow s rows row → goes rows ≤ count_by (λ other. has_gone rows other.who) s.births → goes (rows ++ row ∷ []) ≤ count_by (λ other. has_gone (rows ++ row ∷ []) other.who) s.births
+    row_goes rows row o now =
+        subst (λ r. goes (rows ++ r ∷ []) ≤ count_by (λ other. has_gone (rows ++ r ∷ []) other.who) s.births) (sym o.row_is) (goes-row rows o.seat o.event o.born o.calm now)
+
     -- each actor goes once at most
     pub goes_are_few : (lines : List (Line O)) (journal : List (Row M O)) → Each IsPlainLine lines → IsLawful s lines journal → goes journal ≤ length s.births
     goes_are_few lines journal plain lawful =
-        let le = by_rows s lines (λ rows. goes rows ≤ count_by (λ other. has_gone rows other.who) s.births) (omega arith)
-        (λ rows row l now.
-        let o = orderly s lines rows row plain l in
-        subst (λ r. goes (rows ++ r ∷ []) ≤ count_by (λ other. has_gone (rows ++ r ∷ []) other.who) s.births) (sym o.row_is) (goes-row rows o.seat o.event o.born o.in_order now))
-        journal lawful in
-        let all = count_by-le-length (λ (other : Seat A). has_gone journal other.who) s.births in
-        omega (arith, le, all)
+        few_of journal (by_rows s lines (λ rows. goes rows ≤ count_by (λ other. has_gone rows other.who) s.births) (omega arith)
+        (λ rows row l now. row_goes rows row (orderly_is_calm s rows row (orderly s lines rows row plain l)) now)
+        journal lawful)
+
+    -- with orders too
+    pub goes_in_time : (journal : List (Row M O)) → AreInTime s journal → goes journal ≤ length s.births
+    goes_in_time journal timely =
+        few_of journal (by_time s (λ rows. goes rows ≤ count_by (λ other. has_gone rows other.who) s.births) (omega arith)
+        (λ rows row t now. row_goes rows row (last_in_time s rows row t).0 now)
+        journal timely)
+
+  one_of_three : (rows : List (Row M O)) (who : ℕ) (event : Event O) → IsCalmEvent s rows who event → cond (is_delivery event) 1 0 + cond (is_go event) 1 0 + cond (is_told event) 1 0 ≡ 1
+  one_of_three rows who (Deliver number) fine = refl
+  one_of_three rows who Go fine = refl
+  one_of_three rows who (Told order) fine = refl
+  one_of_three rows who Tick fine = absurd fine
+  one_of_three rows who Crash fine = absurd fine
+  one_of_three rows who (Drop mail) fine = absurd fine
+  one_of_three rows who (Again mail) fine = absurd fine
+
+  -- each row delivers, tells to go or tells an order
+  pub rows_of_all : (journal : List (Row M O)) → AreInTime s journal → length journal ≡ deliveries journal + goes journal + orders journal
+  rows_of_all journal timely =
+      by_time s (λ rows. length rows ≡ deliveries rows + goes rows + orders rows) refl
+      (λ rows row t now.
+      let o = (last_in_time s rows row t).0 in
+      let one = subst (λ (r : Row M O). cond (is_delivery r.event) 1 0 + cond (is_go r.event) 1 0 + cond (is_told r.event) 1 0 ≡ 1) (sym o.row_is) (one_of_three rows o.seat.who o.event o.calm) in
+      let a = count_push (λ (r : Row M O). is_delivery r.event) rows row (is_delivery row.event) refl in
+      let b = count_push (λ (r : Row M O). is_go r.event) rows row (is_go row.event) refl in
+      let d = count_push (λ (r : Row M O). is_told r.event) rows row (is_told row.event) refl in
+      let len = length-append rows (row ∷ []) in
+      omega (arith, one, a, b, d, len, now))
+      journal timely
 
   one_of_two : (rows : List (Row M O)) (who : ℕ) (event : Event O) → IsInOrder s rows who event → cond (is_delivery event) 1 0 + cond (is_go event) 1 0 ≡ 1
   one_of_two rows who (Deliver number) fine = refl

@@ -1,4 +1,5 @@
 pub mod Counting
+pub mod InTime
 pub mod Ordering
 pub mod Passing
 pub mod Paying
@@ -6,3 +7,4 @@ pub mod Resting
 pub mod Rests
 pub mod Seats
 pub mod Settling
+pub mod Timing

@@ -1,4 +1,4 @@
--- A plain schedule allows only rows that come in order.
+-- A plain schedule allows only rows that come in order, and a calm one only calm rows.
 use Rattle.std.proofs.Common.{◌≡◌, ℕ, List, [], ◌∷◌, ◌++◌, Bool, true, false, cond, eqb, find, fold, refl, sym, ◌∙◌, ap, subst, append_assoc, append-nil, Option, None, Some}
 use Rattle.std.specs.List.{flat_map}
 use Rattle.std.proofs.lemmas.Bool.{cond_both}
@@ -7,16 +7,16 @@ use Rattle.sc_base.specs.Among.{Each}
 use Rattle.sc_base.proofs.CommonLemmas.{and_then-some, map-some}
 use Rattle.sc_actor.specs.declared.rows.Row.{Row}
 use Rattle.sc_actor.specs.declared.rows.Event.{Event}
-use Rattle.sc_actor.specs.declared.rows.Event.TheVariants.{Deliver, Go}
+use Rattle.sc_actor.specs.declared.rows.Event.TheVariants.{Deliver, Tick, Go, Told, Crash, Drop, Again}
 use Rattle.sc_actor.specs.declared.schedules.Line.{Line}
 use Rattle.sc_actor.specs.declared.schedules.Line.TheVariants.{Go as GoLine, Deliver as DeliverLine, Drop as DropLine, Again as AgainLine, Tick as TickLine, Crash as CrashLine, Told as ToldLine, Settle, Free, Storm}
-use Rattle.sc_actor.specs.Mail.{mails, numbered}
+use Rattle.sc_actor.specs.Mail.{mails, numbered, has_crashed}
 use Rattle.sc_actor.specs.System.{System, acts, row_of, waiting, kth, has_gone}
 use Rattle.sc_actor.specs.Walk.{Task, Once, Settles, Frees, Storms, WalkPlace, Allows, MayAdd, IsLawful, onward, is_over, after_row, place_after, rest_of_all, tasks_of, delivery}
 use Rattle.sc_actor.proofs.Induction.{find-who}
 use Rattle.sc_actor.proofs.PendingLemmas.{first_is}
 use Rattle.sc_actor.proofs.WalkLemmas.{lawful-prefix, lawful-last}
-use Rattle.sc_orderly_law.specs.Orderly.{IsPlainLine, IsInOrder, IsOrderly}
+use Rattle.sc_orderly_law.specs.Orderly.{IsPlainLine, IsCalmLine, IsInOrder, IsOrderly, IsCalmEvent, IsCalmRow}
 
 unless-some : {Y : Type 0} (b : Bool) (o : Option Y) (y : Y) → cond b None o ≡ Some y → (b ≡ false) × (o ≡ Some y)
 unless-some true o y e = cc
@@ -26,47 +26,71 @@ pub Each-append : {X : Type 0} (P : X → Type 0) (xs ys : List X) → Each P xs
 Each-append P [] ys e f = f
 Each-append P (x ∷ xs) ys e f = (e.0, Each-append P xs ys e.1 f)
 
+-- a plain line is a calm one
+pub plain_is_calm : {O : Type 0} (line : Line O) → IsPlainLine line → IsCalmLine line
+plain_is_calm (GoLine who) p = tt
+plain_is_calm (Settle most) p = tt
+plain_is_calm (Free most workers) p = tt
+plain_is_calm (DeliverLine who k) p = absurd p
+plain_is_calm (DropLine who k) p = absurd p
+plain_is_calm (AgainLine mail) p = absurd p
+plain_is_calm (TickLine who) p = absurd p
+plain_is_calm (CrashLine who) p = absurd p
+plain_is_calm (ToldLine who order) p = absurd p
+plain_is_calm (Storm number most) p = absurd p
+
+pub plain_are_calm : {O : Type 0} (lines : List (Line O)) → Each IsPlainLine lines → Each IsCalmLine lines
+plain_are_calm [] p = tt
+plain_are_calm (line ∷ lines) p = (plain_is_calm line p.0, plain_are_calm lines p.1)
+
 -- ---- tasks
 
-abbrev IsPlainTask : {O : Type 0} → Task O → Type 0
-IsPlainTask (Once line) = IsPlainLine line
-IsPlainTask (Settles left) = Unit {0}
-IsPlainTask (Frees left) = Unit {0}
-IsPlainTask (Storms words) = ⊥
+-- a task of a line that is of these, or of many deliveries
+abbrev IsTaskOf : {O : Type 0} → (Line O → Type 0) → Task O → Type 0
+IsTaskOf P (Once line) = P line
+IsTaskOf P (Settles left) = Unit {0}
+IsTaskOf P (Frees left) = Unit {0}
+IsTaskOf P (Storms words) = ⊥
 
-line_plain : {O : Type 0} (words : ℕ → ℕ → ℕ × ℕ) (line : Line O) → IsPlainLine line → Each IsPlainTask (tasks_of words line)
-line_plain words (GoLine who) p = (tt, tt)
-line_plain words (Settle most) p = (tt, tt)
-line_plain words (Free most workers) p = (tt, tt)
-line_plain words (DeliverLine who k) p = absurd p
-line_plain words (DropLine who k) p = absurd p
-line_plain words (AgainLine mail) p = absurd p
-line_plain words (TickLine who) p = absurd p
-line_plain words (CrashLine who) p = absurd p
-line_plain words (ToldLine who order) p = absurd p
-line_plain words (Storm number most) p = absurd p
+module _ {O : Type 0} (P : Line O → Type 0) (calm : (line : Line O) → P line → IsCalmLine line) where
+  line_tasks : (words : ℕ → ℕ → ℕ × ℕ) (line : Line O) → P line → Each (IsTaskOf P) (tasks_of words line)
+  line_tasks words (GoLine who) p = (p, tt)
+  line_tasks words (Settle most) p = (tt, tt)
+  line_tasks words (Free most workers) p = (tt, tt)
+  line_tasks words (DeliverLine who k) p = (p, tt)
+  line_tasks words (DropLine who k) p = (p, tt)
+  line_tasks words (AgainLine mail) p = (p, tt)
+  line_tasks words (TickLine who) p = (p, tt)
+  line_tasks words (CrashLine who) p = (p, tt)
+  line_tasks words (ToldLine who order) p = (p, tt)
+  line_tasks words (Storm number most) p = absurd (calm (Storm number most) p)
 
-lines_plain : {O : Type 0} (words : ℕ → ℕ → ℕ × ℕ) (lines : List (Line O)) → Each IsPlainLine lines → Each IsPlainTask (flat_map (tasks_of words) lines)
-lines_plain words [] p = tt
-lines_plain words (line ∷ lines) p = Each-append IsPlainTask (tasks_of words line) (flat_map (tasks_of words) lines) (line_plain words line p.0) (lines_plain words lines p.1)
+  lines_tasks : (words : ℕ → ℕ → ℕ × ℕ) (lines : List (Line O)) → Each P lines → Each (IsTaskOf P) (flat_map (tasks_of words) lines)
+  lines_tasks words [] p = tt
+  lines_tasks words (line ∷ lines) p = Each-append (IsTaskOf P) (tasks_of words line) (flat_map (tasks_of words) lines) (line_tasks words line p.0) (lines_tasks words lines p.1)
 
-rest_plain : {O : Type 0} (tasks : List (Task O)) → Each IsPlainTask tasks → Each IsPlainTask (rest_of_all tasks)
-rest_plain [] p = tt
-rest_plain (Once line ∷ tasks) p = p.1
-rest_plain (Settles left ∷ tasks) p = (tt, p.1)
-rest_plain (Frees left ∷ tasks) p = (tt, p.1)
-rest_plain (Storms words ∷ tasks) p = p.1
+  rest_tasks : (tasks : List (Task O)) → Each (IsTaskOf P) tasks → Each (IsTaskOf P) (rest_of_all tasks)
+  rest_tasks [] p = tt
+  rest_tasks (Once line ∷ tasks) p = p.1
+  rest_tasks (Settles left ∷ tasks) p = (tt, p.1)
+  rest_tasks (Frees left ∷ tasks) p = (tt, p.1)
+  rest_tasks (Storms words ∷ tasks) p = p.1
+
+  module _ {A M : Type 0} (s : System A M O) where
+    onward_tasks : (rows : List (Row M O)) (tasks : List (Task O)) (skipped : ℕ) (unsettled : Bool) → Each (IsTaskOf P) tasks → Each (IsTaskOf P) (onward s rows tasks skipped unsettled).tasks
+    onward_tasks rows [] skipped unsettled p = tt
+    onward_tasks rows (task ∷ tasks) skipped unsettled p =
+        cond_both (is_over s rows task) _ _ (λ (place : WalkPlace M O). Each (IsTaskOf P) place.tasks) (λ _. onward_tasks rows tasks _ _ p.1) (λ _. p)
+
+    walk_tasks : (place : WalkPlace M O) (rows : List (Row M O)) → Each (IsTaskOf P) place.tasks → Each (IsTaskOf P) (fold (after_row s) place rows).tasks
+    walk_tasks place [] p = p
+    walk_tasks place (row ∷ rows) p = walk_tasks (after_row s place row) rows (onward_tasks (place.rows ++ row ∷ []) (rest_of_all place.tasks) place.skipped place.unsettled (rest_tasks place.tasks p))
+
+    -- the tasks that are left after some rows are of such lines
+    tasks_after : (lines : List (Line O)) (rows : List (Row M O)) → Each P lines → Each (IsTaskOf P) (place_after s lines rows).tasks
+    tasks_after lines rows p = walk_tasks _ rows (onward_tasks [] (flat_map (tasks_of s.words) lines) 0 false (lines_tasks s.words lines p))
 
 module _ {A M O : Type 0} (s : System A M O) where
-  onward_plain : (rows : List (Row M O)) (tasks : List (Task O)) (skipped : ℕ) (unsettled : Bool) → Each IsPlainTask tasks → Each IsPlainTask (onward s rows tasks skipped unsettled).tasks
-  onward_plain rows [] skipped unsettled p = tt
-  onward_plain rows (task ∷ tasks) skipped unsettled p =
-      cond_both (is_over s rows task) _ _ (λ (place : WalkPlace M O). Each IsPlainTask place.tasks) (λ _. onward_plain rows tasks _ _ p.1) (λ _. p)
-
-  walk_plain : (place : WalkPlace M O) (rows : List (Row M O)) → Each IsPlainTask place.tasks → Each IsPlainTask (fold (after_row s) place rows).tasks
-  walk_plain place [] p = p
-  walk_plain place (row ∷ rows) p = walk_plain (after_row s place row) rows (onward_plain (place.rows ++ row ∷ []) (rest_of_all place.tasks) place.skipped place.unsettled (rest_plain place.tasks p))
-
   -- ---- rows
 
   module _ (rows : List (Row M O)) where
@@ -82,7 +106,7 @@ module _ {A M O : Type 0} (s : System A M O) where
           in_order = subst (λ w. IsInOrder s rows w event) (sym number) fine;
         }
 
-    allows_orderly : (task : Task O) (row : Row M O) → IsPlainTask task → Allows s rows task row → IsOrderly s rows row
+    allows_orderly : (task : Task O) (row : Row M O) → IsTaskOf IsPlainLine task → Allows s rows task row → IsOrderly s rows row
     allows_orderly (Once (GoLine who)) row p e = let q = unless-some (has_gone rows who) (acts s rows who Go) row e in acts_orderly who Go row q.0 q.1
     allows_orderly (Once (Settle most)) row p e = cc
     allows_orderly (Once (Free most workers)) row p e = cc
@@ -104,16 +128,60 @@ module _ {A M O : Type 0} (s : System A M O) where
         acts_orderly row.who (Deliver q.0) row q.1 q.2
     allows_orderly (Storms words) row p e = absurd p
 
-    may_add_orderly : (tasks : List (Task O)) (row : Row M O) → Each IsPlainTask tasks → MayAdd s rows tasks row → IsOrderly s rows row
+    may_add_orderly : (tasks : List (Task O)) (row : Row M O) → Each (IsTaskOf IsPlainLine) tasks → MayAdd s rows tasks row → IsOrderly s rows row
     may_add_orderly [] row p e = absurd e
     may_add_orderly (task ∷ tasks) row p e = allows_orderly task row p.0 e
+
+    -- ---- calm rows
+
+    -- what comes in order is calm
+    pub event_is_calm : (who : ℕ) (event : Event O) → IsInOrder s rows who event → IsCalmEvent s rows who event
+    event_is_calm who Go fine = fine
+    event_is_calm who (Deliver number) fine = fine
+    event_is_calm who Tick fine = absurd fine
+    event_is_calm who (Told order) fine = absurd fine
+    event_is_calm who Crash fine = absurd fine
+    event_is_calm who (Drop mail) fine = absurd fine
+    event_is_calm who (Again mail) fine = absurd fine
+
+    pub orderly_is_calm : (row : Row M O) → IsOrderly s rows row → IsCalmRow s rows row
+    orderly_is_calm row o = record { seat = o.seat; born = o.born; event = o.event; row_is = o.row_is; calm = event_is_calm o.seat.who o.event o.in_order }
+
+    acts_told : (who : ℕ) (order : O) (row : Row M O) → acts s rows who (Told order) ≡ Some row → IsCalmRow s rows row
+    acts_told who order row e =
+        let m = map-some (λ seat. row_of s.table seat rows (Told order)) (find (λ seat. eqb seat.who who) s.births) row e in
+        let number = find-who s.births who m.0 m.1 in
+        record { seat = m.0; born = rw number m.1; event = Told order; row_is = sym m.2; calm = tt }
+
+    pub allows_calm : (task : Task O) (row : Row M O) → IsTaskOf IsCalmLine task → Allows s rows task row → IsCalmRow s rows row
+    allows_calm (Once (GoLine who)) row p e = orderly_is_calm row (allows_orderly (Once (GoLine who)) row tt e)
+    allows_calm (Once (ToldLine who order)) row p e = acts_told who order row (unless-some (has_crashed rows who) (acts s rows who (Told order)) row e).1
+    allows_calm (Once (Settle most)) row p e = cc
+    allows_calm (Once (Free most workers)) row p e = cc
+    allows_calm (Once (DeliverLine who k)) row p e = absurd p
+    allows_calm (Once (DropLine who k)) row p e = absurd p
+    allows_calm (Once (AgainLine mail)) row p e = absurd p
+    allows_calm (Once (TickLine who)) row p e = absurd p
+    allows_calm (Once (CrashLine who)) row p e = absurd p
+    allows_calm (Once (Storm number most)) row p e = absurd p
+    allows_calm (Settles left) row p e = orderly_is_calm row (allows_orderly (Settles left) row tt e)
+    allows_calm (Frees left) row p e = orderly_is_calm row (allows_orderly (Frees left) row tt e)
+    allows_calm (Storms words) row p e = absurd p
+
+    may_add_calm : (tasks : List (Task O)) (row : Row M O) → Each (IsTaskOf IsCalmLine) tasks → MayAdd s rows tasks row → IsCalmRow s rows row
+    may_add_calm [] row p e = absurd e
+    may_add_calm (task ∷ tasks) row p e = allows_calm task row p.0 e
 
   module _ (lines : List (Line O)) where
     -- each row of a lawful journal of plain lines comes in order after those before it
     pub orderly : (rows : List (Row M O)) (row : Row M O) → Each IsPlainLine lines → IsLawful s lines (rows ++ row ∷ []) → IsOrderly s rows row
     orderly rows row plain lawful =
-        let tasks = walk_plain _ rows (onward_plain [] (flat_map (tasks_of s.words) lines) 0 false (lines_plain s.words lines plain)) in
-        may_add_orderly rows (place_after s lines rows).tasks row tasks (lawful-last s lines rows row lawful)
+        may_add_orderly rows (place_after s lines rows).tasks row (tasks_after IsPlainLine plain_is_calm s lines rows plain) (lawful-last s lines rows row lawful)
+
+    -- each row of a lawful journal of calm lines is calm after those before it
+    pub calm_row : (rows : List (Row M O)) (row : Row M O) → Each IsCalmLine lines → IsLawful s lines (rows ++ row ∷ []) → IsCalmRow s rows row
+    calm_row rows row calm lawful =
+        may_add_calm rows (place_after s lines rows).tasks row (tasks_after IsCalmLine (λ line p. p) s lines rows calm) (lawful-last s lines rows row lawful)
 
     -- what holds of the empty journal, and of each lawful journal with one row more, holds of every lawful journal
     pub by_rows : (P : List (Row M O) → Type 0) → P [] → ((rows : List (Row M O)) (row : Row M O) → IsLawful s lines (rows ++ row ∷ []) → P rows → P (rows ++ row ∷ [])) → (journal : List (Row M O)) → IsLawful s lines journal → P journal

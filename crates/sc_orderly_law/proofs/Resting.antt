@@ -1,4 +1,4 @@
--- What is left of an actor's mail after a row that comes in order.
+-- What is left of an actor's mail after a calm row.
 use Rattle.std.proofs.Common.{◌≡◌, ℕ, zero, suc, ◌+◌, ◌-◌, ◌≤◌, List, [], ◌∷◌, ◌++◌, length, Bool, true, false, true≢false, cond, eqb, ◌&&◌, ◌||◌, not, find, drop, replicate, refl, sym, ◌∙◌, ap, subst, arith, get_or, set, Option, None, Some}
 use Rattle.std.specs.Prelude.{slice_get, is_none}
 use Rattle.std.specs.List.{filter, list_any}
@@ -17,8 +17,8 @@ use Rattle.sc_actor.proofs.CountLemmas.{counted, length-counts_at}
 use Rattle.sc_actor.proofs.PendingLemmas.{first_is, wide_none}
 use Rattle.sc_actor.proofs.ReplayLemmas.{mails-snoc, copies-snoc}
 use Rattle.sc_actor.proofs.WalkLemmas.{lawful-prefix}
-use Rattle.sc_orderly_law.specs.Orderly.{IsPlainLine, IsInOrder, IsOrderly, IsTidy, mail_with, rest, mail_for, is_born, taken}
-use Rattle.sc_orderly_law.proofs.Ordering.{Each-append, orderly, by_rows}
+use Rattle.sc_orderly_law.specs.Orderly.{IsPlainLine, IsCalmLine, IsOrderly, IsCalmEvent, IsCalmRow, IsTidy, mail_with, rest, mail_for, is_born, taken}
+use Rattle.sc_orderly_law.proofs.Ordering.{Each-append, plain_are_calm, orderly_is_calm, calm_row, by_rows}
 use Rattle.sc_orderly_law.proofs.Rests.{Foremost, less_at, foremost, mail_with-append, mail_with-ones, mail_with-other, numbers-agree}
 
 -- ---- no copy is repeated, and nobody crashes
@@ -38,31 +38,31 @@ ones_once zero = tt
 ones_once (suc count) = (omega arith, ones_once count)
 
 module _ {A M O : Type 0} (s : System A M O) where
-  event_once : (rows : List (Row M O)) (who : ℕ) (counts : List ℕ) (event : Event O) → IsInOrder s rows who event → Each (λ n. n ≤ 1) counts → Each (λ n. n ≤ 1) (counts_at counts event)
+  event_once : (rows : List (Row M O)) (who : ℕ) (counts : List ℕ) (event : Event O) → IsCalmEvent s rows who event → Each (λ n. n ≤ 1) counts → Each (λ n. n ≤ 1) (counts_at counts event)
   event_once rows who counts (Deliver zero) fine all = all
   event_once rows who counts (Deliver (suc place)) fine all = let le = get_once counts place all in set_once counts place (get_or counts place 0 - 1) (omega (arith, le)) all
   event_once rows who counts Go fine all = all
   event_once rows who counts Tick fine all = absurd fine
-  event_once rows who counts (Told order) fine all = absurd fine
+  event_once rows who counts (Told order) fine all = all
   event_once rows who counts Crash fine all = absurd fine
   event_once rows who counts (Drop mail) fine all = absurd fine
   event_once rows who counts (Again mail) fine all = absurd fine
 
-  no_crash : (rows : List (Row M O)) (who : ℕ) (event : Event O) → IsInOrder s rows who event → is_crash event ≡ false
+  no_crash : (rows : List (Row M O)) (who : ℕ) (event : Event O) → IsCalmEvent s rows who event → is_crash event ≡ false
   no_crash rows who (Deliver number) fine = refl
   no_crash rows who Go fine = refl
   no_crash rows who Tick fine = absurd fine
-  no_crash rows who (Told order) fine = absurd fine
+  no_crash rows who (Told order) fine = refl
   no_crash rows who Crash fine = absurd fine
   no_crash rows who (Drop mail) fine = absurd fine
   no_crash rows who (Again mail) fine = absurd fine
 
-  -- a row that comes in order keeps the journal tidy
-  pub tidy-row : (rows : List (Row M O)) (row : Row M O) → IsTidy rows → IsOrderly s rows row → IsTidy (rows ++ row ∷ [])
+  -- a calm row keeps the journal tidy
+  pub tidy-row : (rows : List (Row M O)) (row : Row M O) → IsTidy rows → IsCalmRow s rows row → IsTidy (rows ++ row ∷ [])
   tidy-row rows row t o =
       let event : o.event ≡ row.event = sym (ap (λ (r : Row M O). r.event) o.row_is) in
-      let calm : is_crash row.event ≡ false = subst (λ (e : Event O). is_crash e ≡ false) event (no_crash rows o.seat.who o.event o.in_order) in
-      let once : Each (λ n. n ≤ 1) (counts_at (copies rows) row.event) = subst (λ (e : Event O). Each (λ n. n ≤ 1) (counts_at (copies rows) e)) event (event_once rows o.seat.who (copies rows) o.event o.in_order t.copies) in
+      let calm : is_crash row.event ≡ false = subst (λ (e : Event O). is_crash e ≡ false) event (no_crash rows o.seat.who o.event o.calm) in
+      let once : Each (λ n. n ≤ 1) (counts_at (copies rows) row.event) = subst (λ (e : Event O). Each (λ n. n ≤ 1) (counts_at (copies rows) e)) event (event_once rows o.seat.who (copies rows) o.event o.calm t.copies) in
       record {
         copies = subst (λ counts. Each (λ n. n ≤ 1) counts) (sym (copies-snoc rows row)) (Each-append (λ n. n ≤ 1) (counts_at (copies rows) row.event) (replicate (length row.sent) 1) once (ones_once (length row.sent)));
         alive = λ who.
@@ -70,10 +70,14 @@ module _ {A M O : Type 0} (s : System A M O) where
             ∙ (ap (λ b. b || ((eqb row.who who && is_crash row.event) || false)) (t.alive who) ∙ ap (λ b. b || false) (and_right (eqb row.who who) (is_crash row.event) calm));
       }
 
-  -- every lawful journal of plain lines is tidy
+  -- every lawful journal of calm lines is tidy
+  pub tidy-calm : (lines : List (Line O)) (journal : List (Row M O)) → Each IsCalmLine lines → IsLawful s lines journal → IsTidy journal
+  tidy-calm lines journal calm lawful =
+      by_rows s lines IsTidy (record { copies = tt; alive = λ who. refl }) (λ rows row l t. tidy-row rows row t (calm_row s lines rows row calm l)) journal lawful
+
+  -- so is every lawful journal of plain lines
   pub tidy : (lines : List (Line O)) (journal : List (Row M O)) → Each IsPlainLine lines → IsLawful s lines journal → IsTidy journal
-  tidy lines journal plain lawful =
-      by_rows s lines IsTidy (record { copies = tt; alive = λ who. refl }) (λ rows row l t. tidy-row rows row t (orderly s lines rows row plain l)) journal lawful
+  tidy lines journal plain lawful = tidy-calm lines journal (plain_are_calm lines plain) lawful
 
   -- ---- who may get mail
 
@@ -146,23 +150,26 @@ module _ {A M O : Type 0} (s : System A M O) where
       one_more : (place : ℕ) → 1 + place ≡ suc place
       one_more place = omega arith
 
-  left_by : (rows : List (Row M O)) (maker who : ℕ) (event : Event O) → IsTidy rows → is_born s maker ≡ true → IsInOrder s rows maker event → mail_with (λ mail. eqb (s.receiver mail) who) (mails rows) (counts_at (copies rows) event) ≡ drop (cond (eqb maker who && is_delivery event) 1 0) (rest s rows who)
+  left_by : (rows : List (Row M O)) (maker who : ℕ) (event : Event O) → IsTidy rows → is_born s maker ≡ true → IsCalmEvent s rows maker event → mail_with (λ mail. eqb (s.receiver mail) who) (mails rows) (counts_at (copies rows) event) ≡ drop (cond (eqb maker who && is_delivery event) 1 0) (rest s rows who)
   left_by rows maker who (Deliver number) t born fine = taken_by rows maker who number (first-rest rows maker number t born fine) (eqb maker who) refl
   left_by rows maker who Go t born fine = sym (ap (λ b. drop (cond b 1 0) (rest s rows who)) (and_right (eqb maker who) false refl) ∙ at_zero (rest s rows who))
   left_by rows maker who Tick t born fine = absurd fine
-  left_by rows maker who (Told order) t born fine = absurd fine
+  left_by rows maker who (Told order) t born fine = sym (ap (λ b. drop (cond b 1 0) (rest s rows who)) (and_right (eqb maker who) false refl) ∙ at_zero (rest s rows who))
   left_by rows maker who Crash t born fine = absurd fine
   left_by rows maker who (Drop mail) t born fine = absurd fine
   left_by rows maker who (Again mail) t born fine = absurd fine
 
-  -- after a row that comes in order: the receiver's mail without its first, and what the row sends behind
-  pub rest-row : (rows : List (Row M O)) (row : Row M O) (who : ℕ) → IsTidy rows → IsOrderly s rows row → rest s (rows ++ row ∷ []) who ≡ drop (taken who row) (rest s rows who) ++ mail_for s who row.sent
-  rest-row rows row who t o =
+  -- after a calm row: the receiver's mail without its first, and what the row sends behind
+  pub rest-calm : (rows : List (Row M O)) (row : Row M O) (who : ℕ) → IsTidy rows → IsCalmRow s rows row → rest s (rows ++ row ∷ []) who ≡ drop (taken who row) (rest s rows who) ++ mail_for s who row.sent
+  rest-calm rows row who t o =
       let born = is_born-from o.seat.who o.seat o.born in
       let made = row_of s.table o.seat rows o.event in
-      let left : mail_with (λ mail. eqb (s.receiver mail) who) (mails rows) (counts_at (copies rows) made.event) ≡ drop (taken who made) (rest s rows who) = left_by rows o.seat.who who o.event t born o.in_order in
+      let left : mail_with (λ mail. eqb (s.receiver mail) who) (mails rows) (counts_at (copies rows) made.event) ≡ drop (taken who made) (rest s rows who) = left_by rows o.seat.who who o.event t born o.calm in
       let left' = subst (λ (r : Row M O). mail_with (λ mail. eqb (s.receiver mail) who) (mails rows) (counts_at (copies rows) r.event) ≡ drop (taken who r) (rest s rows who)) (sym o.row_is) left in
       after-row (λ mail. eqb (s.receiver mail) who) rows row ∙ ap (λ xs. xs ++ mail_for s who row.sent) left'
+
+  pub rest-row : (rows : List (Row M O)) (row : Row M O) (who : ℕ) → IsTidy rows → IsOrderly s rows row → rest s (rows ++ row ∷ []) who ≡ drop (taken who row) (rest s rows who) ++ mail_for s who row.sent
+  rest-row rows row who t o = rest-calm rows row who t (orderly_is_calm s rows row o)
 
 -- The mail that a delivery takes: it is the first that its receiver has not taken.
 pub record TakesFirst {A M O : Type 0} (s : System A M O) (rows : List (Row M O)) (who number : ℕ) : Type 0 where
@@ -220,20 +227,20 @@ module _ {A M O : Type 0} (s : System A M O) where
 
 -- ---- of lawful journals
 
-module _ {A M O : Type 0} (s : System A M O) (lines : List (Line O)) (plain : Each IsPlainLine lines) where
+module _ {A M O : Type 0} (s : System A M O) (lines : List (Line O)) (calm : Each IsCalmLine lines) where
   -- what is left of an actor's mail after one more row of a lawful journal
   pub rest-lawful : (rows : List (Row M O)) (row : Row M O) (who : ℕ) → IsLawful s lines (rows ++ row ∷ []) → rest s (rows ++ row ∷ []) who ≡ drop (taken who row) (rest s rows who) ++ mail_for s who row.sent
   rest-lawful rows row who lawful =
-      rest-row s rows row who (tidy s lines rows plain (lawful-prefix s lines rows (row ∷ []) lawful)) (orderly s lines rows row plain lawful)
+      rest-calm s rows row who (tidy-calm s lines rows calm (lawful-prefix s lines rows (row ∷ []) lawful)) (calm_row s lines rows row calm lawful)
 
   -- what a delivery of a lawful journal takes
   pub takes-lawful : (rows : List (Row M O)) (row : Row M O) (number : ℕ) → IsLawful s lines (rows ++ row ∷ []) → row.event ≡ Deliver number → TakesFirst s rows row.who number
   takes-lawful rows row number lawful event =
-      let o = orderly s lines rows row plain lawful in
+      let o = calm_row s lines rows row calm lawful in
       let who : o.seat.who ≡ row.who = sym (ap (λ (r : Row M O). r.who) o.row_is) in
       let is : o.event ≡ Deliver number = sym (ap (λ (r : Row M O). r.event) o.row_is) ∙ event in
-      let first : kth (waiting s rows (Some o.seat.who)) 1 ≡ Some number = subst (λ (e : Event O). IsInOrder s rows o.seat.who e) is o.in_order in
-      let t = tidy s lines rows plain (lawful-prefix s lines rows (row ∷ []) lawful) in
+      let first : kth (waiting s rows (Some o.seat.who)) 1 ≡ Some number = subst (λ (e : Event O). IsCalmEvent s rows o.seat.who e) is o.calm in
+      let t = tidy-calm s lines rows calm (lawful-prefix s lines rows (row ∷ []) lawful) in
       subst (λ w. TakesFirst s rows w number) who (takes_first s rows o.seat.who number t (is_born-from s o.seat.who o.seat o.born) first)
 
   pub first-lawful : (rows : List (Row M O)) (row : Row M O) (number : ℕ) → IsLawful s lines (rows ++ row ∷ []) → row.event ≡ Deliver number → (mail : M) × (numbered (mails rows) number ≡ Some mail) × (s.receiver mail ≡ row.who) × (slice_get (rest s rows row.who) 0 ≡ Some mail)
@@ -242,7 +249,7 @@ module _ {A M O : Type 0} (s : System A M O) (lines : List (Line O)) (plain : Ea
       (t.mail, t.sent, t.receiver, ap (λ xs. slice_get xs 0) t.first)
 
   pub quiet-lawful : (rows : List (Row M O)) (who : ℕ) → IsLawful s lines rows → is_born s who ≡ true → is_quiet s rows ≡ true → rest s rows who ≡ []
-  quiet-lawful rows who lawful born quiet = quiet-empty s rows who (tidy s lines rows plain lawful) born quiet
+  quiet-lawful rows who lawful born quiet = quiet-empty s rows who (tidy-calm s lines rows calm lawful) born quiet
 
   pub empty-lawful : (rows : List (Row M O)) → IsLawful s lines rows → ((who : ℕ) → is_born s who ≡ true → rest s rows who ≡ []) → is_quiet s rows ≡ true
-  empty-lawful rows lawful none = empty-quiet s rows (tidy s lines rows plain lawful) none
+  empty-lawful rows lawful none = empty-quiet s rows (tidy-calm s lines rows calm lawful) none

@@ -58,18 +58,18 @@ more_made total made more (Once line ∷ tasks) le all = (tt, more_made total ma
 more_made total made more (Storms words ∷ tasks) le all = (tt, more_made total made more tasks le all.1)
 
 module _ {A M O : Type 0} (s : System A M O) where
-  acts-event : (rows : List (Row M O)) (who : ℕ) (event : Event O) (row : Row M O) → acts s rows who event ≡ Some row → event ≡ row.event
+  pub acts-event : (rows : List (Row M O)) (who : ℕ) (event : Event O) (row : Row M O) → acts s rows who event ≡ Some row → event ≡ row.event
   acts-event rows who event row e =
       let m = map-some (λ seat. row_of s.table seat rows event) (find (λ seat. eqb seat.who who) s.births) row e in
       ap (λ (r : Row M O). r.event) m.2
 
-  delivery-event : (rows : List (Row M O)) (left : ℕ) (row : Row M O) → Allows s rows (Settles left) row → is_delivery row.event ≡ true
+  pub delivery-event : (rows : List (Row M O)) (left : ℕ) (row : Row M O) → Allows s rows (Settles left) row → is_delivery row.event ≡ true
   delivery-event rows left row e =
       let q = and_then-some (delivery s rows) (kth (waiting s rows None) 1) row e in
       let r = and_then-some (λ m. acts s rows (s.receiver m) (Deliver q.0)) (numbered (mails rows) q.0) row q.2 in
       sym (ap (λ (e' : Event O). is_delivery e') (acts-event rows (s.receiver r.0) (Deliver q.0) row r.2))
 
-  free-event : (rows : List (Row M O)) (left : ℕ) (row : Row M O) → Allows s rows (Frees left) row → is_delivery row.event ≡ true
+  pub free-event : (rows : List (Row M O)) (left : ℕ) (row : Row M O) → Allows s rows (Frees left) row → is_delivery row.event ≡ true
   free-event rows left row e =
       let q = and_then-some (λ mail. acts s rows row.who (Deliver mail)) (kth (waiting s rows (Some row.who)) 1) row e in
       sym (ap (λ (e' : Event O). is_delivery e') (acts-event rows row.who (Deliver q.0) row q.2))

@@ -1,5 +1,5 @@
 -- Rows that come in order: each actor takes its mail in ascending order of number.
-use Rattle.std.specs.Prelude.{◌≡◌, ℕ, ◌==◌, ◌≤◌, ◌&&◌, ◌++◌, List, [], ◌∷◌, Bool, false, if◌then◌else◌, find, filter, replicate, count_by, Some}
+use Rattle.std.specs.Prelude.{◌≡◌, ℕ, ◌==◌, ◌≤◌, ◌&&◌, ◌++◌, List, [], ◌∷◌, Bool, true, false, if◌then◌else◌, find, filter, replicate, count_by, Some}
 use Rattle.std.specs.List.{list_any}
 use Rattle.sc_base.specs.Among.{Each}
 use Rattle.sc_actor.specs.declared.actors.Seat.{Seat}
@@ -24,6 +24,19 @@ IsPlainLine (CrashLine who) = ⊥
 IsPlainLine (ToldLine who order) = ⊥
 IsPlainLine (Storm number most) = ⊥
 
+-- a line that tells a client to go, gives an order, or only delivers
+abbrev pub IsCalmLine : {O : Type 0} → Line O → Type 0
+IsCalmLine (GoLine who) = Unit {0}
+IsCalmLine (ToldLine who order) = Unit {0}
+IsCalmLine (Settle most) = Unit {0}
+IsCalmLine (Free most workers) = Unit {0}
+IsCalmLine (DeliverLine who k) = ⊥
+IsCalmLine (DropLine who k) = ⊥
+IsCalmLine (AgainLine mail) = ⊥
+IsCalmLine (TickLine who) = ⊥
+IsCalmLine (CrashLine who) = ⊥
+IsCalmLine (Storm number most) = ⊥
+
 -- The actor goes, which it did not before, or takes the first mail that is pending for it.
 abbrev pub IsInOrder : {A M O : Type 0} → System A M O → List (Row M O) → ℕ → Event O → Type 0
 IsInOrder s rows who Go = has_gone rows who ≡ false
@@ -41,6 +54,34 @@ pub record IsOrderly {A M O : Type 0} (s : System A M O) (rows : List (Row M O))
   pub event : Event O
   pub row_is : row ≡ row_of s.table seat rows event
   pub in_order : IsInOrder s rows seat.who event
+
+-- The actor goes or takes mail in order, or it is told an order.
+abbrev pub IsCalmEvent : {A M O : Type 0} → System A M O → List (Row M O) → ℕ → Event O → Type 0
+IsCalmEvent s rows who Go = has_gone rows who ≡ false
+IsCalmEvent s rows who (Deliver number) = kth (waiting s rows (Some who)) 1 ≡ Some number
+IsCalmEvent s rows who (Told order) = Unit {0}
+IsCalmEvent s rows who Tick = ⊥
+IsCalmEvent s rows who Crash = ⊥
+IsCalmEvent s rows who (Drop mail) = ⊥
+IsCalmEvent s rows who (Again mail) = ⊥
+
+-- A row that comes in order after others or tells an order: it sends what the table gives.
+pub record IsCalmRow {A M O : Type 0} (s : System A M O) (rows : List (Row M O)) (row : Row M O) : Type 0 where
+  pub seat : Seat A
+  pub born : find (λ other. other.who == seat.who) s.births ≡ Some seat
+  pub event : Event O
+  pub row_is : row ≡ row_of s.table seat rows event
+  pub calm : IsCalmEvent s rows seat.who event
+
+-- whether an event tells an order
+abbrev pub is_told : {O : Type 0} → Event O → Bool
+is_told (Told order) = true
+is_told (Deliver mail) = false
+is_told Tick = false
+is_told Go = false
+is_told Crash = false
+is_told (Drop mail) = false
+is_told (Again mail) = false
 
 -- no mail has more than one copy, and no actor has crashed
 pub record IsTidy {M O : Type 0} (rows : List (Row M O)) : Type 0 where
@@ -76,3 +117,7 @@ deliveries rows = count_by (λ row. is_delivery row.event) rows
 -- how many rows tell an actor to go
 abbrev pub goes : {M O : Type 0} → List (Row M O) → ℕ
 goes rows = count_by (λ row. is_go row.event) rows
+
+-- how many rows tell an order
+abbrev pub orders : {M O : Type 0} → List (Row M O) → ℕ
+orders rows = count_by (λ row. is_told row.event) rows

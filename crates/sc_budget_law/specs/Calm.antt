@@ -1,0 +1,74 @@
+-- The budget of a calm scenario, in which orders are given besides, one after another.
+use Rattle.std.specs.Prelude.{◌≡◌, ℕ, ◌+◌, ◌*◌, ◌≤◌, ◌&&◌, ◌||◌, Bool, true, false, List, ◌∷◌, ◌++◌, length, count_by}
+use Rattle.std.specs.List.{list_any}
+use Rattle.sc_base.specs.Among.{Each}
+use Rattle.sc_scenario.specs.declared.scenarios.Scenario.{Scenario}
+use Rattle.sc_scenario.specs.declared.scenarios.SchedLine.{SchedLine}
+use Rattle.sc_scenario.specs.declared.scenarios.SchedLine.TheVariants.{Go, Deliver, Drop, Again, Tick, Crash, Told, Settle, Free, Storm}
+use Rattle.sc_sound.specs.Players.{schedule}
+use Rattle.sc_orderly_law.specs.Owing.{HasRoom}
+use Rattle.sc_orderly_law.specs.Timely.{AreSpaced, Nothing}
+use Rattle.sc_budget_law.specs.Budget.{requests_of, delivers}
+
+-- whether a line gives an order
+abbrev pub gives_order : SchedLine → Bool
+gives_order (Told node order) = true
+gives_order (Go client) = false
+gives_order (Deliver who k) = false
+gives_order (Drop who k) = false
+gives_order (Again mail) = false
+gives_order (Tick who) = false
+gives_order (Crash node) = false
+gives_order (Settle most) = false
+gives_order (Free most workers) = false
+gives_order (Storm number most) = false
+
+-- whether a line tells a client to go
+abbrev pub starts : SchedLine → Bool
+starts (Go client) = true
+starts (Told node order) = false
+starts (Deliver who k) = false
+starts (Drop who k) = false
+starts (Again mail) = false
+starts (Tick who) = false
+starts (Crash node) = false
+starts (Settle most) = false
+starts (Free most workers) = false
+starts (Storm number most) = false
+
+-- how many orders are given
+abbrev pub orders_of : Scenario → ℕ
+orders_of scenario = count_by gives_order scenario.lines
+
+-- the deliveries that suffice, for each request and for each order of each client; and for each order itself
+abbrev pub calm_budget_of : Scenario → ℕ
+calm_budget_of scenario =
+    (requests_of scenario + orders_of scenario * length scenario.clients) * (32 + 8 * (length scenario.groups + orders_of scenario)) + 512 * orders_of scenario
+
+-- a line that tells a client to go, gives an order, or delivers at least so often
+abbrev pub AllowsCalmly : ℕ → SchedLine → Type 0
+AllowsCalmly budget (Go client) = Unit {0}
+AllowsCalmly budget (Told node order) = Unit {0}
+AllowsCalmly budget (Settle most) = budget ≤ most
+AllowsCalmly budget (Free most workers) = budget ≤ most
+AllowsCalmly budget (Deliver who k) = ⊥
+AllowsCalmly budget (Drop who k) = ⊥
+AllowsCalmly budget (Again mail) = ⊥
+AllowsCalmly budget (Tick who) = ⊥
+AllowsCalmly budget (Crash node) = ⊥
+AllowsCalmly budget (Storm number most) = ⊥
+
+-- whether mail is to be delivered between two lines: an order, and another order or a client that goes
+abbrev pub are_parted : SchedLine → SchedLine → Bool
+are_parted one other = (gives_order one && (gives_order other || starts other)) || (starts one && gives_order other)
+
+-- a calm scenario at its budget: each order has a line of deliveries after it, and one stands between each order and every other order or client that goes
+pub record IsCalmAtBudget (scenario : Scenario) : Type 0 where
+  pub lines : Each (AllowsCalmly (calm_budget_of scenario)) scenario.lines
+  pub followed : (before after : List SchedLine) (one : SchedLine) → scenario.lines ≡ before ++ one ∷ after → gives_order one ≡ true → list_any delivers after ≡ true
+  pub parted : (before between after : List SchedLine) (one other : SchedLine) → scenario.lines ≡ before ++ one ∷ between ++ other ∷ after → are_parted one other ≡ true → list_any delivers between ≡ true
+
+-- so its orders stand alone between lines of deliveries, and each of these has room for its budget
+abbrev pub CalmLinesAreSpaced : Type 0
+CalmLinesAreSpaced =
+    (scenario : Scenario) → IsCalmAtBudget scenario → AreSpaced Nothing (schedule scenario) × Each (HasRoom (calm_budget_of scenario)) (schedule scenario)

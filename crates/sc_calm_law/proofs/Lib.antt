@@ -1,0 +1,11 @@
+pub mod OwedAsks
+pub mod OwedChanges
+pub mod OwedCounted
+pub mod OwedLearn
+pub mod OwedLearnt
+pub mod OwedMailed
+pub mod OwedOrders
+pub mod OwedPump
+pub mod OwedRows
+pub mod OwedSums
+pub mod QuietBirth

@@ -1,0 +1,35 @@
+-- What the rows of mail lower, by the body of the mail.
+use Rattle.sc_node_table.specs.Rows.{mailed}
+use Rattle.sc_calm_law.specs.Laws.{AnswersLower, AsksLower, LearnsLower, VotesLower}
+use Rattle.sc_calm_law.proofs.OwedAsks.{promise_lowers, request_lowers, offer_lowers, watch_lowers}
+use Rattle.sc_calm_law.proofs.OwedLearn.{learn_lowers}
+use Rattle.sc_calm_law.proofs.OwedRows.{prepare_lowers, accept_lowers, nack_lowers, vote_lowers, watched_lowers, outcome_lowers}
+
+pub answers : AnswersLower
+unfolding mailed
+answers = record {
+  prepare = λ ways from group ballot from_slot place goes. prepare_lowers ways from ballot from_slot place goes;
+  accept = λ ways from group ballot slot command place goes. accept_lowers ways from ballot slot command place goes;
+  nack = λ ways from group ballot place goes. nack_lowers ways ballot place goes;
+}
+
+pub votes : VotesLower
+unfolding mailed
+votes = record {
+  vote = λ ways from tx coord part vote place may. vote_lowers ways from tx part vote place may;
+  watched = λ ways from tx coord part vote place may. watched_lowers ways from tx part vote place may;
+  outcome = λ ways from tx part outcome place may. outcome_lowers ways tx outcome place may;
+}
+
+pub learns : LearnsLower
+unfolding mailed
+learns = λ ways from group slot command place f low. learn_lowers ways from slot command place f low
+
+pub asks : AsksLower
+unfolding mailed
+asks = record {
+  promise = λ ways from group ballot place may. promise_lowers ways from ballot place may;
+  request = λ ways from client seq op place may points. request_lowers ways client seq op place may points;
+  offer = λ ways from tx offer place may points asked. offer_lowers ways from tx offer place may points asked;
+  watch = λ ways from tx watch place may points asked. watch_lowers ways from tx watch place may points asked;
+}

@@ -1,0 +1,75 @@
+//! Calm scenarios: clients go, orders are given one after another, and mail is only delivered.
+//! What is owed while an order runs, and that the rows of a node's table lower it. Definitions and
+//! laws, no logic.
+#![tactic(auto)]
+
+ghost use Rattle.sc_calm_law.specs.Laws.{AnswersLower, AsksLower, ChangesRaiseNothing, CountedEntriesRaiseNothing, LeadersMayLeave, LearnsLower, LearntEntriesRaiseNothing, OrdersRaiseLittle, PumpsRaiseNothing, VotesLower};
+ghost use Rattle.sc_calm_law.specs.Quiet.{FirstMembersLead, ReplicasBeginAtRest};
+
+/// What a leader offers was owed: a pump raises nothing, where no report names an open slot and at
+/// most nine nodes decide each.
+pub fn pumps_raise_nothing()
+    ensures { PumpsRaiseNothing }
+{}
+
+/// A replica that learns the next entry raises nothing, also where it is elected by it: what an
+/// election asks is owed by each group in which no replica runs.
+pub fn learnt_entries_raise_nothing()
+    ensures { LearntEntriesRaiseNothing }
+{}
+
+/// A leader that executes a counted entry raises nothing, where its command owed what the entry
+/// says, and asks of others to learn it and of new members to take the state and to promise.
+pub fn counted_entries_raise_nothing()
+    ensures { CountedEntriesRaiseNothing }
+{}
+
+/// A filler, a join, and a leave of another member than the one that leads, raise nothing where
+/// they are counted.
+pub fn changes_raise_nothing()
+    ensures { ChangesRaiseNothing }
+{}
+
+/// A Prepare, an Accept and a Nack lower what is owed: one mail at most comes back.
+pub fn answers_lower()
+    ensures { AnswersLower }
+{}
+
+/// A participant's and a watcher's vote, and the outcome of a transaction, lower what is owed: each
+/// is queued for the log, where it owes less, or answered.
+pub fn votes_lower()
+    ensures { VotesLower }
+{}
+
+/// An order raises what is owed by what a transaction with two other groups takes, at most.
+pub fn orders_raise_little()
+    ensures { OrdersRaiseLittle }
+{}
+
+/// A Learn of the next entry or an earlier one lowers what is owed at a replica that does not run,
+/// also where it is elected by the entry, and begins to offer what it finds.
+pub fn learns_lower()
+    ensures { LearnsLower }
+{}
+
+/// A promise, a request, an offer and a watch lower what is owed: each is taken, or its sender is
+/// told of a replica that is nearer to the one that runs.
+pub fn asks_lower()
+    ensures { AsksLower }
+{}
+
+/// At birth a replica is at rest, as in a quiet journal: it waits for nothing, nothing is in flight
+/// or ready, and it has promised no later ballot than its own.
+pub fn replicas_begin_at_rest()
+    ensures { ReplicasBeginAtRest }
+{}
+
+/// At birth the first member of a group leads, as one leads in a quiet journal.
+pub fn first_members_lead()
+    ensures { FirstMembersLead }
+{}
+
+/// A leader that leaves raises nothing: its leave owed the election that its group then owes.
+pub fn leaders_may_leave()
+    ensures { LeadersMayLeave }
+{}

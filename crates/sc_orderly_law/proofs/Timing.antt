@@ -1,0 +1,273 @@
+-- On the walk of spaced lines each order begins where nothing is under way, and no line of deliveries that has room is cut off.
+use Rattle.std.proofs.Common.{◌≡◌, ℕ, zero, suc, ◌+◌, ◌-◌, ◌≤◌, List, [], ◌∷◌, ◌++◌, Bool, true, false, true≢false, cond, eqb, ◌||◌, not, refl, sym, ◌∙◌, ap, subst, arith, Option, None, Some}
+use Rattle.std.specs.List.{flat_map}
+use Rattle.std.proofs.lemmas.Bool.{ne_eqb}
+use Rattle.std.proofs.lemmas.List.Sums.{fold-append}
+use Rattle.sc_base.specs.Among.{Each}
+use Rattle.sc_actor.specs.declared.rows.Row.{Row}
+use Rattle.sc_actor.specs.declared.rows.Event.{Event}
+use Rattle.sc_actor.specs.declared.rows.Event.TheVariants.{Go, Told}
+use Rattle.sc_actor.specs.declared.schedules.Line.{Line}
+use Rattle.sc_actor.specs.declared.schedules.Line.TheVariants.{Go as GoLine, Deliver as DeliverLine, Drop as DropLine, Again as AgainLine, Tick as TickLine, Crash as CrashLine, Told as ToldLine, Settle, Free, Storm}
+use Rattle.sc_actor.specs.Mail.{has_crashed, is_delivery}
+use Rattle.sc_actor.specs.System.{System, acts, has_gone}
+use Rattle.sc_actor.specs.Walk.{Task, Once, Settles, Frees, Storms, WalkPlace, Allows, MayAdd, IsLawful, onward, is_over, is_quiet, after_row, place_after, rest_of_all, tasks_of, unsettled}
+use Rattle.sc_actor.proofs.WalkLemmas.{lawful-last, place_after-rows}
+use Rattle.sc_orderly_law.specs.Orderly.{IsCalmRow, is_told}
+use Rattle.sc_orderly_law.specs.Owing.{HasRoom}
+use Rattle.sc_orderly_law.specs.Timely.{Said, Nothing, Goes, AnOrder, MayGo, MayOrder, AreSpaced, IsClear, ComesInTime, AreInTime, IsMeasure}
+use Rattle.sc_orderly_law.proofs.Ordering.{allows_calm, by_rows}
+use Rattle.sc_orderly_law.proofs.Settling.{acts-event, delivery-event, free-event}
+use Rattle.sc_orderly_law.proofs.InTime.{in_time_row, pending_owes, clear_row, clear_quiet, delivery_untold, delivery_in_time, one_if}
+
+-- where so much may be owed, tasks are spaced and each of many deliveries has room
+abbrev AreTasksSpaced : {O : Type 0} → ℕ → Said → List (Task O) → Type 0
+AreTasksSpaced total said [] = Unit {0}
+AreTasksSpaced total said (Settles left ∷ tasks) = (total ≤ left) × AreTasksSpaced total Nothing tasks
+AreTasksSpaced total said (Frees left ∷ tasks) = (total ≤ left) × AreTasksSpaced total Nothing tasks
+AreTasksSpaced total said (Once (GoLine who) ∷ tasks) = MayGo said × AreTasksSpaced total Goes tasks
+AreTasksSpaced total said (Once (ToldLine who order) ∷ tasks) = MayOrder said × AreTasksSpaced total AnOrder tasks
+AreTasksSpaced total said (Once (Settle most) ∷ tasks) = ⊥
+AreTasksSpaced total said (Once (Free most workers) ∷ tasks) = ⊥
+AreTasksSpaced total said (Once (DeliverLine who k) ∷ tasks) = ⊥
+AreTasksSpaced total said (Once (DropLine who k) ∷ tasks) = ⊥
+AreTasksSpaced total said (Once (AgainLine mail) ∷ tasks) = ⊥
+AreTasksSpaced total said (Once (TickLine who) ∷ tasks) = ⊥
+AreTasksSpaced total said (Once (CrashLine who) ∷ tasks) = ⊥
+AreTasksSpaced total said (Once (Storm number most) ∷ tasks) = ⊥
+AreTasksSpaced total said (Storms words ∷ tasks) = ⊥
+
+lines_spaced : {O : Type 0} (words : ℕ → ℕ → ℕ × ℕ) (total : ℕ) (said : Said) (lines : List (Line O)) → AreSpaced said lines → Each (HasRoom total) lines → AreTasksSpaced total said (flat_map (tasks_of words) lines)
+lines_spaced words total said [] apart room = tt
+lines_spaced words total said (Settle most ∷ lines) apart room = (room.0, lines_spaced words total Nothing lines apart room.1)
+lines_spaced words total said (Free most workers ∷ lines) apart room = (room.0, lines_spaced words total Nothing lines apart room.1)
+lines_spaced words total said (GoLine who ∷ lines) apart room = (apart.0, lines_spaced words total Goes lines apart.1 room.1)
+lines_spaced words total said (ToldLine who order ∷ lines) apart room = (apart.0, lines_spaced words total AnOrder lines apart.1 room.1)
+lines_spaced words total said (DeliverLine who k ∷ lines) apart room = absurd apart
+lines_spaced words total said (DropLine who k ∷ lines) apart room = absurd apart
+lines_spaced words total said (AgainLine mail ∷ lines) apart room = absurd apart
+lines_spaced words total said (TickLine who ∷ lines) apart room = absurd apart
+lines_spaced words total said (CrashLine who ∷ lines) apart room = absurd apart
+lines_spaced words total said (Storm number most ∷ lines) apart room = absurd apart
+
+module _ {A M O : Type 0} (s : System A M O) (owed : List (Row M O) → ℕ) (still raise : ℕ) (measure : IsMeasure s owed still raise) where
+  -- what is known of the rows by what lines said since the last deliveries
+  abbrev Knows : Said → List (Row M O) → Type 0
+  Knows Nothing rows = is_quiet s rows ≡ true
+  Knows Goes rows = IsClear s rows
+  Knows AnOrder rows = Unit {0}
+
+  -- where the walk stands: an order is next in a quiet journal, and a line of many deliveries has room for what is owed
+  abbrev Stands : List (Row M O) → List (Task O) → Type 0
+  Stands rows [] = Unit {0}
+  Stands rows (Once (GoLine who) ∷ tasks) = IsClear s rows × AreTasksSpaced (still + raise) Goes tasks
+  Stands rows (Once (ToldLine who order) ∷ tasks) = (is_quiet s rows ≡ true) × AreTasksSpaced (still + raise) AnOrder tasks
+  Stands rows (Settles left ∷ tasks) = (owed rows ≤ left) × AreTasksSpaced (still + raise) Nothing tasks
+  Stands rows (Frees left ∷ tasks) = (owed rows ≤ left) × AreTasksSpaced (still + raise) Nothing tasks
+  Stands rows (Once (Settle most) ∷ tasks) = ⊥
+  Stands rows (Once (Free most workers) ∷ tasks) = ⊥
+  Stands rows (Once (DeliverLine who k) ∷ tasks) = ⊥
+  Stands rows (Once (DropLine who k) ∷ tasks) = ⊥
+  Stands rows (Once (AgainLine mail) ∷ tasks) = ⊥
+  Stands rows (Once (TickLine who) ∷ tasks) = ⊥
+  Stands rows (Once (CrashLine who) ∷ tasks) = ⊥
+  Stands rows (Once (Storm number most) ∷ tasks) = ⊥
+  Stands rows (Storms words ∷ tasks) = ⊥
+
+  -- the walk stands so, and no line was cut off
+  abbrev IsFine : List (Row M O) → WalkPlace M O → Type 0
+  IsFine rows place = Stands rows place.tasks × (place.unsettled ≡ false)
+
+  may_go : (said : Said) (rows : List (Row M O)) → MayGo said → Knows said rows → IsClear s rows
+  may_go Nothing rows may known = clear_quiet s rows known
+  may_go Goes rows may known = known
+  may_go AnOrder rows may known = absurd may
+
+  may_order : (said : Said) (rows : List (Row M O)) → MayOrder said → Knows said rows → is_quiet s rows ≡ true
+  may_order Nothing rows may known = known
+  may_order Goes rows may known = absurd may
+  may_order AnOrder rows may known = absurd may
+
+  module _ (rows : List (Row M O)) (timely : AreInTime s rows) (bound : owed rows ≤ still + raise) where
+    -- a line of deliveries with room is over only where it is quiet
+    over_quiet : (left : ℕ) → owed rows ≤ left → (eqb left 0 || is_quiet s rows) ≡ true → is_quiet s rows ≡ true
+    over_quiet left room over = by left (is_quiet s rows) refl room over
+      where
+        by : (left : ℕ) (b : Bool) → is_quiet s rows ≡ b → owed rows ≤ left → (eqb left 0 || b) ≡ true → b ≡ true
+        by left true q room' over' = refl
+        by zero false q room' over' = let some = pending_owes s owed still raise measure rows timely q in absurd (omega (arith, some, room'))
+        by (suc left) false q room' over' = absurd (true≢false (sym over' ∙ ap (λ b. b || false) (ne_eqb (suc left) 0 (λ z. absurd (omega (arith, z))))))
+
+    uncut : (b : Bool) → b ≡ true → (false || not b) ≡ false
+    uncut true e = refl
+    uncut false e = absurd (true≢false (sym e))
+
+    passes : (said : Said) (tasks : List (Task O)) (skipped : ℕ) → AreTasksSpaced (still + raise) said tasks → Knows said rows → IsFine rows (onward s rows tasks skipped false)
+    passes said [] skipped apart known = (tt, refl)
+    passes said (Once (GoLine who) ∷ tasks) skipped apart known =
+        let clear = may_go said rows apart.0 known in
+        by (is_over s rows (Once (GoLine who))) clear (passes Goes tasks (skipped + 1) apart.1 clear)
+      where
+        by : (b : Bool) → IsClear s rows → IsFine rows (onward s rows tasks (skipped + 1) false) → IsFine rows (cond b (onward s rows tasks (skipped + 1) (false || false)) (record { tasks = Once (GoLine who) ∷ tasks; rows = rows; skipped = skipped; unsettled = false }))
+        by true clear more = more
+        by false clear more = ((clear, apart.1), refl)
+    passes said (Once (ToldLine who order) ∷ tasks) skipped apart known =
+        let quiet = may_order said rows apart.0 known in
+        by (is_over s rows (Once (ToldLine who order))) quiet (passes AnOrder tasks (skipped + 1) apart.1 tt)
+      where
+        by : (b : Bool) → is_quiet s rows ≡ true → IsFine rows (onward s rows tasks (skipped + 1) false) → IsFine rows (cond b (onward s rows tasks (skipped + 1) (false || false)) (record { tasks = Once (ToldLine who order) ∷ tasks; rows = rows; skipped = skipped; unsettled = false }))
+        by true quiet more = more
+        by false quiet more = ((quiet, apart.1), refl)
+    passes said (Settles left ∷ tasks) skipped apart known =
+        by (is_over s rows (Settles left)) refl (λ quiet. passes Nothing tasks (skipped + 0) apart.1 quiet)
+      where
+        by : (b : Bool) → is_over s rows (Settles left) ≡ b → (is_quiet s rows ≡ true → IsFine rows (onward s rows tasks (skipped + 0) false)) → IsFine rows (cond b (onward s rows tasks (skipped + 0) (false || not (is_quiet s rows))) (record { tasks = Settles left ∷ tasks; rows = rows; skipped = skipped; unsettled = false }))
+        by true over more =
+            let quiet = over_quiet left (let room = apart.0 in omega (arith, room, bound)) over in
+            subst (λ c. IsFine rows (onward s rows tasks (skipped + 0) c)) (sym (uncut (is_quiet s rows) quiet)) (more quiet)
+        by false over more = ((let room = apart.0 in omega (arith, room, bound), apart.1), refl)
+    passes said (Frees left ∷ tasks) skipped apart known =
+        by (is_over s rows (Frees left)) refl (λ quiet. passes Nothing tasks (skipped + 0) apart.1 quiet)
+      where
+        by : (b : Bool) → is_over s rows (Frees left) ≡ b → (is_quiet s rows ≡ true → IsFine rows (onward s rows tasks (skipped + 0) false)) → IsFine rows (cond b (onward s rows tasks (skipped + 0) (false || not (is_quiet s rows))) (record { tasks = Frees left ∷ tasks; rows = rows; skipped = skipped; unsettled = false }))
+        by true over more =
+            let quiet = over_quiet left (let room = apart.0 in omega (arith, room, bound)) over in
+            subst (λ c. IsFine rows (onward s rows tasks (skipped + 0) c)) (sym (uncut (is_quiet s rows) quiet)) (more quiet)
+        by false over more = ((let room = apart.0 in omega (arith, room, bound), apart.1), refl)
+    passes said (Once (Settle most) ∷ tasks) skipped apart known = absurd apart
+    passes said (Once (Free most workers) ∷ tasks) skipped apart known = absurd apart
+    passes said (Once (DeliverLine who k) ∷ tasks) skipped apart known = absurd apart
+    passes said (Once (DropLine who k) ∷ tasks) skipped apart known = absurd apart
+    passes said (Once (AgainLine mail) ∷ tasks) skipped apart known = absurd apart
+    passes said (Once (TickLine who) ∷ tasks) skipped apart known = absurd apart
+    passes said (Once (CrashLine who) ∷ tasks) skipped apart known = absurd apart
+    passes said (Once (Storm number most) ∷ tasks) skipped apart known = absurd apart
+    passes said (Storms words ∷ tasks) skipped apart known = absurd apart
+
+    -- a line of deliveries that goes on
+    settles_on : (left : ℕ) (tasks : List (Task O)) (skipped : ℕ) → owed rows ≤ left → AreTasksSpaced (still + raise) Nothing tasks → IsFine rows (onward s rows (Settles left ∷ tasks) skipped false)
+    settles_on left tasks skipped room apart = by (is_over s rows (Settles left)) refl (λ quiet. passes Nothing tasks (skipped + 0) apart quiet)
+      where
+        by : (b : Bool) → is_over s rows (Settles left) ≡ b → (is_quiet s rows ≡ true → IsFine rows (onward s rows tasks (skipped + 0) false)) → IsFine rows (cond b (onward s rows tasks (skipped + 0) (false || not (is_quiet s rows))) (record { tasks = Settles left ∷ tasks; rows = rows; skipped = skipped; unsettled = false }))
+        by true over more = let quiet = over_quiet left room over in subst (λ c. IsFine rows (onward s rows tasks (skipped + 0) c)) (sym (uncut (is_quiet s rows) quiet)) (more quiet)
+        by false over more = ((room, apart), refl)
+
+    frees_on : (left : ℕ) (tasks : List (Task O)) (skipped : ℕ) → owed rows ≤ left → AreTasksSpaced (still + raise) Nothing tasks → IsFine rows (onward s rows (Frees left ∷ tasks) skipped false)
+    frees_on left tasks skipped room apart = by (is_over s rows (Frees left)) refl (λ quiet. passes Nothing tasks (skipped + 0) apart quiet)
+      where
+        by : (b : Bool) → is_over s rows (Frees left) ≡ b → (is_quiet s rows ≡ true → IsFine rows (onward s rows tasks (skipped + 0) false)) → IsFine rows (cond b (onward s rows tasks (skipped + 0) (false || not (is_quiet s rows))) (record { tasks = Frees left ∷ tasks; rows = rows; skipped = skipped; unsettled = false }))
+        by true over more = let quiet = over_quiet left room over in subst (λ c. IsFine rows (onward s rows tasks (skipped + 0) c)) (sym (uncut (is_quiet s rows) quiet)) (more quiet)
+        by false over more = ((room, apart), refl)
+
+  -- ---- one more row
+
+  unless-some : {Y : Type 0} (b : Bool) (o : Option Y) (y : Y) → cond b None o ≡ Some y → o ≡ Some y
+  unless-some true o y e = cc
+  unless-some false o y e = e
+
+  -- what is found of a row: it is in time, and the tasks that are left stand
+  record IsStep (rows : List (Row M O)) (row : Row M O) (tasks : List (Task O)) (skipped : ℕ) : Type 0 where
+    timely : AreInTime s (rows ++ row ∷ [])
+    bound : owed (rows ++ row ∷ []) ≤ still + raise
+    fine : IsFine (rows ++ row ∷ []) (onward s (rows ++ row ∷ []) (rest_of_all tasks) skipped false)
+
+  module _ (rows : List (Row M O)) (row : Row M O) (timely : AreInTime s rows) (bound : owed rows ≤ still + raise) where
+    timely_by : (task : Task O) (event : Event O) → event ≡ row.event → Allows s rows task row → IsCalmRow s rows row → ComesInTime s rows event → AreInTime s (rows ++ row ∷ [])
+    timely_by task event is may calm comes = in_time_row s rows row timely calm (subst (λ (e : Event O). ComesInTime s rows e) is comes)
+
+    go_step : (who : ℕ) (tasks : List (Task O)) (skipped : ℕ) → Allows s rows (Once (GoLine who)) row → IsClear s rows → AreTasksSpaced (still + raise) Goes tasks → IsStep rows row (Once (GoLine who) ∷ tasks) skipped
+    go_step who tasks skipped may clear apart =
+        let go : Event O = Go in
+        let is : go ≡ row.event = acts-event s rows who go row (unless-some (has_gone rows who) (acts s rows who Go) row may) in
+        let t = timely_by (Once (GoLine who)) Go is may (allows_calm s rows (Once (GoLine who)) row tt may) clear in
+        let low = measure.lowers rows row t in
+        let none : cond (is_told row.event) raise 0 ≡ 0 = subst (λ (e : Event O). cond (is_told e) raise 0 ≡ 0) is refl in
+        let b : owed (rows ++ row ∷ []) ≤ still + raise = omega (arith, low, none, bound) in
+        let untold : is_told row.event ≡ false = subst (λ (e : Event O). is_told e ≡ false) is refl in
+        record { timely = t; bound = b; fine = passes (rows ++ row ∷ []) t b Goes tasks skipped apart (clear_row s rows row untold clear) }
+
+    told_step : (who : ℕ) (order : O) (tasks : List (Task O)) (skipped : ℕ) → Allows s rows (Once (ToldLine who order)) row → is_quiet s rows ≡ true → AreTasksSpaced (still + raise) AnOrder tasks → IsStep rows row (Once (ToldLine who order) ∷ tasks) skipped
+    told_step who order tasks skipped may quiet apart =
+        let is : Told order ≡ row.event = acts-event s rows who (Told order) row (unless-some (has_crashed rows who) (acts s rows who (Told order)) row may) in
+        let t = timely_by (Once (ToldLine who order)) (Told order) is may (allows_calm s rows (Once (ToldLine who order)) row tt may) quiet in
+        let low = measure.lowers rows row t in
+        let raised : cond (is_told row.event) raise 0 ≡ raise = subst (λ (e : Event O). cond (is_told e) raise 0 ≡ raise) is refl in
+        let now = measure.quiet rows timely quiet in
+        let b : owed (rows ++ row ∷ []) ≤ still + raise = omega (arith, low, raised, now) in
+        record { timely = t; bound = b; fine = passes (rows ++ row ∷ []) t b AnOrder tasks skipped apart tt }
+
+    -- a delivery lowers what is owed
+    delivery_lowers : is_delivery row.event ≡ true → AreInTime s (rows ++ row ∷ []) → owed (rows ++ row ∷ []) + 1 ≤ owed rows
+    delivery_lowers d t =
+        let low = measure.lowers rows row t in
+        let none : cond (is_told row.event) raise 0 ≡ 0 = ap (λ b. cond b raise 0) (delivery_untold s row.event d) in
+        let one = ap one_if d in
+        omega (arith, low, none, one)
+
+    settles_step : (left : ℕ) (tasks : List (Task O)) (skipped : ℕ) → Allows s rows (Settles left) row → owed rows ≤ left → AreTasksSpaced (still + raise) Nothing tasks → IsStep rows row (Settles left ∷ tasks) skipped
+    settles_step left tasks skipped may room apart =
+        let d = delivery-event s rows left row may in
+        let t = in_time_row s rows row timely (allows_calm s rows (Settles left) row tt may) (delivery_in_time s rows row.event d) in
+        let low = delivery_lowers d t in
+        let b : owed (rows ++ row ∷ []) ≤ still + raise = omega (arith, low, bound) in
+        let less : owed (rows ++ row ∷ []) ≤ left - 1 = omega (arith, low, room) in
+        record { timely = t; bound = b; fine = settles_on (rows ++ row ∷ []) t b (left - 1) tasks skipped less apart }
+
+    frees_step : (left : ℕ) (tasks : List (Task O)) (skipped : ℕ) → Allows s rows (Frees left) row → owed rows ≤ left → AreTasksSpaced (still + raise) Nothing tasks → IsStep rows row (Frees left ∷ tasks) skipped
+    frees_step left tasks skipped may room apart =
+        let d = free-event s rows left row may in
+        let t = in_time_row s rows row timely (allows_calm s rows (Frees left) row tt may) (delivery_in_time s rows row.event d) in
+        let low = delivery_lowers d t in
+        let b : owed (rows ++ row ∷ []) ≤ still + raise = omega (arith, low, bound) in
+        let less : owed (rows ++ row ∷ []) ≤ left - 1 = omega (arith, low, room) in
+        record { timely = t; bound = b; fine = frees_on (rows ++ row ∷ []) t b (left - 1) tasks skipped less apart }
+
+    -- whatever task is next
+    step : (tasks : List (Task O)) (skipped : ℕ) → MayAdd s rows tasks row → Stands rows tasks → IsStep rows row tasks skipped
+    step [] skipped may stands = absurd may
+    step (Once (GoLine who) ∷ tasks) skipped may stands = go_step who tasks skipped may stands.0 stands.1
+    step (Once (ToldLine who order) ∷ tasks) skipped may stands = told_step who order tasks skipped may stands.0 stands.1
+    step (Settles left ∷ tasks) skipped may stands = settles_step left tasks skipped may stands.0 stands.1
+    step (Frees left ∷ tasks) skipped may stands = frees_step left tasks skipped may stands.0 stands.1
+    step (Once (Settle most) ∷ tasks) skipped may stands = absurd stands
+    step (Once (Free most workers) ∷ tasks) skipped may stands = absurd stands
+    step (Once (DeliverLine who k) ∷ tasks) skipped may stands = absurd stands
+    step (Once (DropLine who k) ∷ tasks) skipped may stands = absurd stands
+    step (Once (AgainLine mail) ∷ tasks) skipped may stands = absurd stands
+    step (Once (TickLine who) ∷ tasks) skipped may stands = absurd stands
+    step (Once (CrashLine who) ∷ tasks) skipped may stands = absurd stands
+    step (Once (Storm number most) ∷ tasks) skipped may stands = absurd stands
+    step (Storms words ∷ tasks) skipped may stands = absurd stands
+
+  -- ---- lawful journals
+
+  module _ (lines : List (Line O)) (apart : AreSpaced Nothing lines) (room : Each (HasRoom (still + raise)) lines) where
+    -- the rows are in time, no more is owed than may be, and the walk stands so
+    abbrev Stage : List (Row M O) → Type 0
+    Stage rows = AreInTime s rows × (owed rows ≤ still + raise) × IsFine rows (place_after s lines rows)
+
+    stage_row : (rows : List (Row M O)) (row : Row M O) → IsLawful s lines (rows ++ row ∷ []) → Stage rows → Stage (rows ++ row ∷ [])
+    stage_row rows row lawful now =
+        let place = place_after s lines rows in
+        let next = step rows row now.0 now.1 place.tasks place.skipped (lawful-last s lines rows row lawful) now.2.0 in
+        let whole : place_after s lines (rows ++ row ∷ []) ≡ after_row s place row = fold-append (after_row s) _ rows (row ∷ []) in
+        let there : place.rows ≡ rows = place_after-rows s lines rows in
+        let same : after_row s place row ≡ onward s (rows ++ row ∷ []) (rest_of_all place.tasks) place.skipped false =
+        ap (λ xs. onward s (xs ++ row ∷ []) (rest_of_all place.tasks) place.skipped place.unsettled) there ∙ ap (λ c. onward s (rows ++ row ∷ []) (rest_of_all place.tasks) place.skipped c) now.2.1 in
+        (next.timely, next.bound, subst (λ p. IsFine (rows ++ row ∷ []) p) (sym (whole ∙ same)) next.fine)
+
+    stage : (journal : List (Row M O)) → IsLawful s lines journal → Stage journal
+    stage journal lawful =
+        let none : AreInTime s [] = λ before row after e. absurd (never before row after e) in
+        let bound : owed [] ≤ still + raise = let q = measure.quiet [] none refl in omega (arith, q) in
+        by_rows s lines Stage (none, bound, passes [] none bound Nothing (flat_map (tasks_of s.words) lines) 0 (lines_spaced s.words (still + raise) Nothing lines apart room) refl) stage_row journal lawful
+      where
+        never : (before : List (Row M O)) (row : Row M O) (after : List (Row M O)) → [] ≡ before ++ row ∷ after → ⊥
+        never [] row after e = cc
+        never (x ∷ before) row after e = cc
+
+    pub rows_in_time : (journal : List (Row M O)) → IsLawful s lines journal → AreInTime s journal
+    rows_in_time journal lawful = (stage journal lawful).0
+
+    pub ends_quiet : (journal : List (Row M O)) → IsLawful s lines journal → unsettled s lines journal ≡ false
+    ends_quiet journal lawful = (stage journal lawful).2.1

@@ -1,0 +1,74 @@
+-- Orders that begin where nothing is under way, and what is owed between them.
+use Rattle.std.specs.Prelude.{◌≡◌, ℕ, ◌+◌, ◌≤◌, ◌++◌, List, [], ◌∷◌, true, false, if◌then◌else◌}
+use Rattle.sc_base.specs.Among.{Each}
+use Rattle.sc_actor.specs.declared.rows.Event.{Event}
+use Rattle.sc_actor.specs.declared.rows.Event.TheVariants.{Deliver, Tick, Go, Told, Crash, Drop, Again}
+use Rattle.sc_actor.specs.declared.rows.Row.{Row}
+use Rattle.sc_actor.specs.declared.schedules.Line.{Line}
+use Rattle.sc_actor.specs.declared.schedules.Line.TheVariants.{Go as GoLine, Deliver as DeliverLine, Drop as DropLine, Again as AgainLine, Tick as TickLine, Crash as CrashLine, Told as ToldLine, Settle, Free, Storm}
+use Rattle.sc_actor.specs.Mail.{is_delivery}
+use Rattle.sc_actor.specs.System.{System}
+use Rattle.sc_actor.specs.Walk.{is_quiet}
+use Rattle.sc_orderly_law.specs.Orderly.{IsCalmRow, is_told}
+
+-- What lines said since the last line of deliveries: nothing, that actors go, or an order.
+pub data Said : Type 0 where
+  Nothing : Said
+  Goes : Said
+  AnOrder : Said
+
+-- an actor may be told to go where no order was given
+abbrev pub MayGo : Said → Type 0
+MayGo Nothing = Unit {0}
+MayGo Goes = Unit {0}
+MayGo AnOrder = ⊥
+
+-- an order may be given where nothing was said
+abbrev pub MayOrder : Said → Type 0
+MayOrder Nothing = Unit {0}
+MayOrder Goes = ⊥
+MayOrder AnOrder = ⊥
+
+-- Calm lines in which a line of deliveries stands between each order and every other order or line that tells to go.
+abbrev pub AreSpaced : {O : Type 0} → Said → List (Line O) → Type 0
+AreSpaced said [] = Unit {0}
+AreSpaced said (Settle most ∷ lines) = AreSpaced Nothing lines
+AreSpaced said (Free most workers ∷ lines) = AreSpaced Nothing lines
+AreSpaced said (GoLine who ∷ lines) = MayGo said × AreSpaced Goes lines
+AreSpaced said (ToldLine who order ∷ lines) = MayOrder said × AreSpaced AnOrder lines
+AreSpaced said (DeliverLine who k ∷ lines) = ⊥
+AreSpaced said (DropLine who k ∷ lines) = ⊥
+AreSpaced said (AgainLine mail ∷ lines) = ⊥
+AreSpaced said (TickLine who ∷ lines) = ⊥
+AreSpaced said (CrashLine who ∷ lines) = ⊥
+AreSpaced said (Storm number most ∷ lines) = ⊥
+
+-- It was quiet since the last order.
+pub record IsClear {A M O : Type 0} (s : System A M O) (rows : List (Row M O)) : Type 0 where
+  pub before : List (Row M O)
+  pub after : List (Row M O)
+  pub rows_are : rows ≡ before ++ after
+  pub quiet : is_quiet s before ≡ true
+  pub untold : Each (λ row. is_told row.event ≡ false) after
+
+-- an order is told where nothing is under way, and an actor goes where no order is
+abbrev pub ComesInTime : {A M O : Type 0} → System A M O → List (Row M O) → Event O → Type 0
+ComesInTime s rows (Told order) = is_quiet s rows ≡ true
+ComesInTime s rows Go = IsClear s rows
+ComesInTime s rows (Deliver number) = Unit {0}
+ComesInTime s rows Tick = Unit {0}
+ComesInTime s rows Crash = Unit {0}
+ComesInTime s rows (Drop mail) = Unit {0}
+ComesInTime s rows (Again mail) = Unit {0}
+
+-- each row is calm and came in time after those before it
+abbrev pub AreInTime : {A M O : Type 0} → System A M O → List (Row M O) → Type 0
+AreInTime {A} {M} {O} s rows =
+    (before : List (Row M O)) (row : Row M O) (after : List (Row M O)) → rows ≡ before ++ row ∷ after
+    → IsCalmRow s before row × ComesInTime s before row.event
+
+-- What is owed after some rows: each delivery lowers it by one at least, an order raises it by so much at most, no other row raises it, and in quiet journals no more than so much is owed.
+pub record IsMeasure {A M O : Type 0} (s : System A M O) (owed : List (Row M O) → ℕ) (still raise : ℕ) : Type 0 where
+  pub lowers : (rows : List (Row M O)) (row : Row M O) → AreInTime s (rows ++ row ∷ []) →
+      owed (rows ++ row ∷ []) + (if is_delivery row.event then 1 else 0) ≤ owed rows + (if is_told row.event then raise else 0)
+  pub quiet : (rows : List (Row M O)) → AreInTime s rows → is_quiet s rows ≡ true → owed rows ≤ still
