@@ -1,13 +1,9 @@
 -- The entries of pending mail, as counts change and mail is sent.
-use Rattle.std.proofs.Common.{◌≡◌, ◌≢◌, ℕ, zero, suc, ◌+◌, ◌<◌, ◌≤◌, nat_eq, nat_lt, List, [], ◌∷◌, ◌++◌, length, filter, insert, Bool, true, false, cond, ◌&&◌, replicate, get_or, set, refl, sym, ap, ◌∙◌, arith, append_assoc, ne_eqb, eq-eqb, None, map, Result, Ok, Err, OnOk}
+use Rattle.std.proofs.Common.{◌≡◌, ◌≢◌, ℕ, zero, suc, ◌+◌, ◌<◌, ◌≤◌, nat_eq, nat_lt, List, [], ◌∷◌, ◌++◌, length, filter, insert, Bool, true, false, cond, ◌&&◌, replicate, get_or, set, refl, sym, ap, ◌∙◌, arith, append_assoc, ne_eqb, eq-eqb, map, Result, Ok, Err, OnOk}
 use Rattle.std.proofs.lemmas.List.{append-nil}
 use Rattle.std.proofs.lemmas.Bool.{lt-ltb, le-ltb}
-use Rattle.std.specs.Map.{lookup, remove_entry}
-use Rattle.std.specs.Map.{keys_of}
-use Rattle.std.specs.List.{position_or_len}
-use Rattle.indexmap.specs.IndexMap.{insert_entry, move_index}
-use Rattle.indexmap.proofs.MapLemmas.{absent_from_lookup, insert_entry-absent, or_len-absent}
-use Rattle.indexmap.proofs.MoveLemmas.{push_moved}
+use Rattle.std.specs.Map.{remove_entry}
+use Rattle.indexmap.specs.IndexMap.{insert_entry}
 use Rattle.sc_actor.specs.Mail.{numbers}
 use Rattle.sc_ledger.specs.Queues.{open_entries, copies_in, lower, recounted}
 
@@ -17,10 +13,6 @@ and_false false = refl
 
 abbrev head : Bool → ℕ → ℕ → List (ℕ × ℕ)
 head b n c = cond b ((n, c) ∷ []) []
-
-lookup_skip : (key n c : ℕ) (b : Bool) (rest : List (ℕ × ℕ)) → nat_eq key n ≡ false → lookup (nat_eq key) (head b n c ++ rest) ≡ lookup (nat_eq key) rest
-lookup_skip key n c true rest e = rw e refl
-lookup_skip key n c false rest e = refl
 
 remove_skip : (key n c : ℕ) (b : Bool) (rest : List (ℕ × ℕ)) → nat_eq key n ≡ false → remove_entry (nat_eq key) (head b n c ++ rest) ≡ head b n c ++ remove_entry (nat_eq key) rest
 remove_skip key n c true rest e = rw e refl
@@ -42,12 +34,6 @@ put_skip key n c v true rest lt = rw (lt-ltb n key lt) (insert_next rest (n, c) 
 put_skip key n c v false rest lt = refl
 
 module _ (test : ℕ → Bool) where
-  lookup_below : (key n : ℕ) (rs cs : List ℕ) → key < n → lookup (nat_eq key) (open_entries test n rs cs) ≡ None
-  lookup_below key n [] cs lt = refl
-  lookup_below key n (r ∷ rs) [] lt = refl
-  lookup_below key n (r ∷ rs) (c ∷ cs) lt =
-      lookup_skip key n c (test r && nat_lt 0 c) (open_entries test (suc n) rs cs) (ne_eqb key n (omega arith)) ∙ lookup_below key (suc n) rs cs (omega arith)
-
   remove_below : (key n : ℕ) (rs cs : List ℕ) → key < n → remove_entry (nat_eq key) (open_entries test n rs cs) ≡ open_entries test n rs cs
   remove_below key n [] cs lt = refl
   remove_below key n (r ∷ rs) [] lt = refl
@@ -62,16 +48,6 @@ module _ (test : ℕ → Bool) where
       by : (b : Bool) → lower (open_entries test (suc n) rs cs) key ≡ 0 → lower (head b n c ++ open_entries test (suc n) rs cs) key ≡ 0
       by true rest = rw (le-ltb n key le) rest
       by false rest = rest
-
-  -- a number without a copy is not there
-  pub lookup_none : (key p n : ℕ) (rs cs : List ℕ) → key ≡ n + p → get_or cs p 0 ≡ 0 → lookup (nat_eq key) (open_entries test n rs cs) ≡ None
-  lookup_none key p n [] cs is none = refl
-  lookup_none key p n (r ∷ rs) [] is none = refl
-  lookup_none key zero n (r ∷ rs) (c ∷ cs) is none =
-      ap (λ x. lookup (nat_eq key) (head (test r && nat_lt 0 x) n c ++ open_entries test (suc n) rs cs)) none
-      ∙ (ap (λ b. lookup (nat_eq key) (head b n c ++ open_entries test (suc n) rs cs)) (and_false (test r)) ∙ lookup_below key (suc n) rs cs (omega arith))
-  lookup_none key (suc p) n (r ∷ rs) (c ∷ cs) is none =
-      lookup_skip key n c (test r && nat_lt 0 c) (open_entries test (suc n) rs cs) (ne_eqb key n (omega arith)) ∙ lookup_none key p (suc n) rs cs (omega arith) none
 
   remove_at : (key p n : ℕ) (rs cs : List ℕ) → key ≡ n + p → remove_entry (nat_eq key) (open_entries test n rs cs) ≡ open_entries test n rs (set cs p 0)
   remove_at key p n [] cs is = refl
@@ -118,13 +94,6 @@ pub lower_most : (es : List (ℕ × ℕ)) (key : ℕ) → lower es key ≤ lengt
 lower_most [] key = omega arith
 lower_most (e ∷ es) key = elim (nat_lt e.0 key) as (λ b. length (cond b (e ∷ filter (λ x. nat_lt x.0 key) es) (filter (λ x. nat_lt x.0 key) es)) ≤ length (e ∷ es)) [ true ↦ omega (arith, lower_most es key) | false ↦ omega (arith, lower_most es key) ]
 
--- a new entry is put last and moved to its place
-pub put_moved : (es : List (ℕ × ℕ)) (key count place at : ℕ) → lookup (nat_eq key) es ≡ None → place ≡ lower es key → at ≡ place → move_index (insert_entry nat_eq es key count) (position_or_len (nat_eq key) (keys_of es)) at ≡ insert es (lower es key) (key, count)
-put_moved es key count place at none is same =
-    let absent = absent_from_lookup (nat_eq key) es none in
-    (λ i. move_index (insert_entry-absent nat_eq key count es absent i) (or_len-absent (nat_eq key) es absent i) ((same ∙ is) i))
-    ∙ push_moved es (key, count) (lower es key) (lower_most es key)
-
 module _ (test : ℕ → Bool) where
   some_left : (key p count : ℕ) (back : Bool) (rs cs : List ℕ) → recounted (open_entries test 1 rs cs) key back (suc count) ≡ cond back (insert (open_entries test 1 rs cs) (lower (open_entries test 1 rs cs) key) (key, suc count)) (insert_entry nat_eq (open_entries test 1 rs cs) key (suc count))
   some_left key p count back rs cs =
@@ -146,19 +115,19 @@ module _ (test : ℕ → Bool) where
   set_other (suc p) n count (r ∷ rs) (c ∷ cs) fails = ap (λ l. head (test r && nat_lt 0 c) n c ++ l) (set_other p (suc n) count rs cs fails)
 
   push_at : (key n count r : ℕ) (rs cs : List ℕ) → key ≡ n + length rs → length cs ≡ length rs → test r ≡ true → 0 < count →
-      insert_entry nat_eq (open_entries test n rs cs) key count ≡ open_entries test n (rs ++ r ∷ []) (cs ++ count ∷ [])
+      open_entries test n rs cs ++ (key, count) ∷ [] ≡ open_entries test n (rs ++ r ∷ []) (cs ++ count ∷ [])
   push_at key n count r [] [] is same ok some =
       let here : key ≡ n = omega (arith, is) in
       (λ i. (here i, count) ∷ []) ∙ ap (λ b. head b n count ++ []) (sym ((λ i. ok i && lt-ltb 0 count some i)))
   push_at key n count r [] (c ∷ cs) is same ok some = absurd (omega arith)
   push_at key n count r (x ∷ rs) [] is same ok some = absurd (omega arith)
   push_at key n count r (x ∷ rs) (c ∷ cs) is same ok some =
-      insert_skip key n c count (test x && nat_lt 0 c) (open_entries test (suc n) rs cs) (ne_eqb key n (omega (arith, is)))
+      append_assoc (head (test x && nat_lt 0 c) n c) (open_entries test (suc n) rs cs) ((key, count) ∷ [])
       ∙ ap (λ l. head (test x && nat_lt 0 c) n c ++ l) (push_at key (suc n) count r rs cs (omega (arith, is)) (omega (arith, same)) ok some)
 
   -- one more mail, which counts
   pub push_here : (key count r : ℕ) (rs cs : List ℕ) → key ≡ 1 + length rs → length cs ≡ length rs → test r ≡ true → 0 < count →
-      insert_entry nat_eq (open_entries test 1 rs cs) key count ≡ open_entries test 1 (rs ++ r ∷ []) (cs ++ count ∷ [])
+      open_entries test 1 rs cs ++ (key, count) ∷ [] ≡ open_entries test 1 (rs ++ r ∷ []) (cs ++ count ∷ [])
   push_here key count r rs cs is same ok some = push_at key 1 count r rs cs is same ok some
 
   -- one more mail, which does not

@@ -1,21 +1,19 @@
 -- The queues hold what is pending, as counts change and mail is sent.
-use Rattle.std.proofs.Common.{◌≡◌, ◌≢◌, ℕ, zero, suc, ◌+◌, ◌-◌, ◌<◌, ◌≤◌, eqb, nat_eq, List, [], ◌∷◌, ◌++◌, length, Bool, true, false, cond, ◌&&◌, ◌||◌, not, nat_lt, take, length-take-le, add-one, get_or, set, refl, sym, ap, ◌∙◌, subst, arith, ne_eqb, eq-eqb, get_or-set_other, get_or-set_same, None, Some, Option, true≢false, Result, Ok, Err, OnOk}
+use Rattle.std.proofs.Common.{◌≡◌, ◌≢◌, ℕ, zero, suc, ◌+◌, ◌-◌, ◌<◌, ◌≤◌, eqb, List, [], ◌∷◌, ◌++◌, length, Bool, true, false, cond, ◌&&◌, ◌||◌, not, nat_lt, take, length-take-le, add-one, get_or, set, refl, sym, ap, ◌∙◌, subst, arith, ne_eqb, eq-eqb, get_or-set_other, get_or-set_same, Some, Option, true≢false, Result, Ok, Err, OnOk}
 use mathlib.Core.Logic.{dite}
 use native.Mathlib.Decide.{ℕ_discrete}
 use Rattle.std.proofs.lemmas.List.{length-set}
 use Rattle.std.proofs.lemmas.Bool.{ltb-true, and_parts, eqb-true, eqb-false}
 use Rattle.sc_actor.specs.Mail.{one_less, one_more}
-use Rattle.std.specs.Map.{lookup, remove_entry}
 use Rattle.std.specs.List.{list_any}
 use Rattle.std.proofs.lemmas.List.Folds.{list_any-append}
-use Rattle.indexmap.specs.IndexMap.{insert_entry}
 use Rattle.sc_ledger.specs.declared.queues.Queues.{Queues}
 use Rattle.sc_ledger.specs.Kept.{runs, counts_for}
 use Rattle.std.specs.Prelude.{IfSome}
 use Rattle.sc_actor.specs.Mail.{numbers}
 use Rattle.sc_actor.specs.System.{kth}
 use Rattle.sc_ledger.specs.Queues.{open_entries, copies_in, queue_of, recounted, kept, Holds}
-use Rattle.sc_ledger.proofs.Entries.{lookup_none, recounted_at, set_other, push_here, push_other, open_same, open_none, expand}
+use Rattle.sc_ledger.proofs.Entries.{recounted_at, set_other, push_here, push_other, open_same, open_none, expand}
 
 or_true : (b : Bool) → (true || b) ≡ true
 or_true b = refl
@@ -48,18 +46,9 @@ module _ (actors : ℕ) (crashed : List ℕ) where
       each = λ k lt. h.each k lt ∙ sym (set_other (counts_for actors crashed (suc k)) p 1 count rs cs (counts_not (suc k) (get_or rs p 0) e));
     }
 
-    -- a mail without copies is not in the queue of all
-    pub absent_all : (key p : ℕ) → key ≡ 1 + p → get_or cs p 0 ≡ 0 → lookup (nat_eq key) q.all.entries ≡ None
-    absent_all key p is none = ap (lookup (nat_eq key)) h.all ∙ lookup_none (counts_for actors crashed 0) key p 1 rs cs is none
-
-    -- a mail without copies is in no actor's queue
-    pub absent_own : (key p r : ℕ) → key ≡ 1 + p → get_or cs p 0 ≡ 0 → 0 < r → r ≤ actors → lookup (nat_eq key) (get_or (kept q) (r - 1) []) ≡ None
-    absent_own key p r is none some within =
-        ap (lookup (nat_eq key)) (h.each (r - 1) (omega arith)) ∙ lookup_none (counts_for actors crashed (suc (r - 1))) key p 1 rs cs is none
-
     module _ (t : Queues) (key p r count : ℕ) (back : Bool) (is : key ≡ 1 + p) (lt : p < length rs) (same : length cs ≡ length rs) (to : get_or rs p 0 ≡ r) (ok : runs actors crashed r ≡ true)
         (none : back ≡ true → get_or cs p 0 ≡ 0) (had : back ≡ false → count ≢ 0 → 0 < get_or cs p 0)
-        (all : t.all.entries ≡ recounted q.all.entries key back count) (each : kept t ≡ set (kept q) (r - 1) (recounted (get_or (kept q) (r - 1) []) key back count)) where
+        (all : t.all.items ≡ recounted q.all.items key back count) (each : kept t ≡ set (kept q) (r - 1) (recounted (get_or (kept q) (r - 1) []) key back count)) where
       at : (who : ℕ) → counts_for actors crashed who r ≡ true → recounted (open_entries (counts_for actors crashed who) 1 rs cs) key back count ≡ open_entries (counts_for actors crashed who) 1 rs (set cs p count)
       at who yes' = recounted_at (counts_for actors crashed who) key p count back rs cs is lt same (ap (counts_for actors crashed who) to ∙ yes') none had
 
@@ -93,32 +82,32 @@ module _ (actors : ℕ) (crashed : List ℕ) where
     }
 
     module _ (t : Queues) (key r : ℕ) (is : key ≡ 1 + length rs) (same : length cs ≡ length rs) (ok : runs actors crashed r ≡ true)
-        (all : t.all.entries ≡ recounted q.all.entries key false 1) (each : kept t ≡ set (kept q) (r - 1) (recounted (get_or (kept q) (r - 1) []) key false 1)) where
+        (all : t.all.items ≡ q.all.items ++ (key, 1) ∷ []) (each : kept t ≡ set (kept q) (r - 1) (get_or (kept q) (r - 1) [] ++ (key, 1) ∷ [])) where
       new_each : (k : ℕ) → k < actors → get_or (kept t) k [] ≡ open_entries (counts_for actors crashed (suc k)) 1 (rs ++ r ∷ []) (cs ++ 1 ∷ [])
       new_each k inside =
           let within = runs_within r ok in
           ap (λ l. get_or l k []) each
           ∙ dite (ℕ_discrete k (r - 1))
           (λ e. let here : r ≡ suc k = omega (arith, e, within.0) in
-          ap (λ n. get_or (set (kept q) n (recounted (get_or (kept q) n []) key false 1)) k []) (sym e)
-          ∙ (get_or-set_same (kept q) k (recounted (get_or (kept q) k []) key false 1) [] (omega (arith, h.many))
-          ∙ (ap (λ es. recounted es key false 1) (h.each k inside) ∙ push_here (counts_for actors crashed (suc k)) key 1 r rs cs is same (counts_own (suc k) r (omega arith) here ok) (omega arith))))
+          ap (λ n. get_or (set (kept q) n (get_or (kept q) n [] ++ (key, 1) ∷ [])) k []) (sym e)
+          ∙ (get_or-set_same (kept q) k (get_or (kept q) k [] ++ (key, 1) ∷ []) [] (omega (arith, h.many))
+          ∙ (ap (λ es. es ++ (key, 1) ∷ []) (h.each k inside) ∙ push_here (counts_for actors crashed (suc k)) key 1 r rs cs is same (counts_own (suc k) r (omega arith) here ok) (omega arith))))
           (λ ne. let apart : r ≢ suc k = (λ e. ne (omega (arith, e))) in
-          get_or-set_other (kept q) (r - 1) k (recounted (get_or (kept q) (r - 1) []) key false 1) [] ne
+          get_or-set_other (kept q) (r - 1) k (get_or (kept q) (r - 1) [] ++ (key, 1) ∷ []) [] ne
           ∙ (h.each k inside ∙ sym (push_other (counts_for actors crashed (suc k)) 1 1 r rs cs same (ap (λ b. b && true) (counts_apart (suc k) r (omega arith) apart)))))
 
       -- one more mail, which counts
       pub holds_new : Holds t actors crashed (rs ++ r ∷ []) (cs ++ 1 ∷ [])
       holds_new = record {
-        many = ap length each ∙ (length-set (kept q) (r - 1) (recounted (get_or (kept q) (r - 1) []) key false 1) ∙ h.many);
-        all = all ∙ (ap (λ es. recounted es key false 1) h.all ∙ push_here (counts_for actors crashed 0) key 1 r rs cs is same (ap (λ b. true && b) ok) (omega arith));
+        many = ap length each ∙ (length-set (kept q) (r - 1) (get_or (kept q) (r - 1) [] ++ (key, 1) ∷ []) ∙ h.many);
+        all = all ∙ (ap (λ es. es ++ (key, 1) ∷ []) h.all ∙ push_here (counts_for actors crashed 0) key 1 r rs cs is same (ap (λ b. true && b) ok) (omega arith));
         each = new_each;
       }
 
   module _ (q t : Queues) where
     -- the queues hold one more mail, if adding it did not fail
     pub add_done : {R : Type 0} (res : Result (Unit {0}) R) (key r : ℕ) → runs actors crashed r ≡ true →
-        OnOk res (t.all.entries ≡ recounted q.all.entries key false 1) → OnOk res (kept t ≡ set (kept q) (r - 1) (recounted (get_or (kept q) (r - 1) []) key false 1)) →
+        OnOk res (t.all.items ≡ q.all.items ++ (key, 1) ∷ []) → OnOk res (kept t ≡ set (kept q) (r - 1) (get_or (kept q) (r - 1) [] ++ (key, 1) ∷ [])) →
         OnOk res ((rs cs : List ℕ) → Holds q actors crashed rs cs → length cs ≡ length rs → key ≡ 1 + length rs → Holds t actors crashed (rs ++ r ∷ []) (cs ++ 1 ∷ []))
     add_done (Err e) key r ok all each = tt
     add_done (Ok u) key r ok all each = λ rs cs h same is. holds_new q rs cs h t key r is same ok all each
@@ -126,7 +115,7 @@ module _ (actors : ℕ) (crashed : List ℕ) where
     module _ (rs cs : List ℕ) (h : Holds q actors crashed rs cs) (number p r : ℕ) (is : number ≡ suc p) (lt : p < length rs) (same : length cs ≡ length rs) (to : get_or rs p 0 ≡ r) (ok : runs actors crashed r ≡ true) where
       -- the queues hold one more copy, if counting it did not fail
       pub more_done : {R : Type 0} (res : Result (Unit {0}) R) (back : Bool) → back ≡ eqb (get_or cs p 0) 0 →
-          OnOk res (t.all.entries ≡ recounted q.all.entries number back (get_or cs p 0 + 1)) →
+          OnOk res (t.all.items ≡ recounted q.all.items number back (get_or cs p 0 + 1)) →
           OnOk res (kept t ≡ set (kept q) (r - 1) (recounted (get_or (kept q) (r - 1) []) number back (get_or cs p 0 + 1))) →
           OnOk res (Holds t actors crashed rs (one_more cs number))
       more_done (Err e) back b all each = tt
@@ -139,7 +128,7 @@ module _ (actors : ℕ) (crashed : List ℕ) where
 
       -- the queues hold one copy less, if counting it did not fail
       pub less_done : {R : Type 0} (res : Result (Unit {0}) R) (count : ℕ) → count ≡ get_or cs p 0 - 1 →
-          OnOk res (t.all.entries ≡ recounted q.all.entries number false count) →
+          OnOk res (t.all.items ≡ recounted q.all.items number false count) →
           OnOk res (kept t ≡ set (kept q) (r - 1) (recounted (get_or (kept q) (r - 1) []) number false count)) →
           OnOk res (Holds t actors crashed rs (one_less cs number))
       less_done (Err e) count less all each = tt
@@ -184,7 +173,7 @@ module _ (actors : ℕ) (crashed : List ℕ) (who : ℕ) where
       (λ e. ap (λ b. (eqb w 0 || eqb r w) && b) (and_true (runs actors crashed r) ∙ (ap (λ b. runs actors crashed r && not b) (sym (ne_eqb who r (λ f. ne (sym (f ∙ e))))) ∙ sym (runs_after r))))
       (λ apart. counts_apart actors crashed w r some apart ∙ sym (counts_apart actors (crashed ++ who ∷ []) w r some apart))
 
-  module _ (q t : Queues) (rs cs : List ℕ) (h : Holds q actors crashed rs cs) (all : t.all.entries ≡ open_entries (counts_for actors (crashed ++ who ∷ []) 0) 1 rs cs) where
+  module _ (q t : Queues) (rs cs : List ℕ) (h : Holds q actors crashed rs cs) (all : t.all.items ≡ open_entries (counts_for actors (crashed ++ who ∷ []) 0) 1 rs cs) where
     other_each : (k : ℕ) → k < actors → suc k ≢ who → get_or (kept q) k [] ≡ open_entries (counts_for actors (crashed ++ who ∷ []) (suc k)) 1 rs cs
     other_each k lt ne = h.each k lt ∙ open_same (counts_for actors crashed (suc k)) (counts_for actors (crashed ++ who ∷ []) (suc k)) (λ r. other_same (suc k) r (omega arith) ne) 1 rs cs
 
@@ -223,16 +212,15 @@ module _ (test : ℕ → Bool) (i : ℕ) (rs cs : List ℕ) (lt : i < length rs)
   lengths = (length-take-le i rs (omega arith), length-take-le i cs (omega (arith, same)))
 
   -- one mail more, which is pending
-  pub take_here : (all next : List (ℕ × ℕ)) (key : ℕ) → all ≡ open_entries test 1 (take i rs) (take i cs) → key ≡ i + 1 → (test (get_or rs i 0) && nat_lt 0 (get_or cs i 0)) ≡ true → next ≡ recounted all key false (get_or cs i 0) →
+  pub take_here : (all next : List (ℕ × ℕ)) (key : ℕ) → all ≡ open_entries test 1 (take i rs) (take i cs) → key ≡ i + 1 → (test (get_or rs i 0) && nat_lt 0 (get_or cs i 0)) ≡ true → next ≡ all ++ (key, get_or cs i 0) ∷ [] →
       next ≡ open_entries test 1 (take (i + 1) rs) (take (i + 1) cs)
   take_here all next key is number stays new =
       let parts = and_parts _ _ stays in
       let some : 0 < get_or cs i 0 = ltb-true 0 (get_or cs i 0) parts.1 in
       new
-      ∙ (ap (λ b. cond b (remove_entry (nat_eq key) all) (insert_entry nat_eq all key (get_or cs i 0))) (ne_eqb (get_or cs i 0) 0 (omega (arith, some)))
-      ∙ (ap (λ es. insert_entry nat_eq es key (get_or cs i 0)) is
+      ∙ (ap (λ es. es ++ (key, get_or cs i 0) ∷ []) is
       ∙ (push_here test key (get_or cs i 0) (get_or rs i 0) (take i rs) (take i cs) (omega (arith, number, lengths.0)) (lengths.1 ∙ sym lengths.0) parts.0 some
-      ∙ (λ j. open_entries test 1 (sym (longer_take rs i lt) j) (sym (longer_take cs i (omega (arith, lt, same))) j)))))
+      ∙ (λ j. open_entries test 1 (sym (longer_take rs i lt) j) (sym (longer_take cs i (omega (arith, lt, same))) j))))
 
   -- one mail more, which is not
   pub take_other : (all : List (ℕ × ℕ)) → all ≡ open_entries test 1 (take i rs) (take i cs) → (test (get_or rs i 0) && nat_lt 0 (get_or cs i 0)) ≡ false → all ≡ open_entries test 1 (take (i + 1) rs) (take (i + 1) cs)
@@ -247,7 +235,7 @@ module _ (q : Queues) (actors : ℕ) (crashed rs cs : List ℕ) (h : Holds q act
   queue_is zero within = ap copies_in h.all ∙ expand (counts_for actors crashed 0) 1 rs cs
   queue_is (suc w) within =
       let back : suc w - 1 ≡ w = omega arith in
-      ap (λ b. copies_in (cond b q.all.entries (get_or (kept q) (suc w - 1) []))) (ne_eqb (suc w) 0 (omega arith))
+      ap (λ b. copies_in (cond b q.all.items (get_or (kept q) (suc w - 1) []))) (ne_eqb (suc w) 0 (omega arith))
       ∙ (ap (λ k. copies_in (get_or (kept q) k [])) back
       ∙ (ap copies_in (h.each w (omega arith)) ∙ expand (counts_for actors crashed (suc w)) 1 rs cs))
 
@@ -257,7 +245,7 @@ module _ (q : Queues) (actors : ℕ) (crashed rs cs : List ℕ) (h : Holds q act
       is ∙ (ap (λ l. kth l k) (queue_is who (subst (λ n. who ≤ n) same within)) ∙ ap (λ n. kth (numbers (counts_for n crashed who) 1 rs cs) k) (sym same))
 
   -- the queue of all has what is pending for all
-  pub queue_all : (number : ℕ) → number ≡ actors → copies_in q.all.entries ≡ numbers (counts_for number crashed 0) 1 rs cs
+  pub queue_all : (number : ℕ) → number ≡ actors → copies_in q.all.items ≡ numbers (counts_for number crashed 0) 1 rs cs
   queue_all number same = queue_is 0 (omega arith) ∙ ap (λ n. numbers (counts_for n crashed 0) 1 rs cs) (sym same)
 
 -- queues that are there hold what is pending

@@ -5,3 +5,5 @@ pub mod Spotting
 pub mod Entries
 pub mod Holding
 pub mod Homing
+mod Places
+mod Counted

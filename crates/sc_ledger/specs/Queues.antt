@@ -30,14 +30,14 @@ recounted entries number back count =
 
 -- the entries of each actor's queue
 abbrev pub kept : Queues → List (List (ℕ × ℕ))
-kept q = map (λ m. m.entries) q.each.items
+kept q = map (λ m. m.items) q.each.items
 
 -- Where these are the receivers and the counts of all mail, the queues hold what is pending: one of all mail, and one for each actor, from 1 on.
 pub record Holds (q : Queues) (actors : ℕ) (crashed receivers counts : List ℕ) : Type 0 where
   pub many : length (kept q) ≡ actors
-  pub all : q.all.entries ≡ open_entries (counts_for actors crashed 0) 1 receivers counts
+  pub all : q.all.items ≡ open_entries (counts_for actors crashed 0) 1 receivers counts
   pub each : (k : ℕ) → k < actors → slice_index_or (kept q) k [] ≡ open_entries (counts_for actors crashed (suc k)) 1 receivers counts
 
 -- the entries of an actor's queue, or of that of all where the number is 0
 abbrev pub queue_of : Queues → ℕ → List (ℕ × ℕ)
-queue_of q who = if who == 0 then q.all.entries else slice_index_or (kept q) (who - 1) []
+queue_of q who = if who == 0 then q.all.items else slice_index_or (kept q) (who - 1) []

@@ -1,5 +1,5 @@
 -- Where each pending copy stands.
-use Rattle.std.specs.Prelude.{ℕ, ◌+◌, ◌-◌, ◌==◌, List, [], ◌∷◌, ◌++◌, map, length, filter, fold, slice_index}
+use Rattle.std.specs.Prelude.{◌≡◌, ℕ, ◌<◌, ◌+◌, ◌-◌, ◌==◌, List, [], ◌∷◌, ◌++◌, map, length, filter, fold, slice_index}
 use Rattle.sc_actor.specs.declared.rows.Row.{Row}
 use Rattle.sc_actor.specs.Mail.{mails}
 use Rattle.sc_ledger.specs.declared.spots.Spot.{Spot}
@@ -9,6 +9,14 @@ use Rattle.sc_ledger.specs.Pending.{pending_of}
 abbrev pub spot_after : List ℕ → List Spot → ℕ → Spot
 spot_after receivers before number =
     record { number = number; who = slice_index receivers (number - 1); k = length (filter (λ s. s.who == slice_index receivers (number - 1)) before) + 1 }
+
+-- of each receiver for which there is a count, this is how many of the copies have it
+abbrev pub AreCounted : List ℕ → List Spot → Type 0
+AreCounted counts spots = (who : ℕ) → who < length counts → slice_index counts who ≡ length (filter (λ s. s.who == who) spots)
+
+-- a copy that has the place after those with its receiver
+abbrev pub IsNext : List Spot → Spot → Type 0
+IsNext before spot = spot.k ≡ length (filter (λ s. s.who == spot.who) before) + 1
 
 -- the copies of these mails, one after the other
 abbrev pub spots_from : List ℕ → List ℕ → List Spot

@@ -1,86 +1,113 @@
 //! Pending mail by number, in ascending order, each number with its copies.
-ghost use Rattle.std.specs.Prelude.{◌≡◌, ◌<◌, None, true, IfOk, OnOk, nat_eq, nat_lt, insert, length, filter};
+ghost use Rattle.std.specs.Prelude.{◌≡◌, ◌==◌, ◌<◌, ◌∷◌, ◌++◌, [], IfOk, OnOk, nat_eq, insert, position};
 ghost use Rattle.std.specs.Map.{remove_entry};
-ghost use Rattle.indexmap.specs.IndexMap.{get};
+ghost use Rattle.indexmap.specs.IndexMap.{insert_entry};
 ghost use Rattle.sc_actor.specs.System.{kth};
 ghost use Rattle.sc_ledger.specs.Queues.{copies_in, lower, recounted};
 
 use crate::finding::add_copies;
-use indexmap::IndexMap;
 use sc_base::OutOfMemory;
 use std::alloc::Global;
 
-/// The numbers of pending mail, each with its copies.
-pub(crate) type Copies = IndexMap<u32, u32>;
+/// The numbers of pending mail, each with its copies. Most that leave stand first, and each that
+/// comes goes last: so a plain list is faster than a map, which would keep its table in step.
+pub(crate) type Copies = Vec<(u32, u32)>;
 
 // How many of the numbers are lower.
-fn lower(copies: &Copies, number: u32) -> usize
-    ensures { result ≡ lower copies.now.entries number }
+fn lower(copies: &[(u32, u32)], number: u32) -> usize
+    ensures { result ≡ lower copies.now number }
 {
-    let mut found = 0usize;
-    for (other, _count) in copies.iter() {
-        if *other < number {
-            found = found.saturating_add(1);
-        }
+    copies.iter().filter(|entry| entry.0 < number).count()
+}
+
+// Where a number stands.
+fn place_of(copies: &[(u32, u32)], number: u32) -> Option<usize>
+    ensures { result ≡ position (λ entry. entry.0 == number) copies.now }
+{
+    copies.iter().position(|entry| entry.0 == number)
+}
+
+// Takes a number out.
+fn take_out(copies: &mut Copies, number: u32)
+    ensures { copies.new.items ≡ remove_entry (nat_eq number) copies.old.items }
+{
+    if let Some(place) = place_of(copies.as_slice(), number) {
+        copies.remove(place);
     }
-    found
+}
+
+// Gives a number another count. One that is not there goes last.
+fn replace(copies: &mut Copies, number: u32, count: u32) -> Result<(), OutOfMemory>
+    ensures { OnOk result (copies.new.items ≡ insert_entry nat_eq copies.old.items number count) }
+{
+    match place_of(copies.as_slice(), number) {
+        Some(place) => copies[place] = (number, count),
+        None => copies.push((number, count))?,
+    }
+    Ok(())
 }
 
 // Puts a number without a copy into its place.
 fn put_back(copies: &mut Copies, number: u32, count: u32) -> Result<(), OutOfMemory>
-    requires { get nat_eq copies.old number ≡ None }
     ensures { OnOk result
-        (copies.new.entries
-        ≡ insert copies.old.entries (lower copies.old.entries number) (number, count)) }
+        (copies.new.items
+        ≡ insert copies.old.items (lower copies.old.items number) (number, count)) }
 {
-    let place = lower(copies, number);
-    copies.shift_insert(place, number, count)?;
+    let place = lower(copies.as_slice(), number);
+    copies.insert(place, (number, count))?;
     Ok(())
 }
 
-/// A number has `count` copies now. One that comes back had none, and a new one goes last.
+/// A number has `count` copies now. One that comes back had none.
 pub(crate) fn recount(
     copies: &mut Copies,
     number: u32,
     back: bool,
     count: u32,
 ) -> Result<(), OutOfMemory>
-    requires { back ≡ true → get nat_eq copies.old number ≡ None }
-    ensures { OnOk result (copies.new.entries ≡ recounted copies.old.entries number back count) }
+    ensures { OnOk result (copies.new.items ≡ recounted copies.old.items number back count) }
 {
     if count == 0 {
-        copies.shift_remove(&number);
+        take_out(copies, number);
         return Ok(());
     }
     if back {
         return put_back(copies, number, count);
     }
-    copies.insert(number, count)?;
+    replace(copies, number, count)
+}
+
+/// A new number goes last.
+pub(crate) fn add_last(copies: &mut Copies, number: u32, count: u32) -> Result<(), OutOfMemory>
+    ensures { OnOk result (copies.new.items ≡ copies.old.items ++ (number, count) ∷ []) }
+{
+    copies.push((number, count))?;
     Ok(())
 }
 
 /// The k-th of the numbers, each as often as it has copies.
-pub(crate) fn kth_in(copies: &Copies, k: u32) -> Option<u32>
+pub(crate) fn kth_in(copies: &[(u32, u32)], k: u32) -> Option<u32>
     requires { 0 < k }
-    ensures { result ≡ kth (copies_in copies.now.entries) k }
+    ensures { result ≡ kth (copies_in copies.now) k }
 {
     let mut left = k;
-    for (number, count) in copies.iter() {
-        if left <= *count {
-            return Some(*number);
+    for entry in copies {
+        if left <= entry.1 {
+            return Some(entry.0);
         }
-        left -= *count;
+        left -= entry.1;
     }
     None
 }
 
 /// The numbers, each as often as it has copies.
-pub(crate) fn numbers_in(alloc: Global, copies: &Copies) -> Result<Vec<u32>, OutOfMemory>
-    ensures { IfOk result (λ found. found.items ≡ copies_in copies.now.entries) }
+pub(crate) fn numbers_in(alloc: Global, copies: &[(u32, u32)]) -> Result<Vec<u32>, OutOfMemory>
+    ensures { IfOk result (λ found. found.items ≡ copies_in copies.now) }
 {
     let mut found = Vec::new(alloc);
-    for (number, count) in copies.iter() {
-        add_copies(&mut found, *number, *count)?;
+    found.reserve(copies.len())?;
+    for entry in copies {
+        add_copies(&mut found, entry.0, entry.1)?;
     }
     Ok(found)
 }

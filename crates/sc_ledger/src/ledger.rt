@@ -12,7 +12,6 @@ ghost use Rattle.sc_ledger.specs.Homes.{homes_from, firsts_from};
 ghost use Rattle.sc_ledger.specs.Queues.{Holds};
 ghost use Rattle.sc_ledger.specs.Spots.{spots_of};
 
-use crate::copies::numbers_in;
 use crate::counting::{bytes_with, note_home};
 use crate::faults::{PostFault, Unkept};
 use crate::finding::{has_copy, kth_open, open_numbers, runs};
@@ -153,7 +152,7 @@ impl<M: Parcel + Drop, O: Drop> Ledger<M, O> {
     {
         if let Some(queues) = &self.queues {
             if actors == self.actors {
-                return numbers_in(alloc, &queues.all);
+                return queues.numbers(alloc);
             }
         }
         open_numbers(
@@ -229,7 +228,7 @@ impl<M: Parcel + Drop, O: Drop> Ledger<M, O> {
     {
         let numbers = self.find_all(alloc, actors)?;
         let receivers = self.receivers.as_slice();
-        let pending = spots_from(alloc, receivers, numbers.as_slice())?;
+        let pending = spots_from(alloc, actors, receivers, numbers.as_slice())?;
         let sent = receivers.len() as u32;
         Ok(Look { sent, pending })
     }

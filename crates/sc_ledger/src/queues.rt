@@ -1,15 +1,13 @@
 //! Pending mail per actor, so that the first of it is found at once.
 ghost use Rattle.std.specs.Prelude.{◌≡◌, ◌<◌, ◌≤◌, ◌+◌, ◌-◌, ◌^◌, ◌++◌, ◌∷◌, [], ℕ, None, IfOk, OnOk, IfSome, List, true, nat_eq, nat_lt, ◌&&◌, length, map, replicate, slice_index, slice_index_or, slice_set, vec_len, vec_capacity, if◌then◌else◌};
-ghost use Rattle.std.specs.Map.{lookup};
 ghost use Rattle.sc_actor.specs.Mail.{one_less, one_more, counts_at, is_crash};
 ghost use Rattle.sc_ledger.specs.Kept.{counts_for};
 ghost use Rattle.sc_actor.specs.System.{kth};
 ghost use Rattle.sc_ledger.specs.Queues.{Holds, copies_in, open_entries};
 
-use crate::copies::{Copies, kth_in, recount};
+use crate::copies::{Copies, add_last, kth_in, numbers_in, recount};
 use crate::counting::{add_counts, add_crash, add_receivers, count_event};
 use crate::finding::runs;
-use indexmap::IndexMap;
 use sc_actor::{Event, Parcel, Row};
 use sc_base::OutOfMemory;
 use std::alloc::Global;
@@ -31,9 +29,9 @@ impl Queues {
         let mut each = Vec::new(alloc);
         for i in 0..actors {
             let _ = i;
-            each.push(IndexMap::new(alloc))?;
+            each.push(Vec::new(alloc))?;
         }
-        let all = IndexMap::new(alloc);
+        let all = Vec::new(alloc);
         Ok(Queues { all, each })
     }
 
@@ -44,9 +42,16 @@ impl Queues {
         ensures { result ≡ kth (copies_in (queue_of self.now who)) k }
     {
         if who == 0 {
-            return kth_in(&self.all, k);
+            return kth_in(self.all.as_slice(), k);
         }
-        kth_in(&self.each[who as usize - 1], k)
+        kth_in(self.each[who as usize - 1].as_slice(), k)
+    }
+
+    /// The numbers of all pending mail, each as often as it has copies.
+    pub(crate) fn numbers(&self, alloc: Global) -> Result<Vec<u32>, OutOfMemory>
+        ensures { IfOk result (λ found. found.items ≡ copies_in self.now.all.items) }
+    {
+        numbers_in(alloc, self.all.as_slice())
     }
 
     // A mail to this receiver has `count` copies now.
@@ -58,11 +63,8 @@ impl Queues {
         count: u32,
     ) -> Result<(), OutOfMemory>
         requires receiver { (0 < receiver) × (receiver ≤ length self.old.each.items) }
-        requires all { back ≡ true → lookup (nat_eq number) self.old.all.entries ≡ None }
-        requires own { back ≡ true →
-            lookup (nat_eq number) (slice_index_or (kept self.old) (receiver - 1) []) ≡ None }
         ensures all { OnOk result
-            (self.new.all.entries ≡ recounted self.old.all.entries number back count) }
+            (self.new.all.items ≡ recounted self.old.all.items number back count) }
         ensures each { OnOk result
             (kept self.new
             ≡ slice_set (kept self.old) (receiver - 1)
@@ -71,6 +73,20 @@ impl Queues {
         recount(&mut self.all, number, back, count)?;
         let own = &mut self.each[receiver as usize - 1];
         recount(own, number, back, count)
+    }
+
+    // A new mail to this receiver has one copy.
+    fn add_copy(&mut self, receiver: u32, number: u32) -> Result<(), OutOfMemory>
+        requires receiver { (0 < receiver) × (receiver ≤ length self.old.each.items) }
+        ensures all { OnOk result (self.new.all.items ≡ self.old.all.items ++ (number, 1) ∷ []) }
+        ensures each { OnOk result
+            (kept self.new
+            ≡ slice_set (kept self.old) (receiver - 1)
+            (slice_index_or (kept self.old) (receiver - 1) [] ++ (number, 1) ∷ [])) }
+    {
+        add_last(&mut self.all, number, 1)?;
+        let own = &mut self.each[receiver as usize - 1];
+        add_last(own, number, 1)
     }
 
     // The mail with this number has one copy more, or one less where it has any.
@@ -123,7 +139,7 @@ impl Queues {
         if !runs(actors, crashed, receiver) {
             return Ok(());
         }
-        self.set_copies(receiver, number, false, 1)
+        self.add_copy(receiver, number)
     }
 
     // The actor `who` has crashed.
@@ -202,13 +218,13 @@ fn without(
     requires few { length receivers.now < 2 ^ 32 - 1 }
     ensures { IfOk result
         (λ all.
-        all.entries
+        all.items
         ≡ open_entries (counts_for actors (crashed.now ++ who ∷ []) 0) 1 receivers.now counts.now) }
 {
-    let mut all = IndexMap::new(alloc);
+    let mut all = Vec::new(alloc);
     for i in 0..receivers.len() {
         if stays(actors, crashed, who, receivers[i], counts[i]) {
-            recount(&mut all, i as u32 + 1, false, counts[i])?;
+            add_last(&mut all, i as u32 + 1, counts[i])?;
         }
     }
     Ok(all)

@@ -1,11 +1,22 @@
-use Rattle.std.proofs.Common.{sym, ap, ◌∙◌}
+use Rattle.std.proofs.Common.{sym, ap, ◌∙◌, ◌+◌, drop, get_or, arith}
+use Rattle.std.proofs.lemmas.List.{drop_more}
 use Rattle.sc_actor.specs.System.{kth}
 use Rattle.sc_ledger.specs.Queues.{copies_in}
-use Rattle.sc_actor.proofs.Numbers.{kth-here}
+use Rattle.sc_actor.proofs.Numbers.{kth-here, kth-past}
 use Rattle.sc_ledger.proofs.copies.kth_in.Goals as goal
 
-pub returns-then-left-count : goal.returns-then-left-count
-returns-then-left-count c =
-    sym (c.loop-number.invariant.1
-    ∙ (ap (λ es. kth (copies_in es) c.loop-number.left) c.in-Some.ensures.steps
-    ∙ kth-here c.in-Some.count.now c.in-Some.number.now c.loop-number.left (copies_in c.next.new.self) c.loop-number.invariant.0 c.if-left-count.true))
+pub loop-entry-preserved : goal.loop-entry-preserved
+loop-entry-preserved c =
+    let es = c.args.copies.now in let i = c.loop-entry.entry-index in let left = c.loop-entry.left in let e = get_or es i (0, 0) in (
+      omega arith,
+      c.loop-entry.invariant.1
+          ∙ (ap (λ l. kth (copies_in l) left) (drop_more es i (0, 0) (omega arith))
+          ∙ kth-past e.1 e.0 left (copies_in (drop (i + 1) es)) (omega arith)),
+    )
+
+pub returns-then-left-entry : goal.returns-then-left-entry
+returns-then-left-entry c =
+    let es = c.args.copies.now in let i = c.loop-entry.entry-index in let left = c.loop-entry.left in let e = get_or es i (0, 0) in
+    sym (c.loop-entry.invariant.1
+    ∙ (ap (λ l. kth (copies_in l) left) (drop_more es i (0, 0) (omega arith))
+    ∙ kth-here e.1 e.0 left (copies_in (drop (i + 1) es)) c.loop-entry.invariant.0 (omega arith)))

@@ -11,7 +11,7 @@ ok_same f (Err x) e p = tt
 pub returns-then-actors-self : goal.returns-then-actors-self
 returns-then-actors-self g c = let s = c.args.self.now in
     let h = held s.queues c.in-Some.queues s.actors s.crashed.items s.receivers.items s.counts.items c.in-Some.is s.queued in
-    ok_same (λ found. found.items) c.numbers_in.result (queue_all c.in-Some.queues s.actors s.crashed.items s.receivers.items s.counts.items h c.args.actors c.if-actors-self.true) c.numbers_in.ensures
+    ok_same (λ found. found.items) c.numbers.result (queue_all c.in-Some.queues s.actors s.crashed.items s.receivers.items s.counts.items h c.args.actors c.if-actors-self.true) c.numbers.ensures
 
 pub open_numbers-requires : goal.open_numbers-requires
 open_numbers-requires g c = let s = c.args.self.now in record {

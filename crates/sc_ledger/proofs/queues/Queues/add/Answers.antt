@@ -11,4 +11,4 @@ returns-then-not-runs c =
 pub returns : goal.returns
 returns c =
     let ok : runs c.args.actors c.args.crashed.now c.args.receiver ≡ true = search rules in
-    add_done c.args.actors c.args.crashed.now c.args.self.now c.set_copies.new.self c.set_copies.result c.args.number c.args.receiver ok c.set_copies.ensures.all c.set_copies.ensures.each
+    add_done c.args.actors c.args.crashed.now c.args.self.now c.add_copy.new.self c.add_copy.result c.args.number c.args.receiver ok c.add_copy.ensures.all c.add_copy.ensures.each

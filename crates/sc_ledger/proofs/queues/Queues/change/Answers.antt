@@ -1,25 +1,14 @@
 use Rattle.std.proofs.Common.{rules, ◌≡◌, ◌-◌, ◌<◌, true, false, refl, sym, subst, cond, length, get_or, arith, OnOk}
-use Rattle.std.proofs.lemmas.Bool.{eqb-true}
 use Rattle.sc_actor.specs.Mail.{one_less, one_more}
 use Rattle.sc_ledger.specs.Kept.{runs}
 use Rattle.sc_ledger.specs.Queues.{Holds}
-use Rattle.sc_ledger.proofs.Holding.{runs_within, change_not, absent_all, absent_own, more_done, less_done}
+use Rattle.sc_ledger.proofs.Holding.{change_not, more_done, less_done}
 use Rattle.sc_ledger.proofs.queues.Queues.change.Goals as goal
 
 pub returns-then-not-runs : goal.returns-then-not-runs
 returns-then-not-runs c =
     let gone : runs c.args.actors c.args.crashed.now (get_or c.args.receivers.now (c.args.number - 1) 0) ≡ false = search rules in
     change_not c.args.actors c.args.crashed.now c.args.self.now c.args.receivers.now c.args.counts.now c.requires.holds c.args.number (c.args.number - 1) c.args.more (omega arith) gone
-
-pub set_copies-requires-clause-all : goal.set_copies-requires-clause-all
-set_copies-requires-clause-all c = λ e.
-    absent_all c.args.actors c.args.crashed.now c.args.self.now c.args.receivers.now c.args.counts.now c.requires.holds c.args.number (c.args.number - 1) (omega arith) (eqb-true (get_or c.args.counts.now (c.args.number - 1) 0) 0 e)
-
-pub set_copies-requires-clause-own : goal.set_copies-requires-clause-own
-set_copies-requires-clause-own c = λ e.
-    let ok : runs c.args.actors c.args.crashed.now (get_or c.args.receivers.now (c.args.number - 1) 0) ≡ true = search rules in
-    let within = runs_within c.args.actors c.args.crashed.now (get_or c.args.receivers.now (c.args.number - 1) 0) ok in
-    absent_own c.args.actors c.args.crashed.now c.args.self.now c.args.receivers.now c.args.counts.now c.requires.holds c.args.number (c.args.number - 1) (get_or c.args.receivers.now (c.args.number - 1) 0) (omega arith) (eqb-true (get_or c.args.counts.now (c.args.number - 1) 0) 0 e) within.0 within.1
 
 pub returns-then-more : goal.returns-then-more
 returns-then-more c =

@@ -8,7 +8,7 @@ use Rattle.sc_ledger.proofs.queues.Queues.crash.Goals as goal
 pub returns-then-who-actors : goal.returns-then-who-actors
 returns-then-who-actors c =
     crash_own c.args.actors c.args.crashed.now c.args.who c.args.self.now _ c.args.receivers.now c.args.counts.now c.requires.holds c.in_ok-self.ensures c.if-who-gt0.true
-    (map_set (λ m. m.entries) c.args.self.now.each.items (c.args.who - 1) c.clear.new.self ∙ ap (set (kept c.args.self.now) (c.args.who - 1)) c.clear.ensures.empty)
+    (map_set (λ m. m.items) c.args.self.now.each.items (c.args.who - 1) c.clear.new.self ∙ ap (set (kept c.args.self.now) (c.args.who - 1)) c.clear.ensures.items)
 
 pub returns-else-who-gt0 : goal.returns-else-who-gt0
 returns-else-who-gt0 c =
