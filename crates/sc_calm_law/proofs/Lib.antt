@@ -1,6 +1,7 @@
 pub mod OwedAsks
 pub mod OwedChanges
 pub mod OwedCounted
+pub mod OwedInstalls
 pub mod OwedLearn
 pub mod OwedLearnt
 pub mod OwedMailed

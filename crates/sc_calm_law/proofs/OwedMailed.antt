@@ -1,7 +1,8 @@
 -- What the rows of mail lower, by the body of the mail.
 use Rattle.sc_node_table.specs.Rows.{mailed}
-use Rattle.sc_calm_law.specs.Laws.{AnswersLower, AsksLower, LearnsLower, VotesLower}
+use Rattle.sc_calm_law.specs.Laws.{AnswersLower, AsksLower, LearnsLower, MovesLower, VotesLower}
 use Rattle.sc_calm_law.proofs.OwedAsks.{promise_lowers, request_lowers, offer_lowers, watch_lowers}
+use Rattle.sc_calm_law.proofs.OwedInstalls.{install_lowers, elsewhere_lowers}
 use Rattle.sc_calm_law.proofs.OwedLearn.{learn_lowers}
 use Rattle.sc_calm_law.proofs.OwedRows.{prepare_lowers, accept_lowers, nack_lowers, vote_lowers, watched_lowers, outcome_lowers}
 
@@ -32,4 +33,11 @@ asks = record {
   request = λ ways from client seq op place may points. request_lowers ways client seq op place may points;
   offer = λ ways from tx offer place may points asked. offer_lowers ways from tx offer place may points asked;
   watch = λ ways from tx watch place may points asked. watch_lowers ways from tx watch place may points asked;
+}
+
+pub moves : MovesLower
+unfolding mailed
+moves = record {
+  install = λ ways from group slot base sets place off stands. install_lowers ways from slot base sets place off stands;
+  elsewhere = λ ways from tx coord node place asks. elsewhere_lowers ways from tx node place asks;
 }

@@ -1,5 +1,5 @@
 -- What is proved of what rows of a calm journal owe.
-use Rattle.std.specs.Prelude.{◌≡◌, ℕ, ◌+◌, ◌*◌, ◌≤◌, ◌&&◌, not, true, false, List, [], length, filter, sum_by, None, Some}
+use Rattle.std.specs.Prelude.{◌≡◌, ℕ, ◌+◌, ◌*◌, ◌≤◌, ◌&&◌, not, true, false, List, [], length, filter, sum_by, Option, None, Some}
 use Rattle.sc_base.specs.Among.{Each}
 use Rattle.sc_cmd.specs.declared.commands.Command.{Command}
 use Rattle.sc_base.specs.Drawing.{Drawer}
@@ -8,12 +8,17 @@ use Rattle.sc_base.specs.declared.names.Draw.{Draw}
 use Rattle.sc_base.specs.declared.ops.Op.{Op}
 use Rattle.sc_cmd.specs.declared.bodies.Offer.{Offer}
 use Rattle.sc_cmd.specs.declared.bodies.Watch.{Watch}
+use Rattle.sc_cmd.specs.declared.bodies.Body.{Body}
+use Rattle.sc_cmd.specs.declared.cores.Base.{Base}
+use Rattle.sc_cmd.specs.declared.cores.Lock.TheVariants.{Coordinating}
+use Rattle.sc_cmd.specs.declared.votes.Heard.{Heard}
+use Rattle.sc_node_table.specs.Questions.{question}
 use Rattle.sc_cmd.specs.declared.orders.OrderLine.{OrderLine}
 use Rattle.sc_cmd.specs.declared.votes.Outcome.{Outcome}
 use Rattle.sc_cmd.specs.declared.votes.Past.{Past}
 use Rattle.sc_cmd.specs.declared.votes.Vote.{Vote}
 use Rattle.sc_mail.specs.declared.bodies.MailBody.{MailBody}
-use Rattle.sc_mail.specs.declared.bodies.MailBody.TheVariants.{Request, Prepare, Promise, Accept, Nack, Learn, TxPrepare, TxVote, TxOutcome, TxWatch, TxWatched}
+use Rattle.sc_mail.specs.declared.bodies.MailBody.TheVariants.{Request, Prepare, Promise, Accept, Nack, Learn, Install, TxElsewhere, TxPrepare, TxVote, TxOutcome, TxWatch, TxWatched}
 use Rattle.sc_paxos_words.specs.Ballots.{below}
 use Rattle.sc_node_table.specs.Ordering.{ordered_row}
 use Rattle.sc_node_table.specs.Rows.{mailed}
@@ -27,7 +32,7 @@ use Rattle.sc_node_table.specs.Spoken.{before_of, spoken}
 use Rattle.sc_node_table.specs.Execute.{entered, announced, executed_one}
 use Rattle.sc_node_table.specs.Pump.{pumped}
 use Rattle.sc_node_table.specs.Replica.{ReplicaState, Place, name_of, next, members}
-use Rattle.sc_calm_law.specs.Owed.{Ways, offered_owes, body_owes, mail_owes, place_owes}
+use Rattle.sc_calm_law.specs.Owed.{Ways, offered_owes, asked_owes, body_owes, mail_owes, place_owes}
 
 -- no report binds the leader at an open slot
 abbrev pub IsUnbound : ReplicaState → Type 0
@@ -165,3 +170,13 @@ pub record AsksLower : Type 0 where
 abbrev pub LeadersMayLeave : Type 0
 LeadersMayLeave =
     (ways : Ways) (node order : ℕ) (place : Place) → StopsAfter (Leave node order) place.0 → place_owes ways (executed_one true (Leave node order) place) ≤ place_owes ways place
+
+-- what a coordinator of a transaction asks of a node is what the ways say that it asks
+abbrev pub AsksAs : Ways → Draw → ℕ → ReplicaState → Type 0
+AsksAs ways tx node r =
+    (body : Body) (heard : Option Heard) (order : ℕ) → r.group.core.lock ≡ Coordinating tx body order heard → body_owes ways node (question r.me r.group.core tx body heard) ≤ asked_owes ways node (ways.asks tx)
+
+-- a state that comes to one that does not run is taken over, and a coordinator that is sent elsewhere asks there
+pub record MovesLower : Type 0 where
+  pub install : (ways : Ways) (from : ℕ) (group : Draw) (slot : ℕ) (base : Base) (sets : List (List ℕ)) (place : Place) → place.0.running ≡ false → place.0.group.core.gone ≡ None → Lowers ways from (Install group slot base sets) place
+  pub elsewhere : (ways : Ways) (from : ℕ) (tx coord : Draw) (node : ℕ) (place : Place) → AsksAs ways tx node place.0 → Lowers ways from (TxElsewhere tx coord (Some node)) place

@@ -3,7 +3,7 @@
 //! laws, no logic.
 #![tactic(auto)]
 
-ghost use Rattle.sc_calm_law.specs.Laws.{AnswersLower, AsksLower, ChangesRaiseNothing, CountedEntriesRaiseNothing, LeadersMayLeave, LearnsLower, LearntEntriesRaiseNothing, OrdersRaiseLittle, PumpsRaiseNothing, VotesLower};
+ghost use Rattle.sc_calm_law.specs.Laws.{AnswersLower, AsksLower, ChangesRaiseNothing, CountedEntriesRaiseNothing, LeadersMayLeave, LearnsLower, LearntEntriesRaiseNothing, MovesLower, OrdersRaiseLittle, PumpsRaiseNothing, VotesLower};
 ghost use Rattle.sc_calm_law.specs.Quiet.{FirstMembersLead, ReplicasBeginAtRest};
 
 /// What a leader offers was owed: a pump raises nothing, where no report names an open slot and at
@@ -72,4 +72,10 @@ pub fn first_members_lead()
 /// A leader that leaves raises nothing: its leave owed the election that its group then owes.
 pub fn leaders_may_leave()
     ensures { LeadersMayLeave }
+{}
+
+/// A state that comes to a replica that does not run, also where it is elected by it, and a mail
+/// that sends a coordinator to another node, lower what is owed.
+pub fn moves_lower()
+    ensures { MovesLower }
 {}
