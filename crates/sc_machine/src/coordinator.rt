@@ -1,7 +1,7 @@
 //! A group that coordinates a transaction: what its parties answer, and what it decides.
 ghost use Rattle.std.specs.Prelude.{◌≡◌, ◌⊎◌, IfOk, OnErr};
 ghost use Rattle.sc_machine_table.specs.Transactions.{decided, granted, participant_answered, asks_watcher, vote_recorded, released, watch_answered, watch_recorded, is_coordinating, given_up};
-ghost use Rattle.sc_machine.specs.Memory.{Makes, LooksThrough, MayLookThrough, LockLooksThrough};
+ghost use Rattle.sc_machine.specs.Memory.{Makes, LooksThrough, MayLookThrough, LockLooksThrough, CopiesHeard};
 
 use crate::machine::Machine;
 use sc_base::{Draw, Dup, OutOfMemory};
@@ -144,8 +144,7 @@ impl Machine {
         ensures step { IfOk result
             (λ effect.
             watch_recorded self.old.core.lock self.old tx vote.now ≡ (self.new, effect)) }
-        ensures memory { OnErr result
-            (Makes (watch_recorded self.old.core.lock self.old tx vote.now)) }
+        ensures memory { OnErr result (CopiesHeard self.old.core.lock tx) }
     {
         match &self.core.lock {
             Lock::Coordinating {
