@@ -9,21 +9,19 @@ use sc_base::OutOfMemory;
 use serde_json::{Map, Value as Json};
 use std::alloc::Global;
 
-/// A member of an object: its name, and the value whose JSON it is.
-pub(crate) type Member<'a, T> = (&'a str, &'a T);
-
 /// Adds a member to those of an object.
 pub(crate) fn add<T: ToJson>(
     members: &mut Map<String, Json>,
     alloc: Global,
-    member: Member<'_, T>,
+    name: &str,
+    value: &T,
 ) -> Result<(), OutOfMemory>
     ensures json { OnOk result (members_view members.new.entries
-        ≡ put member.0.now (T.json_of member.1.now) (members_view members.old.entries)) }
-    ensures fits { OnOk result (T.Fits member.1.now) }
+        ≡ put name.now (T.json_of value.now) (members_view members.old.entries)) }
+    ensures fits { OnOk result (T.Fits value.now) }
 {
-    let json = member.1.to_json(alloc)?;
-    serde_json::put(members, alloc, member.0, json)?;
+    let json = value.to_json(alloc)?;
+    serde_json::put(members, alloc, name, json)?;
     Ok(())
 }
 
@@ -31,145 +29,172 @@ pub(crate) fn add<T: ToJson>(
 pub(crate) fn add_six<A: ToJson, B: ToJson, C: ToJson, D: ToJson, E: ToJson, F: ToJson>(
     members: &mut Map<String, Json>,
     alloc: Global,
-    first: Member<'_, A>,
-    second: Member<'_, B>,
-    third: Member<'_, C>,
-    fourth: Member<'_, D>,
-    fifth: Member<'_, E>,
-    sixth: Member<'_, F>,
+    a: &str,
+    first: &A,
+    b: &str,
+    second: &B,
+    c: &str,
+    third: &C,
+    d: &str,
+    fourth: &D,
+    e: &str,
+    fifth: &E,
+    f: &str,
+    sixth: &F,
 ) -> Result<(), OutOfMemory>
     ensures json { OnOk result (members_view members.new.entries
-        ≡ put sixth.0.now (F.json_of sixth.1.now) (put fifth.0.now (E.json_of fifth.1.now)
-        (put fourth.0.now (D.json_of fourth.1.now) (put third.0.now (C.json_of third.1.now)
-        (put second.0.now (B.json_of second.1.now) (put first.0.now (A.json_of first.1.now)
+        ≡ put f.now (F.json_of sixth.now) (put e.now (E.json_of fifth.now)
+        (put d.now (D.json_of fourth.now) (put c.now (C.json_of third.now)
+        (put b.now (B.json_of second.now) (put a.now (A.json_of first.now)
         (members_view members.old.entries))))))) }
-    ensures fits { OnOk result (A.Fits first.1.now × B.Fits second.1.now × C.Fits third.1.now
-        × D.Fits fourth.1.now × E.Fits fifth.1.now × F.Fits sixth.1.now) }
+    ensures fits { OnOk result (A.Fits first.now × B.Fits second.now × C.Fits third.now
+        × D.Fits fourth.now × E.Fits fifth.now × F.Fits sixth.now) }
 {
-    add(members, alloc, first)?;
-    add(members, alloc, second)?;
-    add(members, alloc, third)?;
-    add(members, alloc, fourth)?;
-    add(members, alloc, fifth)?;
-    add(members, alloc, sixth)?;
+    add(members, alloc, a, first)?;
+    add(members, alloc, b, second)?;
+    add(members, alloc, c, third)?;
+    add(members, alloc, d, fourth)?;
+    add(members, alloc, e, fifth)?;
+    add(members, alloc, f, sixth)?;
     Ok(())
 }
 
 /// An object of one member.
-pub(crate) fn one<A: ToJson>(alloc: Global, first: Member<'_, A>) -> Result<Json, OutOfMemory>
+pub(crate) fn one<A: ToJson>(alloc: Global, a: &str, first: &A) -> Result<Json, OutOfMemory>
     ensures json { IfOk result (λ json. view json
-        ≡ object (put first.0.now (A.json_of first.1.now) no_members)) }
-    ensures fits { OnOk result (A.Fits first.1.now) }
+        ≡ object (put a.now (A.json_of first.now) no_members)) }
+    ensures fits { OnOk result (A.Fits first.now) }
 {
     let mut members = Map::new(alloc);
-    add(&mut members, alloc, first)?;
+    add(&mut members, alloc, a, first)?;
     Ok(Json::Object(members))
 }
 
 /// An object of two members.
 pub(crate) fn two<A: ToJson, B: ToJson>(
     alloc: Global,
-    first: Member<'_, A>,
-    second: Member<'_, B>,
+    a: &str,
+    first: &A,
+    b: &str,
+    second: &B,
 ) -> Result<Json, OutOfMemory>
     ensures json { IfOk result (λ json. view json
-        ≡ object (put second.0.now (B.json_of second.1.now) (put first.0.now (A.json_of first.1.now)
+        ≡ object (put b.now (B.json_of second.now) (put a.now (A.json_of first.now)
         no_members))) }
-    ensures fits { OnOk result (A.Fits first.1.now × B.Fits second.1.now) }
+    ensures fits { OnOk result (A.Fits first.now × B.Fits second.now) }
 {
     let mut members = Map::new(alloc);
-    add(&mut members, alloc, first)?;
-    add(&mut members, alloc, second)?;
+    add(&mut members, alloc, a, first)?;
+    add(&mut members, alloc, b, second)?;
     Ok(Json::Object(members))
 }
 
 /// An object of three members.
 pub(crate) fn three<A: ToJson, B: ToJson, C: ToJson>(
     alloc: Global,
-    first: Member<'_, A>,
-    second: Member<'_, B>,
-    third: Member<'_, C>,
+    a: &str,
+    first: &A,
+    b: &str,
+    second: &B,
+    c: &str,
+    third: &C,
 ) -> Result<Json, OutOfMemory>
     ensures json { IfOk result (λ json. view json
-        ≡ object (put third.0.now (C.json_of third.1.now) (put second.0.now (B.json_of second.1.now)
-        (put first.0.now (A.json_of first.1.now) no_members)))) }
-    ensures fits { OnOk result (A.Fits first.1.now × B.Fits second.1.now × C.Fits third.1.now) }
+        ≡ object (put c.now (C.json_of third.now) (put b.now (B.json_of second.now)
+        (put a.now (A.json_of first.now) no_members)))) }
+    ensures fits { OnOk result (A.Fits first.now × B.Fits second.now × C.Fits third.now) }
 {
     let mut members = Map::new(alloc);
-    add(&mut members, alloc, first)?;
-    add(&mut members, alloc, second)?;
-    add(&mut members, alloc, third)?;
+    add(&mut members, alloc, a, first)?;
+    add(&mut members, alloc, b, second)?;
+    add(&mut members, alloc, c, third)?;
     Ok(Json::Object(members))
 }
 
 /// An object of four members.
 pub(crate) fn four<A: ToJson, B: ToJson, C: ToJson, D: ToJson>(
     alloc: Global,
-    first: Member<'_, A>,
-    second: Member<'_, B>,
-    third: Member<'_, C>,
-    fourth: Member<'_, D>,
+    a: &str,
+    first: &A,
+    b: &str,
+    second: &B,
+    c: &str,
+    third: &C,
+    d: &str,
+    fourth: &D,
 ) -> Result<Json, OutOfMemory>
     ensures json { IfOk result (λ json. view json
-        ≡ object (put fourth.0.now (D.json_of fourth.1.now) (put third.0.now (C.json_of third.1.now)
-        (put second.0.now (B.json_of second.1.now)
-        (put first.0.now (A.json_of first.1.now) no_members))))) }
-    ensures fits { OnOk result (A.Fits first.1.now × B.Fits second.1.now × C.Fits third.1.now
-        × D.Fits fourth.1.now) }
+        ≡ object (put d.now (D.json_of fourth.now) (put c.now (C.json_of third.now)
+        (put b.now (B.json_of second.now) (put a.now (A.json_of first.now) no_members))))) }
+    ensures fits { OnOk result (A.Fits first.now × B.Fits second.now × C.Fits third.now
+        × D.Fits fourth.now) }
 {
     let mut members = Map::new(alloc);
-    add(&mut members, alloc, first)?;
-    add(&mut members, alloc, second)?;
-    add(&mut members, alloc, third)?;
-    add(&mut members, alloc, fourth)?;
+    add(&mut members, alloc, a, first)?;
+    add(&mut members, alloc, b, second)?;
+    add(&mut members, alloc, c, third)?;
+    add(&mut members, alloc, d, fourth)?;
     Ok(Json::Object(members))
 }
 
 /// An object of five members.
 pub(crate) fn five<A: ToJson, B: ToJson, C: ToJson, D: ToJson, E: ToJson>(
     alloc: Global,
-    first: Member<'_, A>,
-    second: Member<'_, B>,
-    third: Member<'_, C>,
-    fourth: Member<'_, D>,
-    fifth: Member<'_, E>,
+    a: &str,
+    first: &A,
+    b: &str,
+    second: &B,
+    c: &str,
+    third: &C,
+    d: &str,
+    fourth: &D,
+    e: &str,
+    fifth: &E,
 ) -> Result<Json, OutOfMemory>
     ensures json { IfOk result (λ json. view json
-        ≡ object (put fifth.0.now (E.json_of fifth.1.now) (put fourth.0.now (D.json_of fourth.1.now)
-        (put third.0.now (C.json_of third.1.now) (put second.0.now (B.json_of second.1.now)
-        (put first.0.now (A.json_of first.1.now) no_members)))))) }
-    ensures fits { OnOk result (A.Fits first.1.now × B.Fits second.1.now × C.Fits third.1.now
-        × D.Fits fourth.1.now × E.Fits fifth.1.now) }
+        ≡ object (put e.now (E.json_of fifth.now) (put d.now (D.json_of fourth.now)
+        (put c.now (C.json_of third.now) (put b.now (B.json_of second.now)
+        (put a.now (A.json_of first.now) no_members)))))) }
+    ensures fits { OnOk result (A.Fits first.now × B.Fits second.now × C.Fits third.now
+        × D.Fits fourth.now × E.Fits fifth.now) }
 {
     let mut members = Map::new(alloc);
-    add(&mut members, alloc, first)?;
-    add(&mut members, alloc, second)?;
-    add(&mut members, alloc, third)?;
-    add(&mut members, alloc, fourth)?;
-    add(&mut members, alloc, fifth)?;
+    add(&mut members, alloc, a, first)?;
+    add(&mut members, alloc, b, second)?;
+    add(&mut members, alloc, c, third)?;
+    add(&mut members, alloc, d, fourth)?;
+    add(&mut members, alloc, e, fifth)?;
     Ok(Json::Object(members))
 }
 
 /// An object of six members.
 pub(crate) fn six<A: ToJson, B: ToJson, C: ToJson, D: ToJson, E: ToJson, F: ToJson>(
     alloc: Global,
-    first: Member<'_, A>,
-    second: Member<'_, B>,
-    third: Member<'_, C>,
-    fourth: Member<'_, D>,
-    fifth: Member<'_, E>,
-    sixth: Member<'_, F>,
+    a: &str,
+    first: &A,
+    b: &str,
+    second: &B,
+    c: &str,
+    third: &C,
+    d: &str,
+    fourth: &D,
+    e: &str,
+    fifth: &E,
+    f: &str,
+    sixth: &F,
 ) -> Result<Json, OutOfMemory>
     ensures json { IfOk result (λ json. view json
-        ≡ object (put sixth.0.now (F.json_of sixth.1.now) (put fifth.0.now (E.json_of fifth.1.now)
-        (put fourth.0.now (D.json_of fourth.1.now) (put third.0.now (C.json_of third.1.now)
-        (put second.0.now (B.json_of second.1.now) (put first.0.now (A.json_of first.1.now)
+        ≡ object (put f.now (F.json_of sixth.now) (put e.now (E.json_of fifth.now)
+        (put d.now (D.json_of fourth.now) (put c.now (C.json_of third.now)
+        (put b.now (B.json_of second.now) (put a.now (A.json_of first.now)
         no_members))))))) }
-    ensures fits { OnOk result (A.Fits first.1.now × B.Fits second.1.now × C.Fits third.1.now
-        × D.Fits fourth.1.now × E.Fits fifth.1.now × F.Fits sixth.1.now) }
+    ensures fits { OnOk result (A.Fits first.now × B.Fits second.now × C.Fits third.now
+        × D.Fits fourth.now × E.Fits fifth.now × F.Fits sixth.now) }
 {
     let mut map = Map::new(alloc);
-    add_six(&mut map, alloc, first, second, third, fourth, fifth, sixth)?;
+    add_six(
+        &mut map, alloc, a, first, b, second, c, third, d, fourth, e, fifth, f, sixth,
+    )?;
     Ok(Json::Object(map))
 }
 
@@ -206,13 +231,14 @@ pub(crate) fn variant_of<T: ToJson>(
 pub(crate) fn variant_one<A: ToJson>(
     alloc: Global,
     name: &str,
-    first: Member<'_, A>,
+    a: &str,
+    first: &A,
 ) -> Result<Json, OutOfMemory>
     ensures json { IfOk result (λ json. view json ≡ variant name.now
-        (object (put first.0.now (A.json_of first.1.now) no_members))) }
-    ensures fits { OnOk result (A.Fits first.1.now) }
+        (object (put a.now (A.json_of first.now) no_members))) }
+    ensures fits { OnOk result (A.Fits first.now) }
 {
-    let content = one(alloc, first)?;
+    let content = one(alloc, a, first)?;
     wrapped(alloc, name, content)
 }
 
@@ -220,15 +246,17 @@ pub(crate) fn variant_one<A: ToJson>(
 pub(crate) fn variant_two<A: ToJson, B: ToJson>(
     alloc: Global,
     name: &str,
-    first: Member<'_, A>,
-    second: Member<'_, B>,
+    a: &str,
+    first: &A,
+    b: &str,
+    second: &B,
 ) -> Result<Json, OutOfMemory>
     ensures json { IfOk result (λ json. view json ≡ variant name.now
-        (object (put second.0.now (B.json_of second.1.now) (put first.0.now (A.json_of first.1.now)
+        (object (put b.now (B.json_of second.now) (put a.now (A.json_of first.now)
         no_members)))) }
-    ensures fits { OnOk result (A.Fits first.1.now × B.Fits second.1.now) }
+    ensures fits { OnOk result (A.Fits first.now × B.Fits second.now) }
 {
-    let content = two(alloc, first, second)?;
+    let content = two(alloc, a, first, b, second)?;
     wrapped(alloc, name, content)
 }
 
@@ -236,16 +264,19 @@ pub(crate) fn variant_two<A: ToJson, B: ToJson>(
 pub(crate) fn variant_three<A: ToJson, B: ToJson, C: ToJson>(
     alloc: Global,
     name: &str,
-    first: Member<'_, A>,
-    second: Member<'_, B>,
-    third: Member<'_, C>,
+    a: &str,
+    first: &A,
+    b: &str,
+    second: &B,
+    c: &str,
+    third: &C,
 ) -> Result<Json, OutOfMemory>
     ensures json { IfOk result (λ json. view json ≡ variant name.now
-        (object (put third.0.now (C.json_of third.1.now) (put second.0.now (B.json_of second.1.now)
-        (put first.0.now (A.json_of first.1.now) no_members))))) }
-    ensures fits { OnOk result (A.Fits first.1.now × B.Fits second.1.now × C.Fits third.1.now) }
+        (object (put c.now (C.json_of third.now) (put b.now (B.json_of second.now)
+        (put a.now (A.json_of first.now) no_members))))) }
+    ensures fits { OnOk result (A.Fits first.now × B.Fits second.now × C.Fits third.now) }
 {
-    let content = three(alloc, first, second, third)?;
+    let content = three(alloc, a, first, b, second, c, third)?;
     wrapped(alloc, name, content)
 }
 
@@ -253,19 +284,23 @@ pub(crate) fn variant_three<A: ToJson, B: ToJson, C: ToJson>(
 pub(crate) fn variant_four<A: ToJson, B: ToJson, C: ToJson, D: ToJson>(
     alloc: Global,
     name: &str,
-    first: Member<'_, A>,
-    second: Member<'_, B>,
-    third: Member<'_, C>,
-    fourth: Member<'_, D>,
+    a: &str,
+    first: &A,
+    b: &str,
+    second: &B,
+    c: &str,
+    third: &C,
+    d: &str,
+    fourth: &D,
 ) -> Result<Json, OutOfMemory>
     ensures json { IfOk result (λ json. view json ≡ variant name.now
-        (object (put fourth.0.now (D.json_of fourth.1.now) (put third.0.now (C.json_of third.1.now)
-        (put second.0.now (B.json_of second.1.now) (put first.0.now (A.json_of first.1.now)
+        (object (put d.now (D.json_of fourth.now) (put c.now (C.json_of third.now)
+        (put b.now (B.json_of second.now) (put a.now (A.json_of first.now)
         no_members)))))) }
-    ensures fits { OnOk result (A.Fits first.1.now × B.Fits second.1.now × C.Fits third.1.now
-        × D.Fits fourth.1.now) }
+    ensures fits { OnOk result (A.Fits first.now × B.Fits second.now × C.Fits third.now
+        × D.Fits fourth.now) }
 {
-    let content = four(alloc, first, second, third, fourth)?;
+    let content = four(alloc, a, first, b, second, c, third, d, fourth)?;
     wrapped(alloc, name, content)
 }
 
