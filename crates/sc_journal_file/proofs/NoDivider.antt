@@ -14,7 +14,7 @@ use Rattle.sc_lines.specs.declared.kinds.Kind.TheVariants.{Asking}
 use Rattle.sc_lines.specs.declared.kinds.RequestKind.{RequestKind}
 use Rattle.sc_lines.specs.declared.kinds.RequestKind.TheVariants as ask
 use Rattle.sc_lines.specs.declared.reasons.Reason.{Reason}
-use Rattle.sc_lines.specs.declared.reasons.Reason.TheVariants.{MissingHeader, UnknownWord}
+use Rattle.sc_lines.specs.declared.reasons.Reason.TheVariants.{MissingHeader, UnknownWord, TooLarge}
 use Rattle.sc_scenario.specs.Grammar.{said, line_read, going_on, lines_read, verdict_of}
 use Rattle.sc_scenario.specs.Places.{is_in_place}
 use Rattle.sc_scenario.specs.Taking.{taken_outside, taken_within}
@@ -76,7 +76,7 @@ pub first_read : (is_long : Bool) (number : ℕ) (reading : Reading) (line : Lis
     → (more : Reading) × (line_read reading (trimmed line) ≡ Ok more) × (lines_read is_long (number + 1) more lines ≡ Ok scenario)
 first_read is_long number reading line lines scenario e =
     going_ok number (λ more. lines_read is_long (number + 1) more lines) (line_read reading (trimmed line)) scenario
-    (passed (nat_lt most_lines number) (Bad number 15) (going_on number (λ more. lines_read is_long (number + 1) more lines) (line_read reading (trimmed line))) scenario e)
+    (passed (nat_lt most_lines number) (Bad number TooLarge) (going_on number (λ more. lines_read is_long (number + 1) more lines) (line_read reading (trimmed line))) scenario e)
 
 lines_other : (lines : List (List ℕ)) (number : ℕ) (reading : Reading) (scenario : Scenario) → lines_read false number reading lines ≡ Ok scenario → Each IsOther lines
 lines_other [] number reading scenario e = tt
@@ -85,7 +85,7 @@ lines_other (line ∷ lines) number reading scenario e =
     (line_other reading first.0 line first.1, lines_other lines (number + 1) first.0 scenario first.2)
 
 never_long : (lines : List (List ℕ)) (number : ℕ) (reading : Reading) (scenario : Scenario) → lines_read true number reading lines ≡ Ok scenario → ⊥
-never_long [] number reading scenario e = no_scenario (Bad number 15) scenario (Err (Bad number 15)) refl e
+never_long [] number reading scenario e = no_scenario (Bad number TooLarge) scenario (Err (Bad number TooLarge)) refl e
 never_long (line ∷ lines) number reading scenario e =
     let first = first_read true number reading line lines scenario e in never_long lines (number + 1) first.0 scenario first.2
 
