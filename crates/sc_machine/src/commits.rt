@@ -38,7 +38,7 @@ fn pairs_on(alloc: Global, pairs: &Pairs, arc: &RingArc) -> Result<Pairs, OutOfM
 }
 
 impl Machine {
-    fn may_merge(&self, frozen: &Frozen) -> bool
+    pub(crate) fn may_merge(&self, frozen: &Frozen) -> bool
         ensures { result ≡ may_merge self.now frozen.now }
     {
         can_merge(&self.core, frozen) && !self.store.has_any(&frozen.pairs)

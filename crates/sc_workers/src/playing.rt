@@ -39,7 +39,7 @@ fn play_round<A: Actor, G: Gate, R: Threads + Wait + Sync>(
     match way {
         Way::Runs => {
             let size = shells.len().div_ceil(workers as usize);
-            at_once(rt, alloc, gate, waits, size, shells);
+            at_once(rt, alloc, gate, waits, size, workers, shells);
             Some(did_in(shells.as_slice()))
         }
         Way::Queue => phase(rt, alloc, gate, waits, shells, workers, left).ok(),
