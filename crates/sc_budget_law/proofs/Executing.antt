@@ -5,13 +5,12 @@ use Rattle.std.proofs.lemmas.List.Sums.{count_by-le-length}
 use Rattle.sc_base.specs.declared.ops.Op.{Op}
 use Rattle.sc_cmd.specs.declared.commands.Command.{Command}
 use Rattle.sc_cmd.specs.declared.commands.Command.TheVariants.{Call}
-use Rattle.sc_cmd.specs.declared.cores.Base.{Base}
 use Rattle.sc_mail.specs.declared.bodies.Mail.{Mail}
 use Rattle.sc_paxos_words.specs.declared.flights.Flight.{Flight}
 use Rattle.sc_paxos_words.proofs.ListLemmas.{Each-among}
 use Rattle.sc_node_table.specs.Execute.{executed_one, next_child, has_room, next_ready, ending, executed_ready, all_ready, executed}
 use Rattle.sc_node_table.specs.Pump.{pumped}
-use Rattle.sc_node_table.specs.Replica.{ReplicaState, Place, childless, next, last_slot}
+use Rattle.sc_node_table.specs.Replica.{ReplicaState, Place, Executed, childless, next, last_slot}
 use Rattle.sc_node_table.specs.Slots.{at_slot}
 use Rattle.sc_budget_law.specs.Frames.{Frame, IsFrame}
 use Rattle.sc_budget_law.specs.PlainMail.{Requests, IsPlainCommand}
@@ -32,6 +31,10 @@ module _ (begun : Requests) (frame : Frame) (is : IsFrame frame) (first free : �
     pub taken : ℕ
     pub leads : L taken place
     pub none : entries_at (next place.0) place.0.ready ≡ 0
+
+  -- .. after a step
+  abbrev IsDoneAfter : Executed → Type 0
+  IsDoneAfter step = IsDone step.0
 
   pumped_done : free ≤ last_slot → (place : Place) → IsDone place → IsDone (pumped place)
   pumped_done room place d =
@@ -57,7 +60,7 @@ module _ (begun : Requests) (frame : Frame) (is : IsFrame frame) (first free : �
 
   done_by : free ≤ last_slot → (es : List (ℕ × Command)) (taken : ℕ) (r : ReplicaState) (mails : List Mail) → length r.ready ≤ length es + 1 → next r + taken ≡ free → L taken (r, mails) → (o : Option Command) → o ≡ at_slot r.ready (next r)
       → ((t : ℕ) (p : Place) → length p.0.ready ≤ length es → next p.0 + t ≡ free → L t p → IsDone (executed_ready es p).0)
-      → IsDone (elim o [ None ↦ childless (r, mails) | Some command ↦ ending (next_child command r) (executed_ready es (executed_one true command (r, mails))) ]).0
+      → IsDoneAfter (elim o [ None ↦ childless (r, mails) | Some command ↦ ending (next_child command r) (executed_ready es (executed_one true command (r, mails))) ])
   done_by room es taken r mails short end k None e more = record { taken = taken; leads = k; none = at_nothing r.ready (next r) (sym e) }
   done_by room es taken r mails short end k (Some command) e more =
       let found = at_found r.ready (next r) command (sym e) in
@@ -82,6 +85,9 @@ module _ (begun : Requests) (frame : Frame) (is : IsFrame frame) (first free : �
 
   -- ---- no call makes a child
 
+  abbrev IsChildless : Executed → Type 0
+  IsChildless step = step.1 ≡ []
+
   -- nothing that is ready makes one
   no_children : free ≤ last_slot → (es : List (ℕ × Command)) (taken : ℕ) (place : Place) → next place.0 + taken ≡ free → L taken place → (executed_ready es place).1 ≡ []
   unfolding executed_ready
@@ -90,7 +96,7 @@ module _ (begun : Requests) (frame : Frame) (is : IsFrame frame) (first free : �
     where
       child_by_ready : (es : List (ℕ × Command)) (taken : ℕ) (r : ReplicaState) (mails : List Mail) → next r + taken ≡ free → L taken (r, mails) → (o : Option Command) → o ≡ at_slot r.ready (next r)
           → ((t : ℕ) (p : Place) → next p.0 + t ≡ free → L t p → (executed_ready es p).1 ≡ [])
-          → ◌≡◌ {A = List Base} (elim o [ None ↦ childless (r, mails) | Some command ↦ ending (next_child command r) (executed_ready es (executed_one true command (r, mails))) ]).1 []
+          → IsChildless (elim o [ None ↦ childless (r, mails) | Some command ↦ ending (next_child command r) (executed_ready es (executed_one true command (r, mails))) ])
       child_by_ready es taken r mails end k None e more = refl
       child_by_ready es taken r mails end k (Some command) e more =
           let found = at_found r.ready (next r) command (sym e) in

@@ -21,7 +21,7 @@ use Rattle.sc_paxos_words.specs.declared.answers.Learnt.{Learnt}
 use Rattle.sc_paxos_words.specs.Logs.{LogState, next_of}
 use Rattle.sc_node_table.specs.declared.Before.{Before}
 use Rattle.sc_node_table.specs.Slots.{at_slot, without_slot}
-use Rattle.sc_node_table.specs.Replica.{ReplicaState, Place, childless, name_of, next, members}
+use Rattle.sc_node_table.specs.Replica.{ReplicaState, Place, Executed, childless, name_of, next, members}
 use Rattle.sc_node_table.specs.Mails.{sent_others, order_number}
 use Rattle.sc_node_table.specs.Election.{elected, stopped}
 use Rattle.sc_node_table.specs.Execute.{with_entry, entered, answer_of, told_call, result_of, order_result, told_effect, announced, learnt_to, welcomed, landed, left_gone, left, is_among, looked_for, looked, executed_one, child_at, next_child, has_room, next_ready, ending, executed_ready, executed}
@@ -188,8 +188,11 @@ module _ (K : Draw → Type 0) where
   both_kids : (command : Command) (r : ReplicaState) (rest : List Base) → CommandNames K command → R r → Kids rest → Kids (next_child command r ++ rest)
   both_kids command r rest c k more = Each-append (λ (base : Base). CoreNames K base.core) (next_child command r) rest (next_kid command r c k) more
 
+  abbrev KidsAfter : Executed → Type 0
+  KidsAfter step = Kids step.1
+
   kids_by : (es : List (ℕ × Command)) (place : Place) (o : Option Command) → Cmd K o → F place → ((p : Place) → F p → Kids (executed_ready es p).1)
-      → Kids (elim o [ None ↦ childless place | Some command ↦ ending (next_child command place.0) (executed_ready es (executed_one true command place)) ]).1
+      → KidsAfter (elim o [ None ↦ childless place | Some command ↦ ending (next_child command place.0) (executed_ready es (executed_one true command place)) ])
   kids_by es place None c f more = tt
   kids_by es place (Some command) c f more =
       let after : Place = executed_one true command place in

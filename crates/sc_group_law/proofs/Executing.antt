@@ -27,7 +27,7 @@ use Rattle.sc_paxos_words.proofs.ListLemmas.{Each-among, find_found}
 use Rattle.sc_paxos_law.specs.Chosen.{IsLog}
 use Rattle.sc_paxos_law.proofs.Law.{earlier}
 use Rattle.sc_node_table.specs.Slots.{at_slot, without_slot}
-use Rattle.sc_node_table.specs.Replica.{ReplicaState, Place, childless, name_of, next, members, flying, forgotten}
+use Rattle.sc_node_table.specs.Replica.{ReplicaState, Place, Executed, childless, name_of, next, members, flying, forgotten}
 use Rattle.sc_node_table.specs.Mails.{sent, order_number, told_order}
 use Rattle.sc_node_table.specs.Queues.{call_of, without_call, call_before, put_back}
 use Rattle.sc_node_table.specs.Execute.{entered, answer_of, told_call, order_result, told_effect, announced, learnt_to, landed, left_gone, left, is_among, looked_for, looked, executed_one, next_child, has_room, next_ready, ending, executed_ready, executed}
@@ -362,13 +362,17 @@ module _ (ahead : Ahead) (base : Base) (made : Command → Type 0) (heard : Mail
   next_ready_runs r c e =
       cond_both (r.running && has_room r) (at_slot r.ready (next r)) None (λ o. o ≡ Some c → r.running ≡ true) (λ t k. (and_parts r.running (has_room r) t).0) (λ _ k. cc) e
 
+  -- .. with the children that are made
+  abbrev OkAfter : Executed → Type 0
+  OkAfter step = Ok step.0
+
   fine_executed_ready : (es : List (ℕ × Command)) (place : Place) → Ok place → Ok (executed_ready es place).0
   unfolding executed_ready
   fine_executed_ready [] place f = f
   fine_executed_ready (e ∷ es) place f = go (λ p g. fine_executed_ready es p g) (next_ready place.0) refl
     where
       go : ((p : Place) → Ok p → Ok (executed_ready es p).0) → (o : Option Command) → next_ready place.0 ≡ o
-          → Ok (elim o [ None ↦ childless place | Some command ↦ ending (next_child command place.0) (executed_ready es (executed_one true command place)) ]).0
+          → OkAfter (elim o [ None ↦ childless place | Some command ↦ ending (next_child command place.0) (executed_ready es (executed_one true command place)) ])
       go rest None is = f
       go rest (Some c) is =
           let t = Each-among _ place.0.ready (next place.0, c) f.replica.ready (next_ready_among place.0 c is) in

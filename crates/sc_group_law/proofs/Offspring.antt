@@ -85,13 +85,17 @@ module _ (ahead : Ahead) (base : Base) (made : Command → Type 0) (heard : Mail
 
   -- ---- the ready ones
 
+  -- the children of a step
+  abbrev ChildrenOf : Executed → Type 0
+  ChildrenOf step = Children step.1
+
   ready_are : (es : List (ℕ × Command)) (place : Place) → Ok place → Children (executed_ready es place).1
   unfolding executed_ready
   ready_are [] place f = tt
   ready_are (x ∷ es) place f = go (λ p g. ready_are es p g) (next_ready place.0) refl
     where
       go : ((p : Place) → Ok p → Children (executed_ready es p).1) → (o : Option Command) → next_ready place.0 ≡ o
-          → Children (elim o [ None ↦ childless place | Some command ↦ ending (next_child command place.0) (executed_ready es (executed_one true command place)) ]).1
+          → ChildrenOf (elim o [ None ↦ childless place | Some command ↦ ending (next_child command place.0) (executed_ready es (executed_one true command place)) ])
       go rest None is = tt
       go rest (Some c) is =
           let t = Each-among _ place.0.ready (next place.0, c) f.replica.ready (next_ready_among ahead base made heard me [] before speaks some place.0 c is) in
@@ -110,10 +114,6 @@ module _ (ahead : Ahead) (base : Base) (made : Command → Type 0) (heard : Mail
       Each-append _ (next_child c r) (executed_ready after.0.ready after).1 (next_are c r mails f t m) (ready_are after.0.ready after one)
 
   -- ---- mails
-
-  -- the children of a step
-  abbrev ChildrenOf : Executed → Type 0
-  ChildrenOf step = Children step.1
 
   -- the children of a Learn
   pub learnt_are : (from slot : ℕ) (c : Command) (r : ReplicaState) (mails : List Mail) → (f : Ok (r, mails)) → IsLearnt (rule ahead base) (f.newer ++ before) slot c → Children (learn_row from slot c (r, mails)).1

@@ -37,7 +37,7 @@ use Rattle.sc_node_table.specs.Execute.{entered, answer_of, told_call, order_res
 use Rattle.sc_node_table.specs.Mails.{sent_others, order_number}
 use Rattle.sc_node_table.specs.Pump.{serves_calls, pumped}
 use Rattle.sc_node_table.specs.Queues.{put_back}
-use Rattle.sc_node_table.specs.Replica.{ReplicaState, Place, childless, name_of, next, members, flying, forgotten}
+use Rattle.sc_node_table.specs.Replica.{ReplicaState, Place, Executed, childless, name_of, next, members, flying, forgotten}
 use Rattle.sc_node_table.specs.Slots.{at_slot}
 use Rattle.sc_node_table.specs.Spoken.{before_of, spoken}
 use Rattle.sc_draws_law.proofs.Lists.{opt_slot, slot_without, flight_without}
@@ -337,8 +337,12 @@ module _ (start : ReplicaState) (A : Command → Type 0) (G : Draw → Type 0) (
   next_by true o command e = (refl, e)
   next_by false o command e = cc
 
+  -- .. with the children that are made
+  abbrev FineAfter : Executed → Type 0
+  FineAfter step = Fine start A G W Q step.0
+
   ready_one : (es : List (ℕ × Command)) (place : Place) (o : Option Command) → next_ready place.0 ≡ o → Past place → ((p : Place) → Past p → Fine start A G W Q (executed_ready es p).0)
-      → Fine start A G W Q (elim o [ None ↦ childless place | Some command ↦ ending (next_child command place.0) (executed_ready es (executed_one true command place)) ]).0
+      → FineAfter (elim o [ None ↦ childless place | Some command ↦ ending (next_child command place.0) (executed_ready es (executed_one true command place)) ])
   ready_one es place None e p more = past_fine place p
   ready_one es place (Some command) e p more =
       let found = next_by (place.0.running && has_room place.0) (at_slot place.0.ready (next place.0)) command e in
