@@ -10,15 +10,13 @@ use Rattle.sc_mail.specs.declared.bodies.Mail.{Mail}
 use Rattle.sc_member.specs.Roster.{is_member, least_of}
 use Rattle.sc_machine_table.specs.Machine.{applied}
 use Rattle.sc_node_table.specs.Slots.{at_slot, without_slot}
-use Rattle.sc_node_table.specs.Replica.{ReplicaState, Place, Executed, childless, next, members, flying, forgotten}
+use Rattle.sc_node_table.specs.Replica.{ReplicaState, Place, childless, next, members, flying, forgotten}
 use Rattle.sc_node_table.specs.Install.{install_to, asked_to_promise, welcomed_all}
 use Rattle.sc_node_table.specs.Queues.{put_back}
 use Rattle.sc_node_table.specs.Sameness.{same_command}
 use Rattle.sc_node_table.specs.Election.{elected, ended}
-use Rattle.sc_node_table.specs.Pump.{pumped}
 use Rattle.sc_node_table.specs.declared.Before.{Before}
 use Rattle.sc_node_table.specs.Spoken.{before_of, spoken}
-use Rattle.sc_cmd.specs.declared.cores.Base.{Base}
 use Rattle.sc_node_table.specs.Execute.{entered, answer_of, announced, told_call, told_effect, order_result, learnt_to, welcomed, slot_lost, landed, left, left_gone, is_among, looked, looked_for, executed_one, next_child, has_room, next_ready, ending, executed_ready}
 
 -- taking a slot out makes the list shorter
