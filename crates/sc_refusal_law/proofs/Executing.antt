@@ -35,7 +35,7 @@ use Rattle.sc_node_table.specs.declared.Before.{Before}
 use Rattle.sc_node_table.specs.Election.{elected, ended, stopped}
 use Rattle.sc_node_table.specs.Execute.{entered, answer_of, told_call, order_result, told_effect, announced, learnt_to, welcomed, slot_lost, landed, left_gone, left, is_among, looked_for, looked, executed_one, next_child, has_room, next_ready, ending, executed_ready, all_ready, executed}
 use Rattle.sc_node_table.specs.Mails.{sent_others, order_number}
-use Rattle.sc_node_table.specs.Pump.{serves_calls, pumped}
+use Rattle.sc_node_table.specs.Pump.{serves_calls}
 use Rattle.sc_node_table.specs.Queues.{put_back}
 use Rattle.sc_node_table.specs.Replica.{ReplicaState, Place, Executed, childless, name_of, next, members, flying, forgotten}
 use Rattle.sc_node_table.specs.Slots.{at_slot}
