@@ -20,7 +20,6 @@ use Rattle.sc_actor.specs.declared.rows.Input.TheVariants.{Got}
 use Rattle.sc_actor.specs.Mail.{mails, numbered}
 use Rattle.sc_actor.specs.Replay.{value, acted, input_of}
 use Rattle.sc_actor.proofs.ReplayLemmas.{value-snoc}
-use Rattle.sc_node_table.specs.Births.{mailed_children}
 use Rattle.sc_node_table.specs.Node.{NodeState, replica_of, with_replica, with_new, group_of_mail, with_made, unknown, may_come, with_born, with_children, taken_by, routed, on_mail, group_of_order, ordered_of, on_order, on_tick, names_after_ticks, born_node}
 use Rattle.sc_node_table.specs.Policy.{names_after_tick}
 use Rattle.sc_node_table.specs.Replica.{ReplicaState, born_replica, last_slot, either}
@@ -53,7 +52,7 @@ unknown_draws from _ node = refl
 taken_draws : (o : Option ReplicaState) (group : Draw) (from : ℕ) (body : MailBody) (node : NodeState) → (taken_by o group from body node).0.draws ≡ node.draws
 taken_draws None group from body node = unknown_draws from body node
 taken_draws (Some r) group from body node =
-    children_draws (mailed_children from body (r, []) []) (record node { replicas = with_replica group (mailed from body (r, [])).0 node.replicas })
+    children_draws (mailed from body (r, [])).1 (record node { replicas = with_replica group (mailed from body (r, [])).0.0 node.replicas })
 
 routed_draws : (o : Option Draw) (from : ℕ) (body : MailBody) (node : NodeState) → (routed o from body node).0.draws ≡ node.draws
 routed_draws None from body node = refl

@@ -20,12 +20,11 @@ use Rattle.sc_paxos_words.specs.Leaders.{without_flight_at}
 use Rattle.sc_paxos_words.specs.declared.answers.Learnt.{Learnt}
 use Rattle.sc_paxos_words.specs.Logs.{LogState, next_of}
 use Rattle.sc_node_table.specs.declared.Before.{Before}
-use Rattle.sc_node_table.specs.Births.{with_child, next_child, ready_children, executed_children}
 use Rattle.sc_node_table.specs.Slots.{at_slot, without_slot}
-use Rattle.sc_node_table.specs.Replica.{ReplicaState, Place, name_of, next, members}
+use Rattle.sc_node_table.specs.Replica.{ReplicaState, Place, Executed, childless, name_of, next, members}
 use Rattle.sc_node_table.specs.Mails.{sent_others, order_number}
 use Rattle.sc_node_table.specs.Election.{elected, stopped}
-use Rattle.sc_node_table.specs.Execute.{with_entry, entered, answer_of, told_call, result_of, order_result, told_effect, announced, learnt_to, welcomed, landed, left_gone, left, is_among, looked_for, looked, executed_one, has_room, next_ready, executed}
+use Rattle.sc_node_table.specs.Execute.{with_entry, entered, answer_of, told_call, result_of, order_result, told_effect, announced, learnt_to, welcomed, landed, left_gone, left, is_among, looked_for, looked, executed_one, child_at, next_child, has_room, next_ready, ending, executed_ready, executed}
 use Rattle.sc_node_table.specs.Spoken.{before_of, spoken}
 use Rattle.sc_draws_law.specs.Names.{Opt, CoreNames, CommandNames, EffectNames, AnswerNames, ResultNames, ReplicaNames}
 use Rattle.sc_draws_law.proofs.Lists.{opt_slot, slot_without, flight_without}
@@ -169,7 +168,7 @@ module _ (K : Draw → Type 0) where
   ready_names r k = either_way (Cmd K) (r.running && has_room r) (at_slot r.ready (next r)) None (opt_slot (CommandNames K) r.ready (next r) k.ready) tt
 
   -- the whole of an execution
-  pub executed_names : (counted : Bool) (command : Command) (place : Place) → CommandNames K command → F place → F (executed counted command place)
+  pub executed_names : (counted : Bool) (command : Command) (place : Place) → CommandNames K command → F place → F (executed counted command place).0
   executed_names counted command place c f =
       executed_place F (Cmd K) (λ p g. ready_names p.0 g.0) (λ x p d g. one_names true x p d g) (pumped_names K) counted command place (one_names counted command place c f)
 
@@ -178,24 +177,34 @@ module _ (K : Draw → Type 0) where
   abbrev pub Kids : List Base → Type 0
   Kids made = Each (λ (base : Base). CoreNames K base.core) made
 
-  kid_names : (me : ℕ) (child : Option Base) (made : List Base) → Opt (λ (base : Base). CoreNames K base.core) child → Kids made → Kids (with_child me child made)
-  kid_names me None made c m = m
-  kid_names me (Some child) made c m = either_way Kids (is_member child.core.members me) (made ++ child ∷ []) made (Each-append (λ (base : Base). CoreNames K base.core) made (child ∷ []) m (c, tt)) m
+  kid_names : (me : ℕ) (child : Option Base) → Opt (λ (base : Base). CoreNames K base.core) child → Kids (child_at me child)
+  kid_names me None c = tt
+  kid_names me (Some child) c = either_way Kids (is_member child.core.members me) (child ∷ []) [] (c, tt) tt
 
-  next_kid : (command : Command) (r : ReplicaState) (made : List Base) → CommandNames K command → R r → Kids made → Kids (next_child command r made)
-  next_kid command r made c k m = kid_names r.me (child_by r.group command) made (child_by_names K r.group command k.core c) m
+  next_kid : (command : Command) (r : ReplicaState) → CommandNames K command → R r → Kids (next_child command r)
+  next_kid command r c k = kid_names r.me (child_by r.group command) (child_by_names K r.group command k.core c)
 
-  kids_by : (es : List (ℕ × Command)) (place : Place) (made : List Base) (o : Option Command) → Cmd K o → F place → Kids made → ((p : Place) (m : List Base) → F p → Kids m → Kids (ready_children es p m))
-      → Kids (elim o [ None ↦ made | Some command ↦ ready_children es (executed_one true command place) (next_child command place.0 made) ])
-  kids_by es place made None c f m more = m
-  kids_by es place made (Some command) c f m more = more (executed_one true command place) (next_child command place.0 made) (one_names true command place c f) (next_kid command place.0 made c f.0 m)
+  -- .. and those of what follows it
+  both_kids : (command : Command) (r : ReplicaState) (rest : List Base) → CommandNames K command → R r → Kids rest → Kids (next_child command r ++ rest)
+  both_kids command r rest c k more = Each-append (λ (base : Base). CoreNames K base.core) (next_child command r) rest (next_kid command r c k) more
 
-  ready_kids : (es : List (ℕ × Command)) (place : Place) (made : List Base) → F place → Kids made → Kids (ready_children es place made)
-  unfolding ready_children
-  ready_kids [] place made f m = m
-  ready_kids (e ∷ es) place made f m = kids_by es place made (next_ready place.0) (ready_names place.0 f.0) f m (λ p n g o. ready_kids es p n g o)
+  abbrev KidsAfter : Executed → Type 0
+  KidsAfter step = Kids step.1
 
-  pub executed_kids : (counted : Bool) (command : Command) (place : Place) (made : List Base) → CommandNames K command → F place → Kids made → Kids (executed_children counted command place made)
-  unfolding executed_children
-  executed_kids counted command place made c f m =
-      ready_kids (executed_one counted command place).0.ready (executed_one counted command place) (next_child command place.0 made) (one_names counted command place c f) (next_kid command place.0 made c f.0 m)
+  kids_by : (es : List (ℕ × Command)) (place : Place) (o : Option Command) → Cmd K o → F place → ((p : Place) → F p → Kids (executed_ready es p).1)
+      → KidsAfter (elim o [ None ↦ childless place | Some command ↦ ending (next_child command place.0) (executed_ready es (executed_one true command place)) ])
+  kids_by es place None c f more = tt
+  kids_by es place (Some command) c f more =
+      let after : Place = executed_one true command place in
+      both_kids command place.0 (executed_ready es after).1 c f.0 (more after (one_names true command place c f))
+
+  ready_kids : (es : List (ℕ × Command)) (place : Place) → F place → Kids (executed_ready es place).1
+  unfolding executed_ready
+  ready_kids [] place f = tt
+  ready_kids (e ∷ es) place f = kids_by es place (next_ready place.0) (ready_names place.0 f.0) f (λ p g. ready_kids es p g)
+
+  pub executed_kids : (counted : Bool) (command : Command) (place : Place) → CommandNames K command → F place → Kids (executed counted command place).1
+  unfolding executed
+  executed_kids counted command place c f =
+      let after : Place = executed_one counted command place in
+      both_kids command place.0 (executed_ready after.0.ready after).1 c f.0 (ready_kids after.0.ready after (one_names counted command place c f))

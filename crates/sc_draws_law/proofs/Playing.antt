@@ -27,11 +27,10 @@ use Rattle.sc_mail.specs.declared.bodies.AnswerBody.TheVariants as Answers
 use Rattle.sc_mail.specs.declared.bodies.Mail.{Mail}
 use Rattle.sc_mail.specs.declared.bodies.MailBody.{MailBody}
 use Rattle.sc_mail.specs.declared.bodies.MailBody.TheVariants.{Request, Answer, Prepare, Promise, Accept, Accepted, Nack, Learn, Ask, Install, TxPrepare, TxVote, TxOutcome, TxElsewhere, TxWatch, TxWatched, Told as ToldMail}
-use Rattle.sc_node_table.specs.Births.{mailed_children}
 use Rattle.sc_node_table.specs.Node.{NodeState, replica_of, with_replica, is_before, with_new, group_of_mail, absent, with_made, unknown, may_come, with_born, with_children, taken_by, routed, on_mail, group_of_order, ordered_of, ticked, node_table}
 use Rattle.sc_node_table.specs.Ordering.{takes_name, untaken, ordered_row}
 use Rattle.sc_node_table.specs.Policy.{names_after_tick}
-use Rattle.sc_node_table.specs.Replica.{ReplicaState, Place, name_of, born_replica, last_slot}
+use Rattle.sc_node_table.specs.Replica.{ReplicaState, Place, Executed, name_of, born_replica, last_slot}
 use Rattle.sc_node_table.specs.Rows.{tick_row, made_by, mailed}
 use Rattle.sc_node_table.specs.Slots.{slots_ahead}
 use Rattle.sc_paxos_words.proofs.ListLemmas.{Each-append}
@@ -111,9 +110,9 @@ module _ (K : Draw → Type 0) where
   taken_names : (o : Option ReplicaState) (group : Draw) (from : ℕ) (body : MailBody) (node : NodeState) → Opt (ReplicaNames K) o → BodiesNames K body → NodeNames K node → NodeStep (taken_by o group from body node)
   taken_names None group from body node r b k = unknown_names from body node b k
   taken_names (Some replica) group from body node r b k =
-      let after : Place = mailed from body (replica, []) in
-      let f : Fine K after = mailed_names K from body (replica, []) b (r, tt) in (
-        kids_names (mailed_children from body (replica, []) []) (record node { replicas = with_replica group after.0 node.replicas }) (mailed_kids K from body (replica, []) [] b (r, tt) tt) (put_names group after.0 node.replicas f.0 k),
+      let after : Executed = mailed from body (replica, []) in
+      let f : Fine K after.0 = mailed_names K from body (replica, []) b (r, tt) in (
+        kids_names after.1 (record node { replicas = with_replica group after.0.0 node.replicas }) (mailed_kids K from body (replica, []) b (r, tt)) (put_names group after.0.0 node.replicas f.0 k),
         f.1,
       )
 

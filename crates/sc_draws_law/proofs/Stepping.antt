@@ -39,7 +39,6 @@ use Rattle.sc_machine_table.specs.Plans.{frozen_of}
 use Rattle.sc_machine_table.specs.Splits.{is_locked_in}
 use Rattle.sc_paxos_words.proofs.ListLemmas.{Each-append}
 use Rattle.sc_paxos_words.specs.Logs.{entry_at}
-use Rattle.sc_node_table.specs.Births.{mailed_children}
 use Rattle.sc_node_table.specs.Replica.{ReplicaState, Place, name_of, next, members, flying, is_idle, settled, last_slot, installed_replica}
 use Rattle.sc_node_table.specs.Acts.{has_act, with_act, act_queued}
 use Rattle.sc_node_table.specs.Election.{elected, stopped}
@@ -341,7 +340,7 @@ module _ (K : Draw → Type 0) where
 
   -- ---- all mail
 
-  pub mailed_names : (from : ℕ) (body : MailBody) (place : Place) → BodiesNames K body → F place → F (mailed from body place)
+  pub mailed_names : (from : ℕ) (body : MailBody) (place : Place) → BodiesNames K body → F place → F (mailed from body place).0
   unfolding mailed
   mailed_names from (Request group client seq op) place b f = request_names client seq op place f
   mailed_names from (Prepare group ballot from_slot) place b f = prepare_names K from ballot from_slot place f
@@ -361,22 +360,22 @@ module _ (K : Draw → Type 0) where
   mailed_names from (TxWatched tx coord part vote) place b f = watched_row_names from tx part vote place b.0 b.2 b.3 f
   mailed_names from (Told order result) place b f = f
 
-  pub mailed_kids : (from : ℕ) (body : MailBody) (place : Place) (made : List Base) → BodiesNames K body → F place → Kids K made → Kids K (mailed_children from body place made)
-  unfolding mailed_children
-  mailed_kids from (Accepted group ballot slot) place made b f m = accepted_kids K from ballot slot place made f m
-  mailed_kids from (Learn group slot command) place made b f m = learn_kids K slot command place made b.1 f m
-  mailed_kids from (Request group client seq op) place made b f m = m
-  mailed_kids from (Answer group seq answer) place made b f m = m
-  mailed_kids from (Prepare group ballot from_slot) place made b f m = m
-  mailed_kids from (Promise group ballot reports) place made b f m = m
-  mailed_kids from (Accept group ballot slot command) place made b f m = m
-  mailed_kids from (Nack group ballot) place made b f m = m
-  mailed_kids from (Ask group from_slot) place made b f m = m
-  mailed_kids from (Install group slot base sets) place made b f m = m
-  mailed_kids from (TxPrepare tx offer) place made b f m = m
-  mailed_kids from (TxVote tx coord part vote) place made b f m = m
-  mailed_kids from (TxOutcome tx part outcome) place made b f m = m
-  mailed_kids from (TxElsewhere tx coord hint) place made b f m = m
-  mailed_kids from (TxWatch tx watch) place made b f m = m
-  mailed_kids from (TxWatched tx coord part vote) place made b f m = m
-  mailed_kids from (Told order result) place made b f m = m
+  pub mailed_kids : (from : ℕ) (body : MailBody) (place : Place) → BodiesNames K body → F place → Kids K (mailed from body place).1
+  unfolding mailed
+  mailed_kids from (Accepted group ballot slot) place b f = accepted_kids K from ballot slot place f
+  mailed_kids from (Learn group slot command) place b f = learn_kids K from slot command place b.1 f
+  mailed_kids from (Request group client seq op) place b f = tt
+  mailed_kids from (Answer group seq answer) place b f = tt
+  mailed_kids from (Prepare group ballot from_slot) place b f = tt
+  mailed_kids from (Promise group ballot reports) place b f = tt
+  mailed_kids from (Accept group ballot slot command) place b f = tt
+  mailed_kids from (Nack group ballot) place b f = tt
+  mailed_kids from (Ask group from_slot) place b f = tt
+  mailed_kids from (Install group slot base sets) place b f = tt
+  mailed_kids from (TxPrepare tx offer) place b f = tt
+  mailed_kids from (TxVote tx coord part vote) place b f = tt
+  mailed_kids from (TxOutcome tx part outcome) place b f = tt
+  mailed_kids from (TxElsewhere tx coord hint) place b f = tt
+  mailed_kids from (TxWatch tx watch) place b f = tt
+  mailed_kids from (TxWatched tx coord part vote) place b f = tt
+  mailed_kids from (Told order result) place b f = tt

@@ -4,7 +4,6 @@ use Rattle.sc_base.specs.Same.{same_ballot}
 use Rattle.sc_base.specs.declared.names.Ballot.{Ballot}
 use Rattle.sc_base.specs.declared.names.Draw.{Draw}
 use Rattle.sc_cmd.specs.declared.commands.Command.{Command}
-use Rattle.sc_cmd.specs.declared.cores.Base.{Base}
 use Rattle.sc_mail.specs.declared.bodies.Mail.{Mail}
 use Rattle.sc_mail.specs.declared.bodies.MailBody.TheVariants.{Promise, Accepted, Nack, Learn, Ask}
 use Rattle.sc_member.specs.Roster.{is_member}
@@ -24,9 +23,8 @@ use Rattle.sc_paxos_words.specs.Acceptors.{AcceptorState, may_promise, may_accep
 use Rattle.sc_paxos_words.specs.Leaders.{LeaderState, flight_at, promise_counted}
 use Rattle.sc_paxos_words.specs.Logs.{entry_at}
 use Rattle.sc_paxos_words.specs.Votes.{kept_voters, voters_after, tallied, vote_at, counted}
-use Rattle.sc_node_table.specs.Births.{executed_children, learnt_children, readied_children, tallied_children, voted_children, accepted_children}
 use Rattle.sc_node_table.specs.Slots.{with_slot}
-use Rattle.sc_node_table.specs.Replica.{ReplicaState, Place, name_of, next, set_at, last_slot}
+use Rattle.sc_node_table.specs.Replica.{ReplicaState, Place, Executed, childless, name_of, next, set_at, last_slot}
 use Rattle.sc_node_table.specs.Mails.{sent}
 use Rattle.sc_node_table.specs.Election.{saw}
 use Rattle.sc_node_table.specs.Execute.{executed, has_room}
@@ -159,44 +157,51 @@ module _ (K : Draw → Type 0) where
   with_ready : (r : ReplicaState) (slot : ℕ) (command : Command) → CommandNames K command → R r → R (record r { ready = with_slot r.ready slot command })
   with_ready r slot command c k = record { core = k.core; log = k.log; accepted = k.accepted; reports = k.reports; flights = k.flights; ready = slot_with (CommandNames K) r.ready slot command c k.ready; acts = k.acts; calls = k.calls }
 
-  readied_names : (slot : ℕ) (command : Command) (place : Place) → CommandNames K command → F place → F (readied slot command place)
+  -- .. of a step with its children
+  abbrev FAll : Executed → Type 0
+  FAll step = F step.0
+
+  abbrev KidsOf : Executed → Type 0
+  KidsOf step = Kids K step.1
+
+  readied_names : (slot : ℕ) (command : Command) (place : Place) → CommandNames K command → F place → F (readied slot command place).0
   unfolding readied
   readied_names slot command (r, mails) c f =
       let after : ReplicaState = record r { ready = with_slot r.ready slot command } in
       let g : F (after, mails) = (with_ready r slot command c f.0, f.1) in
-      either_way F (eqb slot (next r) && has_room r) (executed true command (after, mails)) (after, mails) (executed_names K true command (after, mails) c g) g
+      either_way FAll (eqb slot (next r) && has_room r) (executed true command (after, mails)) (childless (after, mails)) (executed_names K true command (after, mails) c g) g
 
-  vote_names : (slot : ℕ) (p : Counted Command × LeaderState Command) (place : Place) → Counts p → F place → F (vote_tallied slot p place)
+  vote_names : (slot : ℕ) (p : Counted Command × LeaderState Command) (place : Place) → Counts p → F place → F (vote_tallied slot p place).0
   vote_names slot (Chosen command, leader) (r, mails) c f = readied_names slot command (record r { leader = leader }, mails) c.0 (with_leader r leader c.1 f.0, f.1)
   vote_names slot (NotYet count, leader) (r, mails) c f = (with_leader r leader c.1 f.0, f.1)
 
-  voted_names : (from : ℕ) (ballot : Ballot) (slot : ℕ) (set : Option (List ℕ)) (place : Place) → F place → F (voted from ballot slot set place)
+  voted_names : (from : ℕ) (ballot : Ballot) (slot : ℕ) (set : Option (List ℕ)) (place : Place) → F place → F (voted from ballot slot set place).0
   voted_names from ballot slot None place f = f
   voted_names from ballot slot (Some set) (r, mails) f = vote_names slot (counted from ballot slot set r.leader) (r, mails) (count_names from ballot slot set r.leader (f.0.reports, f.0.flights)) f
 
-  pub accepted_names : (from : ℕ) (ballot : Ballot) (slot : ℕ) (place : Place) → F place → F (accepted_row from ballot slot place)
+  pub accepted_names : (from : ℕ) (ballot : Ballot) (slot : ℕ) (place : Place) → F place → F (accepted_row from ballot slot place).0
   unfolding accepted_row
-  accepted_names from ballot slot (r, mails) f = either_way F (leads ballot r) (voted from ballot slot (set_at slot r) (r, mails)) (r, mails) (voted_names from ballot slot (set_at slot r) (r, mails) f) f
+  accepted_names from ballot slot (r, mails) f = either_way FAll (leads ballot r) (voted from ballot slot (set_at slot r) (r, mails)) (childless (r, mails)) (voted_names from ballot slot (set_at slot r) (r, mails) f) f
 
   -- .. and its children
-  readied_kids : (slot : ℕ) (command : Command) (place : Place) (made : List Base) → CommandNames K command → F place → Kids K made → Kids K (readied_children slot command place made)
-  unfolding readied_children
-  readied_kids slot command (r, mails) made c f m =
+  readied_kids : (slot : ℕ) (command : Command) (place : Place) → CommandNames K command → F place → Kids K (readied slot command place).1
+  unfolding readied
+  readied_kids slot command (r, mails) c f =
       let after : ReplicaState = record r { ready = with_slot r.ready slot command } in
       let g : F (after, mails) = (with_ready r slot command c f.0, f.1) in
-      either_way (Kids K) (eqb slot (next r) && has_room r) (executed_children true command (after, mails) made) made (executed_kids K true command (after, mails) made c g m) m
+      either_way KidsOf (eqb slot (next r) && has_room r) (executed true command (after, mails)) (childless (after, mails)) (executed_kids K true command (after, mails) c g) tt
 
-  vote_kids : (slot : ℕ) (p : Counted Command × LeaderState Command) (place : Place) (made : List Base) → Counts p → F place → Kids K made → Kids K (tallied_children slot p place made)
-  vote_kids slot (Chosen command, leader) (r, mails) made c f m = readied_kids slot command (record r { leader = leader }, mails) made c.0 (with_leader r leader c.1 f.0, f.1) m
-  vote_kids slot (NotYet count, leader) (r, mails) made c f m = m
+  vote_kids : (slot : ℕ) (p : Counted Command × LeaderState Command) (place : Place) → Counts p → F place → Kids K (vote_tallied slot p place).1
+  vote_kids slot (Chosen command, leader) (r, mails) c f = readied_kids slot command (record r { leader = leader }, mails) c.0 (with_leader r leader c.1 f.0, f.1)
+  vote_kids slot (NotYet count, leader) (r, mails) c f = tt
 
-  voted_kids : (from : ℕ) (ballot : Ballot) (slot : ℕ) (set : Option (List ℕ)) (place : Place) (made : List Base) → F place → Kids K made → Kids K (voted_children from ballot slot set place made)
-  voted_kids from ballot slot None place made f m = m
-  voted_kids from ballot slot (Some set) (r, mails) made f m = vote_kids slot (counted from ballot slot set r.leader) (r, mails) made (count_names from ballot slot set r.leader (f.0.reports, f.0.flights)) f m
+  voted_kids : (from : ℕ) (ballot : Ballot) (slot : ℕ) (set : Option (List ℕ)) (place : Place) → F place → Kids K (voted from ballot slot set place).1
+  voted_kids from ballot slot None place f = tt
+  voted_kids from ballot slot (Some set) (r, mails) f = vote_kids slot (counted from ballot slot set r.leader) (r, mails) (count_names from ballot slot set r.leader (f.0.reports, f.0.flights)) f
 
-  pub accepted_kids : (from : ℕ) (ballot : Ballot) (slot : ℕ) (place : Place) (made : List Base) → F place → Kids K made → Kids K (accepted_children from ballot slot place made)
-  unfolding accepted_children
-  accepted_kids from ballot slot (r, mails) made f m = either_way (Kids K) (leads ballot r) (voted_children from ballot slot (set_at slot r) (r, mails) made) made (voted_kids from ballot slot (set_at slot r) (r, mails) made f m) m
+  pub accepted_kids : (from : ℕ) (ballot : Ballot) (slot : ℕ) (place : Place) → F place → Kids K (accepted_row from ballot slot place).1
+  unfolding accepted_row
+  accepted_kids from ballot slot (r, mails) f = either_way KidsOf (leads ballot r) (voted from ballot slot (set_at slot r) (r, mails)) (childless (r, mails)) (voted_kids from ballot slot (set_at slot r) (r, mails) f) tt
 
   -- ---- Nack, Learn and Ask
 
@@ -204,17 +209,19 @@ module _ (K : Draw → Type 0) where
   unfolding nack_row
   nack_names ballot place f = saw_names K ballot place f
 
-  pub learn_names : (from slot : ℕ) (command : Command) (place : Place) → CommandNames K command → F place → F (learn_row from slot command place)
+  pub learn_names : (from slot : ℕ) (command : Command) (place : Place) → CommandNames K command → F place → F (learn_row from slot command place).0
   unfolding learn_row
   learn_names from slot command (r, mails) c f =
-      either_way F (nat_lt last_slot slot) _ _ f
-      (either_way F (eqb slot (next r)) _ _ (executed_names K false command (r, mails) c f)
-      (either_way F (nat_lt (next r) slot) (r, sent r.me from (Ask (name_of r) (next r)) mails) (r, mails) (f.0, sent_names K r.me from (Ask (name_of r) (next r)) mails f.0.core.id f.1) f))
+      either_way FAll (nat_lt last_slot slot) _ _ f
+      (either_way FAll (eqb slot (next r)) _ _ (executed_names K false command (r, mails) c f)
+      (either_way FAll (nat_lt (next r) slot) (childless (r, sent r.me from (Ask (name_of r) (next r)) mails)) (childless (r, mails)) (f.0, sent_names K r.me from (Ask (name_of r) (next r)) mails f.0.core.id f.1) f))
 
-  pub learn_kids : (slot : ℕ) (command : Command) (place : Place) (made : List Base) → CommandNames K command → F place → Kids K made → Kids K (learnt_children slot command place made)
-  unfolding learnt_children
-  learn_kids slot command place made c f m =
-      either_way (Kids K) (nat_lt last_slot slot) _ _ m (either_way (Kids K) (eqb slot (next place.0)) _ _ (executed_kids K false command place made c f m) m)
+  pub learn_kids : (from slot : ℕ) (command : Command) (place : Place) → CommandNames K command → F place → Kids K (learn_row from slot command place).1
+  unfolding learn_row
+  learn_kids from slot command (r, mails) c f =
+      either_way KidsOf (nat_lt last_slot slot) _ _ tt
+      (either_way KidsOf (eqb slot (next r)) _ _ (executed_kids K false command (r, mails) c f)
+      (either_way KidsOf (nat_lt (next r) slot) (childless (r, sent r.me from (Ask (name_of r) (next r)) mails)) (childless (r, mails)) tt tt))
 
   pub held_names : (slot : ℕ) (r : ReplicaState) → R r → Cmd K (entry_at slot r.log)
   held_names slot r k = either_way (Cmd K) (nat_lt r.log.base slot) _ _ (opt_get (CommandNames K) r.log.entries (slot - r.log.base - 1) k.log) tt

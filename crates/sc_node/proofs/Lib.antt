@@ -1,4 +1,5 @@
 mod Counting
+mod Making
 mod Naming
 mod Saying
 pub mod Standing
