@@ -68,7 +68,8 @@ impl Effect {
     {
         match self {
             Effect::Changed => Some(ToldResult::Done),
-            _ => self.refused(),
+            Effect::Refused(why) => Some(ToldResult::Refused(*why)),
+            _ => None,
         }
     }
 
