@@ -3,11 +3,11 @@ ghost use Rattle.std.specs.Prelude.{◌≡◌, ◌++◌, ◌∷◌, [], map, not
 ghost use Rattle.std.specs.List.{flat_map};
 ghost use Rattle.std.specs.Option.{option_copied};
 ghost use Rattle.sc_base.specs.Arc.{offset, before, from, joined};
-ghost use Rattle.sc_entries.specs.Rings.{first_cut, is_cut_of, arc_in, recut, parts_of, ring_divided, both_arcs, ring_merged, ring_moved, ring_decided, decided_by, ring_after};
+ghost use Rattle.sc_entries.specs.Rings.{first_cut, is_cut_of, arc_in, recut, parts_of, both_arcs, ring_merged, ring_moved, ring_divided, ring_decided, decided_by, ring_after};
 
-use crate::effects::{division_of, outcome_in};
-use sc_base::{Draw, OutOfMemory, RingArc};
-use sc_cmd::{Base, Command, Core, Effect, Outcome, same_draw};
+use crate::effects::division_of;
+use sc_base::{Draw, OutOfMemory, RingArc, same_draw};
+use sc_cmd::{Base, Command, Core, Effect, Outcome};
 use sc_entries::{Cut, Division};
 use std::alloc::Global;
 
@@ -247,9 +247,9 @@ fn after_decision(
         ring.items) }
 {
     match command {
-        Command::RecordVote { .. } | Command::RecordWatch { .. } => match effect {
-            Effect::Decided(outcome) => decided(alloc, outcome, core.id, core.succ.group, ring),
-            _ => Ok(ring),
+        Command::RecordVote { .. } | Command::RecordWatch { .. } => match effect.outcome() {
+            Some(outcome) => decided(alloc, outcome, core.id, core.succ.group, ring),
+            None => Ok(ring),
         },
         _ => Ok(ring),
     }

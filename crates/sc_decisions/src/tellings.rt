@@ -1,12 +1,11 @@
 //! What the entries of coordinators tell of their transactions.
 ghost use Rattle.std.specs.Prelude.{◌≡◌, ◌++◌, ◌∷◌, [], map, if◌then◌else◌, Some, IfOk, OnOk};
 ghost use Rattle.std.specs.Option.{option_copied};
-ghost use Rattle.sc_entries.specs.Births.{is_changed};
-ghost use Rattle.sc_entries.specs.Decisions.{outcome_in, is_of, with_watcher, with_outcome, named_watcher, amended, concluded, begun_transaction, begun_split, transactions_after, transaction_in, decision};
+ghost use Rattle.sc_cmd.specs.Effects.{is_changed, decided_in};
+ghost use Rattle.sc_entries.specs.Decisions.{is_of, with_watcher, with_outcome, named_watcher, amended, concluded, begun_transaction, begun_split, transactions_after, transaction_in, decision};
 
-use crate::effects::{is_alone, is_changed, outcome_in};
-use sc_base::{Draw, Dup, OutOfMemory};
-use sc_cmd::{Body, Command, Core, Effect, Outcome, Vote, same_draw};
+use sc_base::{Draw, Dup, OutOfMemory, same_draw};
+use sc_cmd::{Body, Command, Core, Effect, Outcome, Vote};
 use sc_entries::Transaction;
 use std::alloc::Global;
 
@@ -111,11 +110,11 @@ fn conclude(
     effect: &Effect,
 ) -> Result<(), OutOfMemory>
     ensures { OnOk result (transactions.new ≡
-        concluded (outcome_in effect.now) tx core.now.id transactions.old) }
+        concluded (decided_in effect.now) tx core.now.id transactions.old) }
 {
-    match effect {
-        Effect::Decided(outcome) => decide_all(alloc, transactions, tx, core.id, outcome),
-        _ => Ok(()),
+    match effect.outcome() {
+        Some(outcome) => decide_all(alloc, transactions, tx, core.id, outcome),
+        None => Ok(()),
     }
 }
 
@@ -130,9 +129,9 @@ fn hear(
 ) -> Result<(), OutOfMemory>
     ensures { OnOk result (transactions.new ≡ (if is_changed effect.now
         then amended tx core.now.id (with_watcher (named_watcher vote.now)) transactions.old
-        else concluded (outcome_in effect.now) tx core.now.id transactions.old)) }
+        else concluded (decided_in effect.now) tx core.now.id transactions.old)) }
 {
-    if is_changed(effect) {
+    if effect.is_changed() {
         watch_all(transactions, tx, core.id, named_watcher(vote));
         return Ok(());
     }
@@ -153,13 +152,13 @@ pub fn tell(
 {
     match command {
         Command::Begin { tx, body, .. } => {
-            if is_changed(effect) {
+            if effect.is_changed() {
                 transactions.push(begun_transaction(core, *tx, *body))?;
             }
             Ok(())
         }
         Command::Split { at, child, .. } => {
-            if is_changed(effect) && !is_alone(core) {
+            if effect.is_changed() && !core.is_alone() {
                 transactions.push(begun_split(core, *at, *child))?;
             }
             Ok(())

@@ -26,7 +26,7 @@ use Rattle.sc_node_table.specs.Replica.{ReplicaState, born_replica, last_slot, e
 use Rattle.sc_node_table.specs.Rows.{made_by, mailed}
 use Rattle.sc_node_table.specs.Slots.{slots_ahead}
 use Rattle.sc_sound.specs.Players.{Ahead, node_seat, player_table, Player}
-use Rattle.sc_sound.specs.declared.roles.Role.TheVariants.{Node as ANode}
+use Rattle.sc_mail.specs.declared.roles.Role.TheVariants.{Node as ANode}
 use Rattle.sc_scenario.specs.declared.scenarios.Scenario.{Scenario}
 use Rattle.sc_draws_law.specs.Owners.{Rows, Owned, owned_by, drawn_for, waited, wished_at, drawn_wishing, drawn_ticking, names_drawn, is_node_of, drawn_at, owner_by, owner_in}
 use Rattle.sc_draws_law.specs.Laws.{HasNames, NodesHaveNames, DrawnNamesAreOwned, RowsDrawOnce, OwnedNamesAreOfNodes, OtherNamesAreFree}

@@ -30,7 +30,7 @@ use Rattle.sc_node_table.specs.Replica.{born_replica}
 use Rattle.sc_node_table.specs.Slots.{numbers_from}
 use Rattle.sc_paxos_words.proofs.ListLemmas.{Each-among, Each-from, Each-append, Each-filter, find_found}
 use Rattle.sc_sound.specs.Players.{Ahead, Player, Lawful, player_table, node_seat, client_seat, client_seats, route_of, births, schedule, system_of}
-use Rattle.sc_sound.specs.declared.roles.Role.TheVariants.{Node, Client}
+use Rattle.sc_mail.specs.declared.roles.Role.TheVariants.{Node, Client}
 use Rattle.sc_scenario.specs.declared.scenarios.Asks.{Asks}
 use Rattle.sc_scenario.specs.declared.scenarios.Scenario.{Scenario}
 use Rattle.sc_draws_law.specs.Owners.{Rows, Owned, drawn_ticking, drawn_at, owner_in}

@@ -7,6 +7,7 @@ use Rattle.sc_base.specs.Same.{same_draw}
 use Rattle.sc_base.specs.declared.names.Draw.{Draw}
 use Rattle.sc_base.specs.declared.ops.Op.{Op}
 use Rattle.sc_base.specs.declared.ops.Noted.{Noted}
+use Rattle.sc_cmd.specs.Cores.{is_alone}
 use Rattle.sc_ideal.specs.IdealStore.{key_of, holds_key}
 use Rattle.sc_cmd.specs.declared.bodies.Body.{Body}
 use Rattle.sc_cmd.specs.declared.bodies.Body.TheVariants as At
@@ -38,7 +39,7 @@ use Rattle.sc_member.specs.Union.{united}
 use Rattle.sc_machine_table.specs.Children.{ordered_child, released_child, answered_child, watched_child, child_by}
 use Rattle.sc_machine_table.specs.Group.{Group}
 use Rattle.sc_machine_table.specs.Machine.{served_by_note, served, called, split_group, ordered_by, applied}
-use Rattle.sc_machine_table.specs.Orders.{locked_in, is_alone, limit_refused, body_refused, refused_free, refused_in, refusal_of, ordered, with_node, without_node}
+use Rattle.sc_machine_table.specs.Orders.{locked_in, limit_refused, body_refused, refused_free, refused_in, refusal_of, ordered, with_node, without_node}
 use Rattle.sc_machine_table.specs.Splits.{left_link, right_link, left_group, child_of, has_named}
 use Rattle.sc_machine_table.specs.Plans.{Plan, can_cut, has_key_of, can_split, may_merge, can_repart, taken, can_migrate, split_plan, merged_core, merged_link, merge_plan, closing_plan, repart_plan, migrate_plan}
 use Rattle.sc_machine_table.specs.Transactions.{asks_watcher, is_coordinating, begun_group, decided, committed, granted, participant_answered, vote_recorded, released, watch_answered, watch_recorded}

@@ -24,6 +24,7 @@ use Rattle.sc_cmd.specs.declared.votes.Past.{Past}
 use Rattle.sc_cmd.specs.declared.votes.Past.TheVariants as Cast
 use Rattle.sc_cmd.specs.declared.votes.Vote.{Vote}
 use Rattle.sc_cmd.specs.declared.votes.Vote.TheVariants as Says
+use Rattle.sc_cmd.specs.Effects.{refused_result, result_of, decided_in, cast_in}
 use Rattle.sc_mail.specs.declared.bodies.AnswerBody.{AnswerBody}
 use Rattle.sc_mail.specs.declared.bodies.Mail.{Mail}
 use Rattle.sc_mail.specs.declared.bodies.MailBody.{MailBody}
@@ -37,7 +38,7 @@ use Rattle.sc_node_table.specs.declared.Before.{Before}
 use Rattle.sc_node_table.specs.Mails.{sent, sent_all, sent_others, answered, answered_all, told_order, dismissed, dismissed_all}
 use Rattle.sc_node_table.specs.Questions.{offer_of, heard_question, question, asked_first}
 use Rattle.sc_node_table.specs.Transactions.{voted_to, watched_to, told_outcome}
-use Rattle.sc_node_table.specs.Spoken.{heard_from, before_in, before_of, refused_result, split_result, outcome_result, decided_result, begun_result, spoken_number, told_result, told_begun, decided_in, cast_in, asked_on, vote_sent, watch_sent, aborted_to, aborted_watcher, given_up_by, vote_answered, released_to, watch_answered_by, went_on, spoken_mails}
+use Rattle.sc_node_table.specs.Spoken.{heard_from, before_in, before_of, outcome_result, decided_result, begun_result, spoken_number, told_result, told_begun, asked_on, vote_sent, watch_sent, aborted_to, aborted_watcher, given_up_by, vote_answered, released_to, watch_answered_by, went_on, spoken_mails}
 use Rattle.sc_draws_law.specs.Names.{Opt, BodyNames, OfferNames, WatchNames, PastNames, OutcomeNames, HeardNames, LockNames, CoreNames, CommandNames, EffectNames, ResultNames, AnswerNames, BodiesNames, MailNames}
 use Rattle.sc_law_lemmas.proofs.Ways.{either_way}
 
@@ -164,7 +165,7 @@ module _ (K : Draw → Type 0) where
   refused_names (Was.Refused why) e = e
   refused_names _ e = tt
 
-  split_names : (effect : Effect) → EffectNames K effect → ResultOf (split_result effect)
+  split_names : (effect : Effect) → EffectNames K effect → ResultOf (result_of effect)
   split_names (Was.Refused why) e = e
   split_names _ e = tt
 
@@ -180,7 +181,7 @@ module _ (K : Draw → Type 0) where
   decided_result_names _ = tt
 
   begun_names : (alone : Bool) (effect : Effect) (command : Command) → EffectNames K effect → ResultOf (begun_result alone effect command)
-  begun_names alone effect (Split at child order) e = either_way ResultOf alone (split_result effect) (refused_result effect) (split_names effect e) (refused_names effect e)
+  begun_names alone effect (Split at child order) e = either_way ResultOf alone (result_of effect) (refused_result effect) (split_names effect e) (refused_names effect e)
   begun_names alone effect (Begin tx body order) e = refused_names effect e
   begun_names alone effect (RecordVote tx vote by) e = decided_result_names effect
   begun_names alone effect (GiveUp tx) e = decided_result_names effect

@@ -17,7 +17,7 @@ use Rattle.sc_node_table.specs.Ordering.{ordered_command, untaken, ordered_row}
 use Rattle.sc_node_table.specs.Pump.{pumped}
 use Rattle.sc_node_table.specs.Replica.{ReplicaState, name_of}
 use Rattle.sc_sound.specs.Players.{Ahead, player_table, node_seat}
-use Rattle.sc_sound.specs.declared.roles.Role.TheVariants.{Node}
+use Rattle.sc_mail.specs.declared.roles.Role.TheVariants.{Node}
 use Rattle.sc_scenario.specs.declared.scenarios.Scenario.{Scenario}
 use Rattle.sc_ring_law.specs.Allowed.{IsAllowed}
 use Rattle.sc_ring_law.specs.Stories.{Stories}

@@ -38,7 +38,7 @@ use Rattle.sc_node_table.specs.Replica.{ReplicaState}
 use Rattle.sc_paxos_words.specs.declared.flights.Flight.{Flight}
 use Rattle.sc_paxos_words.specs.declared.reports.Report.{Report}
 use Rattle.sc_sound.specs.Players.{Player}
-use Rattle.sc_sound.specs.declared.roles.Role.TheVariants.{Node, Client}
+use Rattle.sc_mail.specs.declared.roles.Role.TheVariants.{Node, Client}
 
 -- a fact of what is there, if anything is
 abbrev pub Opt : {X : Type 0} → (X → Type 0) → Option X → Type 0

@@ -16,7 +16,7 @@ use Rattle.sc_node_table.specs.Policy.{wished_line, names_after_tick}
 use Rattle.sc_node_table.specs.Reminders.{waited_in}
 use Rattle.sc_node_table.specs.Replica.{ReplicaState, members, settled, either}
 use Rattle.sc_sound.specs.Players.{Ahead, Player, player_table, node_seat}
-use Rattle.sc_sound.specs.declared.roles.Role.TheVariants.{Node, Client}
+use Rattle.sc_mail.specs.declared.roles.Role.TheVariants.{Node, Client}
 use Rattle.sc_scenario.specs.declared.scenarios.Scenario.{Scenario}
 
 -- rows of a journal

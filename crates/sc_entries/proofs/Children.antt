@@ -17,15 +17,17 @@ use Rattle.sc_cmd.specs.declared.votes.Heard.{Heard}
 use Rattle.sc_cmd.specs.declared.votes.Outcome.TheVariants.{Merged, Divided}
 use Rattle.sc_cmd.specs.declared.votes.Past.{Past}
 use Rattle.sc_cmd.specs.declared.votes.Past.TheVariants as Cast
+use Rattle.sc_cmd.specs.Effects.{is_changed, is_divided}
+use Rattle.sc_cmd.specs.Cores.{is_alone}
 use Rattle.sc_machine_table.specs.Children.{ordered_child, released_child, answered_child, watched_child}
 use Rattle.sc_machine_table.specs.Group.{Group}
 use Rattle.sc_machine_table.specs.Machine.{split_group}
-use Rattle.sc_machine_table.specs.Orders.{is_alone, refusal_of, ordered}
+use Rattle.sc_machine_table.specs.Orders.{refusal_of, ordered}
 use Rattle.sc_machine_table.specs.Plans.{can_split, may_merge, merged_group, merged_route}
 use Rattle.sc_machine_table.specs.Splits.{child_of, has_named, left_group}
 use Rattle.sc_machine_table.specs.Transactions.{asks_watcher, committed, released, watch_answered, watch_recorded}
 use Rattle.sc_entries.specs.declared.Division.{Division}
-use Rattle.sc_entries.specs.Births.{is_changed, is_divided, division_in, division_by}
+use Rattle.sc_entries.specs.Births.{division_in, division_by}
 use Rattle.sc_entries.specs.Laws.{BirthsAreChildren}
 
 -- the child of a division

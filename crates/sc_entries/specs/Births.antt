@@ -10,22 +10,11 @@ use Rattle.sc_cmd.specs.declared.cores.Core.{Core}
 use Rattle.sc_cmd.specs.declared.cores.Lock.{Lock}
 use Rattle.sc_cmd.specs.declared.cores.Lock.TheVariants.{Free, Coordinating, Promised, Watching}
 use Rattle.sc_cmd.specs.declared.effects.Effect.{Effect}
-use Rattle.sc_cmd.specs.declared.effects.Effect.TheVariants.{Changed, Decided}
-use Rattle.sc_cmd.specs.declared.votes.Outcome.TheVariants.{Divided}
+use Rattle.sc_cmd.specs.Cores.{is_alone}
+use Rattle.sc_cmd.specs.Effects.{is_changed, is_divided}
 use Rattle.sc_machine_table.specs.Group.{Group}
-use Rattle.sc_machine_table.specs.Orders.{is_alone}
 use Rattle.sc_machine_table.specs.Splits.{child_of}
 use Rattle.sc_entries.specs.declared.Division.{Division}
-
--- whether an order was carried out or begun
-abbrev pub is_changed : Effect → Bool
-is_changed Changed = true
-is_changed _ = false
-
--- whether a split was decided
-abbrev pub is_divided : Effect → Bool
-is_divided (Decided Divided) = true
-is_divided _ = false
 
 -- the division that a transaction is to make, if it is a split
 abbrev pub division_by : Body → Option Division

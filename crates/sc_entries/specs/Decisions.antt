@@ -9,18 +9,12 @@ use Rattle.sc_cmd.specs.declared.commands.Command.{Command}
 use Rattle.sc_cmd.specs.declared.commands.Command.TheVariants.{Noop, Call, Join, Leave, Split, Begin, Prepared, RecordVote, GiveUp, Finish, Watched, RecordWatch}
 use Rattle.sc_cmd.specs.declared.cores.Core.{Core}
 use Rattle.sc_cmd.specs.declared.effects.Effect.{Effect}
-use Rattle.sc_cmd.specs.declared.effects.Effect.TheVariants.{Decided}
 use Rattle.sc_cmd.specs.declared.votes.Outcome.{Outcome}
 use Rattle.sc_cmd.specs.declared.votes.Vote.{Vote}
 use Rattle.sc_cmd.specs.declared.votes.Vote.TheVariants.{Yes, No}
-use Rattle.sc_machine_table.specs.Orders.{is_alone}
+use Rattle.sc_cmd.specs.Effects.{decided_in, is_changed}
+use Rattle.sc_cmd.specs.Cores.{is_alone}
 use Rattle.sc_entries.specs.declared.Transaction.{Transaction}
-use Rattle.sc_entries.specs.Births.{is_changed}
-
--- what an effect decides, if it decides something
-abbrev pub outcome_in : Effect → Option Outcome
-outcome_in (Decided outcome) = Some outcome
-outcome_in _ = None
 
 -- ---- how each entry of a coordinator adds to what is told of its transaction
 
@@ -65,9 +59,9 @@ transactions_after core (Split at child order) effect transactions =
     if is_changed effect && not (is_alone core) then transactions ++ begun_split core at child ∷ [] else transactions
 transactions_after core (RecordVote tx vote by) effect transactions =
     if is_changed effect then amended tx core.id (with_watcher (named_watcher vote)) transactions
-    else concluded (outcome_in effect) tx core.id transactions
-transactions_after core (RecordWatch tx vote by) effect transactions = concluded (outcome_in effect) tx core.id transactions
-transactions_after core (GiveUp tx) effect transactions = concluded (outcome_in effect) tx core.id transactions
+    else concluded (decided_in effect) tx core.id transactions
+transactions_after core (RecordWatch tx vote by) effect transactions = concluded (decided_in effect) tx core.id transactions
+transactions_after core (GiveUp tx) effect transactions = concluded (decided_in effect) tx core.id transactions
 transactions_after core Noop effect transactions = transactions
 transactions_after core (Call client seq op) effect transactions = transactions
 transactions_after core (Join node order) effect transactions = transactions

@@ -13,10 +13,10 @@ use Rattle.sc_cmd.specs.declared.cores.Core.{Core}
 use Rattle.sc_cmd.specs.declared.effects.Effect.{Effect}
 use Rattle.sc_cmd.specs.declared.votes.Outcome.{Outcome}
 use Rattle.sc_cmd.specs.declared.votes.Outcome.TheVariants.{Abort, Merged, Moved, Migrated, Divided}
+use Rattle.sc_cmd.specs.Effects.{decided_in}
 use Rattle.sc_entries.specs.declared.Cut.{Cut}
 use Rattle.sc_entries.specs.declared.Division.{Division}
 use Rattle.sc_entries.specs.Births.{division_of}
-use Rattle.sc_entries.specs.Decisions.{outcome_in}
 
 -- the ring covers: each position lies in the arc of exactly one cut, and no group has two
 pub record Covers (ring : List Cut) : Type 0 where
@@ -90,8 +90,8 @@ ring_decided (Some Divided) coordinator participant ring = ring
 
 -- what an entry decides for its group as coordinator: by its participant's vote or its watcher's. Giving up is an abort, and a Finish follows what another group decided.
 abbrev pub decided_by : Command → Effect → Option Outcome
-decided_by (RecordVote tx vote by) effect = outcome_in effect
-decided_by (RecordWatch tx vote by) effect = outcome_in effect
+decided_by (RecordVote tx vote by) effect = decided_in effect
+decided_by (RecordWatch tx vote by) effect = decided_in effect
 decided_by Noop effect = None
 decided_by (Call client seq op) effect = None
 decided_by (Join node order) effect = None

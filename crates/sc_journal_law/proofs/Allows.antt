@@ -16,10 +16,10 @@ use Rattle.sc_cmd.specs.declared.votes.Heard.{Heard}
 use Rattle.sc_cmd.specs.declared.votes.Outcome.{Outcome}
 use Rattle.sc_cmd.specs.declared.votes.Past.{Past}
 use Rattle.sc_cmd.specs.declared.votes.Vote.{Vote}
+use Rattle.sc_cmd.specs.Effects.{decided_in}
 use Rattle.sc_machine_table.specs.Group.{Group}
 use Rattle.sc_machine_table.specs.Machine.{applied}
 use Rattle.sc_machine_table.specs.Transactions.{asks_watcher, participant_answered, vote_recorded, watch_answered, watch_recorded, is_coordinating, aborted}
-use Rattle.sc_entries.specs.Decisions.{outcome_in}
 use Rattle.sc_ring_law.specs.Allowed.{Sources}
 use Rattle.sc_ring_law.specs.Invariant.{Groups, Facts, IsCoordinating, IsPromised, LockOk}
 use Rattle.sc_ring_law.specs.Stories.{Story, Stories, retold, with_answer, with_decision, with_watch_vote, watch_vote_in}
@@ -86,11 +86,11 @@ module _ (sources : Sources) (by : Draw) (group : Group) where
 
   ends_by_watch : (tx : Draw) (vote : Past) (node : ℕ) → EndsBy sources by group tx (RecordWatch tx vote node)
   ends_by_watch tx vote node outcome e name groups stories facts is may =
-      ended groups stories facts is tx (λ effect. with_decision (outcome_in effect)) (applied group (RecordWatch tx vote node)).1 outcome e (λ story. refl) (by_watch group.core.lock group tx vote outcome e)
+      ended groups stories facts is tx (λ effect. with_decision (decided_in effect)) (applied group (RecordWatch tx vote node)).1 outcome e (λ story. refl) (by_watch group.core.lock group tx vote outcome e)
 
   ends_by_giving : (tx : Draw) → EndsBy sources by group tx (GiveUp tx)
   ends_by_giving tx outcome e name groups stories facts is may =
-      ended groups stories facts is tx (λ effect. with_decision (outcome_in effect)) (applied group (GiveUp tx)).1 outcome e (λ story. refl) (by_giving group.core.lock group tx outcome e)
+      ended groups stories facts is tx (λ effect. with_decision (decided_in effect)) (applied group (GiveUp tx)).1 outcome e (λ story. refl) (by_giving group.core.lock group tx outcome e)
 
   pub group_allows : GroupAllows sources by group
   group_allows = record {

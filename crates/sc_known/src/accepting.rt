@@ -8,8 +8,8 @@ ghost use Rattle.sc_sound.specs.Accepts.{is_accepted, accepts_of, accepts_at, ac
 ghost use Rattle.sc_known.specs.Acceptances.{steps_of, steps_by};
 
 use sc_actor::{Event, Row};
-use sc_base::{Ballot, Draw, Dup, OutOfMemory};
-use sc_cmd::{Command, OrderLine, same_ballot, same_draw};
+use sc_base::{Ballot, Draw, Dup, OutOfMemory, same_ballot, same_draw};
+use sc_cmd::{Command, OrderLine};
 use sc_mail::{Mail, MailBody};
 use std::alloc::Global;
 

@@ -7,8 +7,8 @@ ghost use Rattle.sc_paxos_law.specs.Decided.{voters_of, found_in, chosen_at};
 ghost use Rattle.sc_known.specs.Acceptances.{steps_of, report_of, is_lesser, with_chosen};
 
 use crate::accepting::Acceptance;
-use sc_base::Ballot;
-use sc_cmd::{Command, same_ballot};
+use sc_base::{Ballot, same_ballot};
+use sc_cmd::Command;
 use sc_member::Members;
 
 // Whether a node accepted at a slot in a ballot.

@@ -4,8 +4,8 @@ ghost use Rattle.sc_machine_table.specs.Transactions.{decided, granted, particip
 ghost use Rattle.sc_machine.specs.Memory.{Makes, LooksThrough, MayLookThrough, LockLooksThrough};
 
 use crate::machine::Machine;
-use sc_base::{Draw, Dup, OutOfMemory};
-use sc_cmd::{Body, Effect, Frozen, Heard, Lock, Outcome, Past, Vote, same_draw};
+use sc_base::{Draw, Dup, OutOfMemory, same_draw};
+use sc_cmd::{Body, Effect, Frozen, Heard, Lock, Outcome, Past, Vote};
 use sc_machine_choices::{decides_alone, note_decision};
 use sc_split_merge::can_split;
 

@@ -2,7 +2,8 @@
 ghost use Rattle.std.specs.Prelude.{◌≡◌};
 ghost use Rattle.sc_base.specs.Same.{same_draw};
 
-use sc_cmd::{Core, Frozen, same_draw};
+use sc_base::same_draw;
+use sc_cmd::{Core, Frozen};
 
 /// Whether a participant's Yes decides a merge: only where the two groups make the ring. Else the
 /// group after the participant is asked first.

@@ -5,8 +5,7 @@ ghost use Rattle.sc_base.specs.Arc.{IsArc};
 ghost use Rattle.sc_entries.specs.Rings.{Covers};
 ghost use Rattle.sc_map_checks.specs.Covering.{is_beside, is_other, are_others, is_followed};
 
-use sc_base::RingArc;
-use sc_cmd::same_draw;
+use sc_base::{RingArc, same_draw};
 use sc_entries::Cut;
 
 // Whether two arcs have no position in common: neither holds where the other starts.

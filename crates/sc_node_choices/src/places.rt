@@ -6,8 +6,7 @@ ghost use Rattle.sc_node_table.specs.Node.{replica_of};
 ghost use Rattle.sc_node_choices.specs.Places.{place_from, IsPlaceOf};
 
 use crate::holders::Holder;
-use sc_base::Draw;
-use sc_cmd::same_draw;
+use sc_base::{Draw, same_draw};
 
 /// Whether the replica at a place is a group's.
 fn is_of<H: Holder>(holder: &H, i: usize, group: Draw) -> bool

@@ -10,7 +10,7 @@ use Rattle.sc_mail.specs.declared.bodies.AnswerBody.{AnswerBody}
 use Rattle.sc_mail.specs.declared.bodies.AnswerBody.TheVariants as Says
 use Rattle.sc_mail.specs.declared.bodies.MailBody.TheVariants.{Learn}
 use Rattle.sc_cmd.specs.declared.orders.ToldResult.{ToldResult}
-use Rattle.sc_cmd.specs.declared.orders.ToldResult.TheVariants as Tells
+use Rattle.sc_cmd.specs.Effects.{result_of}
 use Rattle.sc_member.specs.Roster.{is_member, least_of}
 use Rattle.sc_paxos_words.specs.Logs.{LogState, learnt, next_of}
 use Rattle.sc_paxos_words.specs.Leaders.{without_flight_at}
@@ -56,21 +56,7 @@ told_call (Some answer) (Call client seq op) (r, mails) = (r, answer_to r.me (na
 told_call None (Call client seq op) (r, mails) = (put_back (Call client seq op) r, mails)
 told_call answer command place = place
 
--- .. and what an order came to is told by each replica that executes it
-abbrev pub result_of : Effect → Option ToldResult
-result_of Was.Changed = Some Tells.Done
-result_of (Was.Refused why) = Some (Tells.Refused why)
-result_of (Was.Done reply) = None
-result_of (Was.Again reply) = None
-result_of (Was.Stale last) = None
-result_of (Was.NotMine arc succ) = None
-result_of (Was.Gone into) = None
-result_of (Was.NoEffect tx) = None
-result_of Was.Idle = None
-result_of (Was.Voted vote) = None
-result_of (Was.Decided outcome) = None
-
--- of a join and a leave it is told so; splits and transactions are spoken of apart
+-- .. and what a join or a leave came to is told by each replica that executes it; splits and transactions are spoken of apart
 abbrev pub order_result : Command → Effect → Option ToldResult
 order_result (Join node order) effect = result_of effect
 order_result (Leave node order) effect = result_of effect

@@ -22,7 +22,7 @@ use Rattle.sc_node_table.specs.Replica.{ReplicaState, Place, Executed, name_of, 
 use Rattle.sc_node_table.specs.Rows.{tick_row, made_by, mailed}
 use Rattle.sc_node_table.specs.Slots.{slots_ahead}
 use Rattle.sc_sound.specs.Players.{Player, player_table}
-use Rattle.sc_sound.specs.declared.roles.Role.TheVariants.{Node, Client}
+use Rattle.sc_mail.specs.declared.roles.Role.TheVariants.{Node, Client}
 use Rattle.sc_queue_law.specs.OneCall.{KeepsOneCall, EachKeepsOneCall, StepsKeepOneCall, QueuesKeepOneCall}
 use Rattle.sc_queue_law.proofs.Lists.{one_none}
 use Rattle.sc_law_lemmas.proofs.Ways.{either_way}

@@ -36,7 +36,7 @@ use Rattle.sc_node_table.specs.Node.{NodeState, born_replicas, node_table, repli
 use Rattle.sc_node_table.specs.Replica.{ReplicaState, born_replica, name_of, settled, last_slot}
 use Rattle.sc_scenario.specs.declared.scenarios.Scenario.{Scenario}
 use Rattle.sc_sound.specs.Players.{Ahead, Player, node_seat, player_table}
-use Rattle.sc_sound.specs.declared.roles.Role.TheVariants.{Node, Client}
+use Rattle.sc_mail.specs.declared.roles.Role.TheVariants.{Node, Client}
 use Rattle.sc_law_lemmas.proofs.Ways.{either_way}
 use Rattle.sc_refusal_law.specs.Journals.{Rows, coordinates, node_coordinates, is_tick, is_counted, ticks_from}
 use Rattle.sc_refusal_law.proofs.NodeSteps.{Keeps, still_all, node_keeps}

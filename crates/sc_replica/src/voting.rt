@@ -13,8 +13,8 @@ ghost use Rattle.sc_node_table.specs.Voting.{hinted, promise_to, promised, prepa
 
 use crate::replica::Replica;
 use sc_acceptor::{AcceptAnswer, PrepareAnswer};
-use sc_base::{Ballot, Dup, OutOfMemory, Sequence};
-use sc_cmd::{Command, same_ballot};
+use sc_base::{Ballot, Dup, OutOfMemory, Sequence, same_ballot};
+use sc_cmd::Command;
 use sc_leader::Counted;
 use sc_mail::{Mail, MailBody, Reports};
 use sc_member::Members;

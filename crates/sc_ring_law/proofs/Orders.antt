@@ -22,10 +22,11 @@ use Rattle.sc_cmd.specs.declared.orders.OrderRefusal.TheVariants.{BadBoundary}
 use Rattle.sc_cmd.specs.declared.votes.Heard.{Heard}
 use Rattle.sc_cmd.specs.declared.votes.Outcome.{Outcome}
 use Rattle.sc_cmd.specs.declared.votes.Outcome.TheVariants.{Abort, Merged, Moved, Migrated, Divided}
+use Rattle.sc_cmd.specs.Cores.{is_alone}
 use Rattle.sc_machine_table.specs.Group.{Group, group_of}
 use Rattle.sc_machine_table.specs.Finishes.{can_gain, gained_group, lost_group, welcomed_group, participant_after, settled_in, party_freed, watcher_after, watch_ended, finished}
 use Rattle.sc_machine_table.specs.Machine.{split_group, ordered_by}
-use Rattle.sc_machine_table.specs.Orders.{is_alone, refusal_of, split_refused}
+use Rattle.sc_machine_table.specs.Orders.{refusal_of, split_refused}
 use Rattle.sc_machine_table.specs.Plans.{can_cut, has_key_of}
 use Rattle.sc_machine_table.specs.Splits.{left_group, child_of}
 use Rattle.sc_machine_table.specs.Transactions.{begun_group}

@@ -16,7 +16,7 @@ use Rattle.sc_node_table.specs.Node.{NodeState}
 use Rattle.sc_node_table.specs.Replica.{ReplicaState, name_of, next}
 use Rattle.sc_paxos_law.specs.Chosen.{IsLog}
 use Rattle.sc_sound.specs.Players.{Ahead, node_seat, player_table, route_of}
-use Rattle.sc_sound.specs.declared.roles.Role.TheVariants.{Node as ANode}
+use Rattle.sc_mail.specs.declared.roles.Role.TheVariants.{Node as ANode}
 use Rattle.sc_scenario.specs.declared.scenarios.Asks.{Asks}
 use Rattle.sc_scenario.specs.declared.scenarios.Scenario.{Scenario}
 use Rattle.sc_entries.specs.declared.Cut.{Cut}

@@ -3,8 +3,8 @@ ghost use Rattle.std.specs.Prelude.{◌≡◌, ◌<◌, ◌^◌, IfOk, true};
 ghost use Rattle.sc_member.specs.Union.{united};
 ghost use Rattle.sc_machine_table.specs.Plans.{can_merge, merged_succ, merged_core};
 
-use sc_base::{Dup, OutOfMemory};
-use sc_cmd::{Core, Frozen, Link, same_draw};
+use sc_base::{Dup, OutOfMemory, same_draw};
+use sc_cmd::{Core, Frozen, Link};
 use sc_member::Members;
 use std::alloc::Global;
 

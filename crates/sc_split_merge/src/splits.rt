@@ -2,12 +2,12 @@
 ghost use Rattle.std.specs.Prelude.{◌≡◌, ◌↔◌, IsTrue, ◌≤◌, ◌<◌, IfOk, All, length, [], ◌∷◌, ◌++◌, None, if◌then◌else◌};
 ghost use Rattle.sc_cmd.specs.declared.cores.Lock.TheVariants.{Free};
 ghost use Rattle.sc_member.specs.Roster.{IsRoster, least_of};
-ghost use Rattle.sc_machine_table.specs.Orders.{is_alone};
+ghost use Rattle.sc_cmd.specs.Cores.{is_alone};
 ghost use Rattle.sc_machine_table.specs.Plans.{can_split};
 ghost use Rattle.sc_machine_table.specs.Splits.{CanSplit, staying, left_members, right_members, left_core, right_core, left_pred, right_succ};
 
 use sc_base::{Draw, Dup, OutOfMemory, RingArc, Sequence};
-use sc_cmd::{Core, Link, Lock, same_draw};
+use sc_cmd::{Core, Link, Lock};
 use sc_member::Members;
 use std::alloc::Global;
 
@@ -86,12 +86,6 @@ fn put_last(members: &mut Members, node: u16)
     }
 }
 
-fn is_alone(core: &Core) -> bool
-    ensures { result ≡ is_alone core.now }
-{
-    same_draw(core.succ.group, core.id)
-}
-
 /// The group that keeps this arc and is `own` from now on, beside a child there.
 fn left_part(
     alloc: Global,
@@ -111,7 +105,7 @@ fn left_part(
           born = core.now.born ++ child.now.group ∷ [];
         }) }
 {
-    let pred = if is_alone(core) { *child } else { core.pred };
+    let pred = if core.is_alone() { *child } else { core.pred };
     let mut left = core.dup(alloc)?;
     left.born.push(child.group)?;
     left.arc = arc;
@@ -139,7 +133,7 @@ fn right_part(alloc: Global, core: &Core, arc: RingArc, parent: &Link, child: &L
           gone = None;
         } }
 {
-    let succ = if is_alone(core) { *parent } else { core.succ };
+    let succ = if core.is_alone() { *parent } else { core.succ };
     Core {
         id: child.group,
         first: child.members.least(),

@@ -1,6 +1,6 @@
 use crate::starts::nodes;
-use sc_base::{Draw, Pairs, RingArc, SeenList, Sequence};
-use sc_cmd::{Body, Command, Core, Frozen, Link, Lock, No, Offer, same_draw};
+use sc_base::{Draw, Pairs, RingArc, SeenList, Sequence, same_draw};
+use sc_cmd::{Body, Command, Core, Frozen, Link, Lock, No, Offer};
 use sc_member::Members;
 use sc_migrate::{can_migrate, plan_migrate, welcomed_members};
 use sc_repart::{can_repart, gained_arc, lost_arc, plan_repart};

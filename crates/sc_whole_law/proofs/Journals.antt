@@ -29,7 +29,7 @@ use Rattle.sc_node_table.specs.Policy.{wished_line, names_after_tick}
 use Rattle.sc_node_table.specs.Replica.{ReplicaState, name_of, members, settled}
 use Rattle.sc_paxos_words.proofs.ListLemmas.{Each-among}
 use Rattle.sc_sound.specs.Players.{Ahead, Lawful, node_seat, player_table, system_of, schedule}
-use Rattle.sc_sound.specs.declared.roles.Role.TheVariants.{Node as ANode}
+use Rattle.sc_mail.specs.declared.roles.Role.TheVariants.{Node as ANode}
 use Rattle.sc_scenario.specs.declared.scenarios.Asks.{Asks}
 use Rattle.sc_scenario.specs.declared.scenarios.Scenario.{Scenario}
 use Rattle.sc_sound.specs.GroupsOf.{AreNamedApart, groups_at}

@@ -21,7 +21,7 @@ use Rattle.sc_lookup.specs.declared.ways.Way.{Way}
 use Rattle.sc_node_table.specs.Slots.{numbers_from}
 use Rattle.sc_paxos_law.specs.Lawful.{IsLawfulHistory}
 use Rattle.sc_sound.specs.Players.{Ahead, Player, node_seat, client_seat, client_seats, route_of}
-use Rattle.sc_sound.specs.declared.roles.Role.TheVariants.{Client as AClient}
+use Rattle.sc_mail.specs.declared.roles.Role.TheVariants.{Client as AClient}
 use Rattle.sc_scenario.specs.declared.scenarios.Asks.{Asks}
 use Rattle.sc_scenario.specs.declared.scenarios.Scenario.{Scenario}
 use Rattle.sc_sound.specs.GroupsOf.{groups_at}

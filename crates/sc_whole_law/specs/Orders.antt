@@ -10,7 +10,7 @@ use Rattle.sc_node_table.specs.Node.{NodeState, group_of_order, names_after_tick
 use Rattle.sc_node_table.specs.Ordering.{ordered_command, untaken}
 use Rattle.sc_node_table.specs.Replica.{ReplicaState, name_of}
 use Rattle.sc_sound.specs.Players.{Ahead, node_seat, player_table}
-use Rattle.sc_sound.specs.declared.roles.Role.TheVariants.{Node}
+use Rattle.sc_mail.specs.declared.roles.Role.TheVariants.{Node}
 use Rattle.sc_scenario.specs.declared.scenarios.Scenario.{Scenario}
 use Rattle.sc_ring_law.specs.Allowed.{Sources, IsAllowed}
 use Rattle.sc_ring_law.specs.Stories.{Stories}

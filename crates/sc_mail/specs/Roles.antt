@@ -2,8 +2,8 @@
 use Rattle.sc_cmd.specs.declared.orders.OrderLine.{OrderLine}
 use Rattle.sc_mail.specs.declared.bodies.Mail.{Mail}
 use Rattle.sc_actor.specs.Replay.{Table}
-use Rattle.sc_sound.specs.declared.roles.Role.{Role}
-use Rattle.sc_sound.specs.declared.roles.Role.TheVariants.{Node, Client}
+use Rattle.sc_mail.specs.declared.roles.Role.{Role}
+use Rattle.sc_mail.specs.declared.roles.Role.TheVariants.{Node, Client}
 
 -- a node keeps to its table, and a client to its own
 abbrev pub role_table : {N C : Type 0} → Table N Mail OrderLine → Table C Mail OrderLine → Table (Role N C) Mail OrderLine

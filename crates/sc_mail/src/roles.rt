@@ -1,11 +1,11 @@
 //! A node or a client.
 ghost use Rattle.std.specs.Prelude.{◌≡◌, IfOk};
-ghost use Rattle.sc_sound.specs.Roles.{role_table};
+ghost use Rattle.sc_mail.specs.Roles.{role_table};
 
+use crate::bodies::Mail;
 use sc_actor::{Actor, Input};
 use sc_base::{OutOfMemory, Sequence};
 use sc_cmd::OrderLine;
-use sc_mail::Mail;
 use std::alloc::Global;
 
 /// A node or a client, whatever a node is and whatever a client is: two machines, or the values of
