@@ -42,7 +42,7 @@ use Rattle.sc_group_law.proofs.Offspring.{IsChildOf, learnt_are, accepted_are}
 use Rattle.sc_group_law.proofs.Newborn.{born_replica_is}
 use Rattle.sc_group_law.proofs.Holding.{each_with, each_new, Holds, held, none_held, with_held, with_far, new_held, new_far}
 use Rattle.sc_base.proofs.NameLemmas.{same_name, draw_is}
-use Rattle.sc_entries.proofs.Names.{names_differ}
+use Rattle.sc_log_entries.proofs.Names.{names_differ}
 
 -- ---- one group's replica
 

@@ -26,12 +26,12 @@ use Rattle.sc_machine_table.specs.Splits.{has_named}
 use Rattle.sc_machine_table.specs.Transactions.{is_coordinating}
 use Rattle.sc_machine_table.specs.Votes.{has_voted}
 use Rattle.sc_base.specs.declared.ops.Op.{Op}
-use Rattle.sc_entries.specs.declared.LogEntry.{LogEntry}
-use Rattle.sc_entries.specs.declared.Transaction.{Transaction}
-use Rattle.sc_entries.specs.Decisions.{decision, transaction_in}
-use Rattle.sc_entries.specs.Effective.{is_commit, serves}
-use Rattle.sc_entries.specs.Rings.{arc_in}
-use Rattle.sc_entries.specs.Worlds.{StoreWorld, first_world, named_group, told}
+use Rattle.sc_log_entries.specs.declared.LogEntry.{LogEntry}
+use Rattle.sc_log_entries.specs.declared.Transaction.{Transaction}
+use Rattle.sc_log_entries.specs.Decisions.{decision, transaction_in}
+use Rattle.sc_log_entries.specs.Effective.{is_commit, serves}
+use Rattle.sc_log_entries.specs.Rings.{arc_in}
+use Rattle.sc_log_entries.specs.Worlds.{StoreWorld, first_world, named_group, told}
 use Rattle.sc_hist_law.specs.Moves.{RequestOf, TellsHoldings}
 use Rattle.sc_hist_law.specs.Worlds.{BeginBare, MakesMove, TellByMoves, holdings_in}
 

@@ -9,7 +9,7 @@ ghost use Rattle.sc_machine_table.specs.Children.{ordered_child, split_child, re
 use crate::machine::Machine;
 use sc_base::{Draw, OutOfMemory, same_draw};
 use sc_cmd::{Base, Body, Command, Lock, Past};
-use sc_split_merge::{can_split, plan_split};
+use sc_txn::{can_split, plan_split};
 use sc_txn::{check, has_named};
 
 impl Machine {

@@ -9,10 +9,10 @@ ghost use Rattle.sc_machine_table.specs.Transactions.{committed, decided};
 use crate::machine::Machine;
 use sc_base::{Boxed, Draw, OutOfMemory, Pairs, RingArc, SeenList};
 use sc_cmd::{Core, Effect, Frozen, Gift, Link, Outcome, Route};
-use sc_machine_choices::take_over;
-use sc_migrate::{can_migrate, plan_migrate};
-use sc_repart::{can_repart, plan_repart};
-use sc_split_merge::{can_merge, can_split, plan_merge};
+use sc_store::take_over;
+use sc_txn::{can_migrate, plan_migrate};
+use sc_txn::{can_repart, plan_repart};
+use sc_txn::{can_merge, can_split, plan_merge};
 use sc_store::Store;
 use std::alloc::Global;
 

@@ -6,11 +6,11 @@ ghost use Rattle.sc_machine.specs.Memory.{Makes};
 
 use crate::machine::Machine;
 use sc_base::{Boxed, Draw, Dup, OutOfMemory, Sequence, same_draw};
-use sc_clients::ClientTable;
+use sc_store::ClientTable;
 use sc_cmd::{Core, Effect, Gift, Link, Lock, No, Offer, Outcome, Past, Route, VotedList, Watch};
-use sc_machine_choices::take_over;
-use sc_migrate::welcomed_members;
-use sc_repart::{gained_arc, lost_arc};
+use sc_store::take_over;
+use sc_txn::welcomed_members;
+use sc_txn::{gained_arc, lost_arc};
 use sc_store::Store;
 use sc_txn::{has_voted, vote, watch_vote};
 use std::alloc::Global;

@@ -15,8 +15,8 @@ use Rattle.sc_node_table.specs.Mails.{told_desk}
 use Rattle.sc_node_table.specs.Rows.{mailed, tick_row}
 use Rattle.sc_node_table.specs.Policy.{names_after_tick}
 use Rattle.sc_node_table.specs.Ordering.{ordered_row, names_after}
-use Rattle.sc_node_choices.specs.Places.{StandsAt}
-use Rattle.sc_node_choices.specs.Ticking.{ticked_at}
+use Rattle.sc_node.specs.Places.{StandsAt}
+use Rattle.sc_node.specs.Ticking.{ticked_at}
 
 -- a mail for a group whose replica stands at a place
 pub taken-at : (group : Draw) (from : ℕ) (body : MailBody) (node : NodeState) (n : ℕ) (d new : ReplicaState) (more : List Mail) (made : List Base) → StandsAt group node.replicas n

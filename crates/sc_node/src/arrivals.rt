@@ -10,7 +10,7 @@ use crate::node::NodeCore;
 use sc_base::{Draw, Dup, OutOfMemory, Sequence};
 use sc_cmd::{Base, MemberSets};
 use sc_mail::{Mail, MailBody};
-use sc_node_choices::has_replica;
+use crate::has_replica;
 use sc_node_table::OPEN_SLOTS;
 use sc_replica::{LAST_SLOT, Replica};
 use std::alloc::Global;

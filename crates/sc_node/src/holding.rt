@@ -3,7 +3,7 @@ use crate::node::NodeCore;
 use crate::ticks::on_tick;
 use sc_base::{Draw, OutOfMemory, Sequence};
 use sc_mail::Mail;
-use sc_node_choices::Holder;
+use crate::Holder;
 
 impl Holder for NodeCore {
     ghost node = { λ n. n };

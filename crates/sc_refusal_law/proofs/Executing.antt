@@ -40,7 +40,7 @@ use Rattle.sc_node_table.specs.Queues.{put_back}
 use Rattle.sc_node_table.specs.Replica.{ReplicaState, Place, Executed, childless, name_of, next, members, flying, forgotten}
 use Rattle.sc_node_table.specs.Slots.{at_slot}
 use Rattle.sc_node_table.specs.Spoken.{before_of, spoken}
-use Rattle.sc_draws_law.proofs.Lists.{opt_slot, slot_without, flight_without}
+use Rattle.sc_names_law.proofs.Lists.{opt_slot, slot_without, flight_without}
 use Rattle.sc_law_lemmas.proofs.Places.{welcomed_place, cleared}
 use Rattle.sc_law_lemmas.proofs.Ways.{either_way}
 use Rattle.sc_refusal_law.specs.Causes.{IsRefusedAtEntry, RefusesCall, log_with, log_after}

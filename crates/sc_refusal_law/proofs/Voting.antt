@@ -33,8 +33,8 @@ use Rattle.sc_node_table.specs.Install.{install_to}
 use Rattle.sc_node_table.specs.Pump.{pumped}
 use Rattle.sc_node_table.specs.Rows.{learn_row, most_taught, ask_row}
 use Rattle.sc_node_table.specs.Voting.{hinted, promise_to, prepare_row, accepted_to, took, accept_row, leads, promise_row, readied, vote_tallied, voted, accepted_row, nack_row}
-use Rattle.sc_draws_law.specs.Names.{Opt}
-use Rattle.sc_draws_law.proofs.Lists.{opt_find, slot_with, flight_without, voters_with}
+use Rattle.sc_names_law.specs.Names.{Opt}
+use Rattle.sc_names_law.proofs.Lists.{opt_find, slot_with, flight_without, voters_with}
 use Rattle.sc_law_lemmas.proofs.Places.{promised_place, asked_place}
 use Rattle.sc_law_lemmas.proofs.Ways.{either_way}
 use Rattle.sc_refusal_law.proofs.Keeping.{Kept, Flying, Reported, Holds}

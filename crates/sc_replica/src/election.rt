@@ -9,7 +9,7 @@ ghost use Rattle.sc_node_table.specs.Election.{elected, ended, stopped, saw};
 use crate::replica::Replica;
 use sc_base::{Ballot, MOST_NODES, OutOfMemory, Sequence};
 use sc_cmd::Command;
-use sc_leader::Leader;
+use sc_paxos::Leader;
 use sc_mail::{AnswerBody, Mail};
 use sc_replica_choices::nodes_to;
 use sc_replica_parts::{answer_command, dismiss_all, ready_at};

@@ -3,6 +3,7 @@
 //! entry decided. Nothing here drops a mail or a command.
 #![tactic(auto)]
 
+mod heard;
 mod acts;
 mod choices;
 mod commands;
@@ -16,3 +17,4 @@ pub use commands::{is_act, same_command};
 pub use nodes::{nodes_to, not_among, uncounted};
 pub use noted::{awaits_vote, awaits_watch, is_bound, noted_outcome, standing_vote};
 pub use open_sets::Sets;
+pub use heard::record_of;

@@ -9,7 +9,7 @@ use sc_base::{Boxed, Draw, OutOfMemory, Sequence, same_draw};
 use sc_cmd::{Body, Core, Frozen, Heard, Link, Lock, Offer, Watch};
 use sc_mail::{Mail, MailBody};
 use sc_replica_parts::send;
-use sc_split_merge::{can_split, plan_split};
+use sc_txn::{can_split, plan_split};
 use std::alloc::Global;
 
 fn offer_of(me: u16, core: &Core, body: &Body) -> Offer

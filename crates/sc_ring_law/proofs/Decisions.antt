@@ -29,12 +29,12 @@ use Rattle.sc_machine_table.specs.Group.{Group, group_of}
 use Rattle.sc_machine_table.specs.Plans.{Plan, can_cut, can_join, can_split, can_repart, can_migrate, has_key_of, may_merge, merged_route, merged_group, closing_group, part_gift, giving_group, giving_plan, repart_plan, split_plan, taken, taking_group, taking_plan, migrated_group}
 use Rattle.sc_machine_table.specs.Splits.{left_group, child_of}
 use Rattle.sc_machine_table.specs.Transactions.{decided_group, aborted, committed, heard_group, granted, participant_answered, asks_watcher, vote_recorded, released, watch_answered, watch_recorded, is_coordinating}
-use Rattle.sc_entries.specs.Births.{division_in}
-use Rattle.sc_entries.specs.declared.Division.{Division}
+use Rattle.sc_log_entries.specs.Births.{division_in}
+use Rattle.sc_log_entries.specs.declared.Division.{Division}
 use Rattle.sc_ring_law.specs.Allowed.{IsVoteCast, IsWatchVoteCast}
 use Rattle.sc_ring_law.specs.Stories.{Story, Stories, put, retold, merge_watch, with_decision, with_answer}
 use Rattle.sc_ring_law.specs.Invariant.{Groups, IsEarned, Facts}
-use Rattle.sc_entries.proofs.Names.{names_differ}
+use Rattle.sc_log_entries.proofs.Names.{names_differ}
 use Rattle.sc_ring_law.proofs.Notes.{any_keeps, any_drops, any_new, is_vote_on}
 use Rattle.sc_ring_law.proofs.View.{Ring}
 use Rattle.sc_ring_law.proofs.Cover.{at-same, at-other}

@@ -30,13 +30,13 @@ use Rattle.sc_machine_table.specs.Group.{Group}
 use Rattle.sc_machine_table.specs.Machine.{applied, split_group}
 use Rattle.sc_machine_table.specs.Transactions.{begun_group, asks_watcher, participant_answered, vote_recorded, watch_answered, watch_recorded, is_coordinating, aborted}
 use Rattle.sc_machine_table.specs.Votes.{has_voted, vote_of, watch_vote_of, past_of}
-use Rattle.sc_entries.specs.Worlds.{named_group}
-use Rattle.sc_entries.specs.declared.LogEntry.{LogEntry}
+use Rattle.sc_log_entries.specs.Worlds.{named_group}
+use Rattle.sc_log_entries.specs.declared.LogEntry.{LogEntry}
 use Rattle.sc_ring_law.specs.Allowed.{Sources, IsVoteCast, IsWatchVoteCast, IsAllowed, AreAllowed, ToldWorld, first_told, stories_told, told_on, told_after}
 use Rattle.sc_ring_law.specs.Stories.{Story, Stories, put, retold, new_story, unsigned, unsigned_watch, watch_for, vote_in, watch_vote_in, with_vote, with_watch_vote, with_decision, with_asked, with_answer, stories_after}
 use Rattle.sc_ring_law.specs.Invariant.{Groups}
 use Rattle.sc_ring_law.specs.Laws.{AllowedEntriesStayAllowed}
-use Rattle.sc_entries.proofs.Names.{draw_cases}
+use Rattle.sc_log_entries.proofs.Names.{draw_cases}
 use Rattle.sc_ring_law.proofs.View.{Ring}
 use Rattle.sc_ring_law.proofs.Cover.{at-is, at-other}
 use Rattle.sc_ring_law.proofs.Rows.{unheard, not_passed}

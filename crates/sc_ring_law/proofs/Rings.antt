@@ -12,10 +12,10 @@ use Rattle.sc_cmd.specs.declared.effects.Effect.TheVariants as Was
 use Rattle.sc_cmd.specs.declared.votes.Outcome.{Outcome}
 use Rattle.sc_cmd.specs.declared.votes.Outcome.TheVariants.{Abort, Merged, Moved, Migrated, Divided}
 use Rattle.sc_cmd.specs.Effects.{is_divided, decided_in}
-use Rattle.sc_entries.specs.Births.{division_in, division_of}
-use Rattle.sc_entries.specs.declared.Cut.{Cut}
-use Rattle.sc_entries.specs.declared.Division.{Division}
-use Rattle.sc_entries.specs.Rings.{is_cut_of, arc_in, recut, parts_of, ring_divided, both_arcs, ring_merged, ring_moved, ring_decided, decided_by, ring_after}
+use Rattle.sc_log_entries.specs.Births.{division_in, division_of}
+use Rattle.sc_log_entries.specs.declared.Cut.{Cut}
+use Rattle.sc_log_entries.specs.declared.Division.{Division}
+use Rattle.sc_log_entries.specs.Rings.{is_cut_of, arc_in, recut, parts_of, ring_divided, both_arcs, ring_merged, ring_moved, ring_decided, decided_by, ring_after}
 use Rattle.sc_ring_law.specs.Stories.{put}
 use Rattle.sc_ring_law.proofs.View.{Ring}
 use Rattle.sc_ring_law.proofs.Cover.{at-other}

@@ -19,7 +19,7 @@ use Rattle.sc_machine_table.specs.Splits.{left_group, child_of, left_link, right
 use Rattle.sc_machine_table.specs.Transactions.{decided_group}
 use Rattle.sc_ring_law.specs.Stories.{Story, Stories, put, unsigned, unsigned_watch, watch_with}
 use Rattle.sc_ring_law.specs.Invariant.{Groups}
-use Rattle.sc_entries.proofs.Names.{draw_cases, other_name}
+use Rattle.sc_log_entries.proofs.Names.{draw_cases, other_name}
 use Rattle.sc_ring_law.proofs.View.{Ring, Holds, split_view}
 use Rattle.sc_ring_law.proofs.Cover.{at-same, at-other}
 use Rattle.sc_ring_law.proofs.Recut.{split_whole}

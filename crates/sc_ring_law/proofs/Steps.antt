@@ -45,11 +45,11 @@ use Rattle.sc_machine_table.specs.Plans.{frozen_of, can_cut, has_key_of}
 use Rattle.sc_machine_table.specs.Splits.{has_named, is_locked_in}
 use Rattle.sc_machine_table.specs.Transactions.{begun_group}
 use Rattle.sc_machine_table.specs.Votes.{has_voted, no_of, vote_of, offer_no, watch_no, watch_vote_of, past_of, bound_by, offer_voted, watched}
-use Rattle.sc_entries.specs.Effective.{after_outcome, is_commit}
+use Rattle.sc_log_entries.specs.Effective.{after_outcome, is_commit}
 use Rattle.sc_ring_law.specs.Allowed.{IsShared}
 use Rattle.sc_ring_law.specs.Stories.{Story, Stories, put, retold, new_story, unsigned, unsigned_watch, vote_in, watch_vote_in, with_vote, with_watch_vote, stories_after}
 use Rattle.sc_ring_law.specs.Invariant.{Groups, has_decided, has_born, IsOwnBody, Facts}
-use Rattle.sc_entries.proofs.Names.{draw_cases, names_differ}
+use Rattle.sc_log_entries.proofs.Names.{draw_cases, names_differ}
 use Rattle.sc_ring_law.proofs.View.{Ring}
 use Rattle.sc_ring_law.proofs.Cover.{at-same, at-is, at-other}
 use Rattle.sc_base.proofs.NameLemmas.{same_name}

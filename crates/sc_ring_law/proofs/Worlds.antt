@@ -26,13 +26,13 @@ use Rattle.sc_machine_table.specs.Group.{Group, group_of}
 use Rattle.sc_machine_table.specs.Machine.{applied, split_group}
 use Rattle.sc_machine_table.specs.Splits.{child_of}
 use Rattle.sc_machine_table.specs.Transactions.{begun_group, asks_watcher, participant_answered, vote_recorded, watch_answered, watch_recorded, is_coordinating, aborted}
-use Rattle.sc_entries.specs.Births.{division_by, division_in, division_of, birth_of}
-use Rattle.sc_entries.specs.Decisions.{begun_transaction, begun_split, named_watcher, with_watcher, amended, concluded, transactions_after}
-use Rattle.sc_entries.specs.Rings.{decided_by, arc_in}
-use Rattle.sc_entries.specs.Worlds.{named_group, groups_after, after_command}
-use Rattle.sc_entries.specs.declared.Division.{Division}
-use Rattle.sc_entries.specs.declared.LogEntry.{LogEntry}
-use Rattle.sc_entries.specs.declared.Transaction.{Transaction}
+use Rattle.sc_log_entries.specs.Births.{division_by, division_in, division_of, birth_of}
+use Rattle.sc_log_entries.specs.Decisions.{begun_transaction, begun_split, named_watcher, with_watcher, amended, concluded, transactions_after}
+use Rattle.sc_log_entries.specs.Rings.{decided_by, arc_in}
+use Rattle.sc_log_entries.specs.Worlds.{named_group, groups_after, after_command}
+use Rattle.sc_log_entries.specs.declared.Division.{Division}
+use Rattle.sc_log_entries.specs.declared.LogEntry.{LogEntry}
+use Rattle.sc_log_entries.specs.declared.Transaction.{Transaction}
 use Rattle.sc_ring_law.specs.Allowed.{Sources, IsAllowed, AreAllowed, ToldWorld, stories_told, told_on, told_after}
 use Rattle.sc_ring_law.specs.Stories.{Story, Stories, put, retold, new_story, vote_in, watch_vote_in, with_vote, with_watch_vote, with_decision, with_asked, with_answer, stories_after}
 use Rattle.sc_ring_law.specs.Invariant.{Groups}
@@ -42,7 +42,7 @@ use Rattle.sc_ring_law.proofs.Ends.{draw_new, group_none, own_story, same_lock}
 use Rattle.sc_ring_law.proofs.Effects.{decisions, eff, arc_of}
 use Rattle.sc_ring_law.proofs.Steps.{Kept, same_fun, idle, call_kept, join_kept, leave_kept, begin_kept, prepared_kept, watched_kept, named_cases}
 use Rattle.sc_ring_law.proofs.Cuts.{arcs_in}
-use Rattle.sc_entries.proofs.Names.{found_name}
+use Rattle.sc_log_entries.proofs.Names.{found_name}
 use Rattle.sc_ring_law.proofs.Told.{groups_in, with_child, groups_are, AreFound, found_after, Agree, story_brief, agree_begun, agree_retold, agree_watcher, agree_concluded}
 use Rattle.sc_ring_law.proofs.Commits.{ring_told}
 use Rattle.sc_ring_law.proofs.Decisions.{born_too, record_kept, give_up_kept, watch_record_kept}

@@ -16,7 +16,7 @@ use sc_journal_file::file_lines;
 use sc_mail::Mail;
 use sc_report::lines;
 use sc_scenario::Scenario;
-use sc_statuses::{Said, said_by};
+use sc_command_line::{Said, said_by};
 use sc_workers::Way;
 use sc_world::{Party, sum_up};
 use std::alloc::Global;

@@ -8,7 +8,7 @@ ghost use Rattle.sc_drive.specs.Working.{HasOpened, StaysWhole};
 use crate::notes::Note;
 use crate::players::{Open, Player, go, seats};
 use sc_actor::{Line, Played, Row, Seat, are_few};
-use sc_checker::replay;
+use sc_replay::replay;
 use sc_drive::{Company, close, drive, goers_are_spared, open};
 use sc_workers::{Way, gather};
 use std::alloc::Global;

@@ -2,7 +2,7 @@
 use sc_base::{Draw, Op};
 use sc_cmd::Order;
 use sc_scenario::{ClientList, GroupList, Scenario, ScenarioFault, SchedLine, read_scenario};
-use sc_vectors::{REFUSED, Refused};
+use crate::{REFUSED, Refused};
 use std::alloc::Global;
 use std::mem::forget;
 use std::process::Abort;

@@ -24,11 +24,11 @@ use Rattle.sc_machine_table.specs.Machine.{applied}
 use Rattle.sc_machine_table.specs.Orders.{refusal_of}
 use Rattle.sc_machine_table.specs.Plans.{can_split}
 use Rattle.sc_machine_table.specs.Splits.{staying, right_members, child_of, has_named}
-use Rattle.sc_entries.specs.Births.{birth_of}
-use Rattle.sc_entries.proofs.Children.{births_are_children}
+use Rattle.sc_log_entries.specs.Births.{birth_of}
+use Rattle.sc_log_entries.proofs.Children.{births_are_children}
 use Rattle.sc_paxos_law.proofs.Among.{Among-either}
 use Rattle.sc_sound.specs.GroupsOf.{children_of}
-use Rattle.sc_start_law.specs.Begins.{IsFresh}
+use Rattle.sc_whole_law.specs.Begins.{IsFresh}
 use Rattle.sc_whole_law.proofs.Coming.{two_members, staying_some}
 use Rattle.sc_whole_law.proofs.Members.{may_split, members_after}
 

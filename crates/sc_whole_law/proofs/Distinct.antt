@@ -24,9 +24,9 @@ use Rattle.sc_cmd.specs.Effects.{is_changed, decided_in}
 use Rattle.sc_cmd.specs.Cores.{is_alone}
 use Rattle.sc_machine_table.specs.Group.{Group}
 use Rattle.sc_machine_table.specs.Machine.{applied}
-use Rattle.sc_entries.specs.Effective.{after_outcome}
-use Rattle.sc_entries.specs.Worlds.{named_group}
-use Rattle.sc_entries.specs.declared.LogEntry.{LogEntry}
+use Rattle.sc_log_entries.specs.Effective.{after_outcome}
+use Rattle.sc_log_entries.specs.Worlds.{named_group}
+use Rattle.sc_log_entries.specs.declared.LogEntry.{LogEntry}
 use Rattle.sc_ring_law.specs.Allowed.{Sources, IsVoteCast, IsAllowed, AreAllowed, ToldWorld, first_told, told_on, told_after, stories_told}
 use Rattle.sc_ring_law.specs.Invariant.{Groups, LockOk, IsCoordinating, IsPromised}
 use Rattle.sc_ring_law.specs.Laws.{BeginInPlace, stories_of}

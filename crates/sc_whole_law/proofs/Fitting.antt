@@ -32,15 +32,15 @@ use Rattle.sc_machine_table.specs.Machine.{applied}
 use Rattle.sc_machine_table.specs.Orders.{locked_in}
 use Rattle.sc_machine_table.specs.Plans.{frozen_of}
 use Rattle.sc_machine_table.specs.Votes.{has_voted, size_no, body_no, offer_no, no_of, vote_of, past_of}
-use Rattle.sc_entries.specs.Births.{birth_of}
-use Rattle.sc_entries.specs.Worlds.{is_named, named_group, with_group, groups_after, after_command}
-use Rattle.sc_entries.specs.declared.LogEntry.{LogEntry}
-use Rattle.sc_entries.proofs.Children.{births_are_children}
+use Rattle.sc_log_entries.specs.Births.{birth_of}
+use Rattle.sc_log_entries.specs.Worlds.{is_named, named_group, with_group, groups_after, after_command}
+use Rattle.sc_log_entries.specs.declared.LogEntry.{LogEntry}
+use Rattle.sc_log_entries.proofs.Children.{births_are_children}
 use Rattle.sc_paxos_words.proofs.ListLemmas.{Each-among, Each-append, find_found}
 use Rattle.sc_ring_law.specs.Allowed.{Sources, IsAllowed, AreAllowed, ToldWorld, first_told, told_on, told_after, stories_told}
 use Rattle.sc_ring_law.specs.Laws.{stories_of}
 use Rattle.sc_ring_law.specs.Stories.{Story, Stories, put, retold, unsigned, new_story, vote_by, vote_in, watch_vote_in, with_vote, with_watch_vote, with_decision, with_asked, stories_after}
-use Rattle.sc_start_law.specs.Begins.{IsFresh}
+use Rattle.sc_whole_law.specs.Begins.{IsFresh}
 use Rattle.sc_whole_law.specs.Parties.{MergesFit}
 use Rattle.sc_whole_law.proofs.Children.{fresh_child}
 use Rattle.sc_whole_law.proofs.Members.{members_after}

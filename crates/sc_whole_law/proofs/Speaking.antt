@@ -44,7 +44,7 @@ use Rattle.sc_node_table.specs.Spoken.{asked_on, vote_sent, watch_sent, aborted_
 use Rattle.sc_ring_law.specs.Allowed.{Sources, IsAllowed}
 use Rattle.sc_ring_law.specs.Invariant.{Groups, Facts, LockOk}
 use Rattle.sc_ring_law.specs.Stories.{Story, Stories, unsigned, watch_with}
-use Rattle.sc_journal_law.specs.Allows.{AllowsAsItStands, MakesAllowed, GroupAllows}
+use Rattle.sc_log_law.specs.Allows.{AllowsAsItStands, MakesAllowed, GroupAllows}
 use Rattle.sc_group_law.proofs.Speech.{IsSaid, AreSaid}
 use Rattle.sc_whole_law.specs.Parameters.{IsHeard}
 use Rattle.sc_whole_law.specs.Parties.{MergesFit}

@@ -2,7 +2,7 @@
 ghost use Rattle.std.specs.Prelude.{◌≡◌, ◌<◌, ◌≤◌, ◌+◌, ◌^◌, ◌↔◌, IsTrue, length, take, IfOk, MatchResult};
 ghost use Rattle.sc_actor.specs.Mail.{mails};
 ghost use Rattle.sc_scenario.specs.Valid.{IsValid};
-ghost use Rattle.sc_checker.specs.Replays.{IsReplayed};
+ghost use Rattle.sc_replay.specs.Replays.{IsReplayed};
 ghost use Rattle.sc_sound.specs.Players.{system_of, schedule, Lawful, as_nodes};
 ghost use Rattle.sc_world.specs.Replays.{IsBadRow, IsFault};
 ghost use Rattle.sc_world.specs.Worlds.{MayReplay, StandsFor};
@@ -15,7 +15,7 @@ use crate::seating::{births, schedule};
 use crate::worlds::World;
 use sc_actor::{Journal, Row};
 use sc_base::OutOfMemory;
-use sc_checker::{Replayed, replay, rows_replayed};
+use sc_replay::{Replayed, replay, rows_replayed};
 use sc_cmd::OrderLine;
 use sc_mail::Mail;
 use sc_refusal_law::valid_journals_refuse_with_cause;
