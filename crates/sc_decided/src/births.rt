@@ -15,9 +15,9 @@ ghost use Rattle.sc_decided.specs.Found.{is_kept_of, log_kept, AreKnown, AreTrac
 
 use sc_actor::Row;
 use sc_base::{Draw, Dup, OutOfMemory, same_draw};
+use sc_chosen::{Known, known_of};
 use sc_cmd::{Base, Command, OrderLine};
 use sc_log_entries::births_are_children;
-use sc_chosen::{Known, known_of};
 use sc_machine::Machine;
 use sc_mail::Mail;
 use std::alloc::Global;

@@ -20,9 +20,9 @@ ghost use Rattle.sc_decided.specs.Found.{log_kept, new_entries, grown_by, StayKn
 use crate::births::{Groups, both, groups_of, log_in};
 use sc_actor::Row;
 use sc_base::{Draw, Dup, OutOfMemory, same_draw};
+use sc_chosen::{Acceptance, Known, accepted_in, add_mails, taken_in};
 use sc_cmd::{Base, Command, OrderLine};
 use sc_log_entries::LogEntry;
-use sc_chosen::{Acceptance, Known, accepted_in, add_mails, taken_in};
 use sc_mail::Mail;
 use std::alloc::Global;
 

@@ -9,8 +9,7 @@ ghost use Rattle.sc_machine_table.specs.Children.{ordered_child, split_child, re
 use crate::machine::Machine;
 use sc_base::{Draw, OutOfMemory, same_draw};
 use sc_cmd::{Base, Body, Command, Lock, Past};
-use sc_txn::{can_split, plan_split};
-use sc_txn::{check, has_named};
+use sc_txn::{can_split, check, has_named, plan_split};
 
 impl Machine {
     /// The record of the child, where the group is split at `at`; to be taken before the entry that

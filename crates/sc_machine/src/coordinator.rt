@@ -6,8 +6,7 @@ ghost use Rattle.sc_machine.specs.Memory.{Makes, LooksThrough, MayLookThrough, L
 use crate::machine::Machine;
 use sc_base::{Draw, Dup, OutOfMemory, same_draw};
 use sc_cmd::{Body, Effect, Frozen, Heard, Lock, Outcome, Past, Vote};
-use sc_txn::{decides_alone, note_decision};
-use sc_txn::can_split;
+use sc_txn::{can_split, decides_alone, note_decision};
 
 fn asks_watcher(body: &Body, heard: &Option<Heard>) -> bool
     ensures { result ≡ asks_watcher body.now heard.now }

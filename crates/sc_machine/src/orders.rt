@@ -13,8 +13,7 @@ ghost use Rattle.sc_machine.specs.Memory.{Makes};
 use crate::machine::Machine;
 use sc_base::{Draw, OutOfMemory};
 use sc_cmd::{Body, Command, Effect, Lock, OrderRefusal};
-use sc_txn::plan_split;
-use sc_txn::{check, has_named};
+use sc_txn::{check, has_named, plan_split};
 
 impl Machine {
     // Why an order is refused, if it is: a group that is gone leads nothing.

@@ -8,9 +8,9 @@ ghost use Rattle.sc_node_table.specs.Rows.{learn_row};
 use crate::execute::execute;
 use sc_base::{Ballot, OutOfMemory, Sequence};
 use sc_cmd::{Base, Command};
-use sc_paxos::Counted;
 use sc_mail::Mail;
 use sc_member::Members;
+use sc_paxos::Counted;
 use sc_replica::{LAST_SLOT, Replica};
 
 /// A command that became ready is executed where its slot is the next one.

@@ -3,10 +3,10 @@
 //! entry decided. Nothing here drops a mail or a command.
 #![tactic(auto)]
 
-mod heard;
 mod acts;
 mod choices;
 mod commands;
+mod heard;
 mod nodes;
 mod noted;
 mod open_sets;
@@ -14,7 +14,7 @@ mod open_sets;
 pub use acts::{has_kind, is_of_kind};
 pub use choices::{call_refusal, floor_of, is_at_rest, turned_down, waits, waits_in};
 pub use commands::{is_act, same_command};
+pub use heard::record_of;
 pub use nodes::{nodes_to, not_among, uncounted};
 pub use noted::{awaits_vote, awaits_watch, is_bound, noted_outcome, standing_vote};
 pub use open_sets::Sets;
-pub use heard::record_of;

@@ -16,11 +16,11 @@ use crate::showing::show;
 use crate::telling::tells;
 use sc_actor::Gate;
 use sc_base::OutOfMemory;
+use sc_command_line::{
+    InputFault, Said, Sight, Subcommand, fault_text, file_in, scenario_in, subcommand_by, text_in,
+};
 use sc_edges::Source;
 use sc_make::made_scenario;
-use sc_command_line::Said;
-use sc_command_line::{InputFault, fault_text, file_in, scenario_in, text_in};
-use sc_command_line::{Sight, Subcommand, subcommand_by};
 use sc_workers::Way;
 use std::alloc::Global;
 use std::sync::Wait;

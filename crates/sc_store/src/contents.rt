@@ -3,9 +3,8 @@ ghost use Rattle.std.specs.Prelude.{◌≡◌, OnOk};
 ghost use Rattle.sc_ideal.specs.IdealStore.{with_pairs};
 ghost use Rattle.sc_ideal.specs.Clients.{joined_with};
 
+use crate::{ClientTable, Store};
 use sc_base::{OutOfMemory, Pairs, SeenList};
-use crate::ClientTable;
-use crate::Store;
 
 /// A group takes over pairs and a client table: with the table, each request that the other group
 /// has served stays served once.

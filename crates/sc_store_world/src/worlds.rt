@@ -11,11 +11,11 @@ ghost use Rattle.sc_log_entries.specs.Worlds.{first_world, named_group, told, wi
 ghost use Rattle.sc_store_world.specs.Places.{IsFirstNamed};
 
 use crate::groups::{again, born, execute, is_named, place_of};
+use crate::{decision, first_cuts, ring_after, tell};
 use sc_base::{Draw, Dup, OutOfMemory};
 use sc_cmd::{Base, Command, Core, Effect, Lock, Outcome};
-use crate::{decision, first_cuts, ring_after, tell};
-use sc_log_entries::{Cut, LogEntry, Transaction};
 use sc_ideal::Entry;
+use sc_log_entries::{Cut, LogEntry, Transaction};
 use sc_machine::Machine;
 use std::alloc::Global;
 use std::marker::Model;

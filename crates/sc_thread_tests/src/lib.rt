@@ -30,5 +30,3 @@ mod storm_tests;
 mod turn_tests;
 #[cfg(test)]
 mod wish_tests;
-
-
