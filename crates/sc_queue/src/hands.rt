@@ -146,7 +146,7 @@ fn vacant<X: Drop>(alloc: Global, many: usize) -> Result<Vec<Option<X>>, AllocEr
     ensures len { IfOk result (λ v. vec_len v ≡ many) }
     ensures free { IfOk result (λ v. AllFree v.items) }
 {
-    let mut slots = Vec::new(alloc);
+    let mut slots = Vec::with_capacity(alloc, many)?;
     for _ in 0..many {
         slots.push(None)?;
     }
@@ -158,7 +158,7 @@ fn unwrapped<X: Drop>(alloc: Global, slots: Vec<Option<X>>) -> Result<Vec<X>, Al
     requires { AllThere slots.items }
     ensures { IfOk result (λ v. map (λ x. Some x) v.items ≡ slots.items) }
 {
-    let mut all = Vec::new(alloc);
+    let mut all = Vec::with_capacity(alloc, slots.len())?;
     for slot in slots {
         match slot {
             Some(one) => all.push(one)?,

@@ -1,5 +1,5 @@
 //! Phases, in which workers take shells from one queue.
-ghost use Rattle.std.specs.Prelude.{◌≡◌, ◌<◌, ◌≤◌, ◌*◌, ◌/◌, ◌^◌, [], length, count_by, min, max, vec_len, IfOk};
+ghost use Rattle.std.specs.Prelude.{◌≡◌, ◌<◌, ◌≤◌, ◌+◌, ◌*◌, ◌/◌, ◌^◌, [], length, count_by, min, max, vec_len, IfOk};
 ghost use Rattle.sc_workers.specs.Crews.{AllSound, HasPlayed};
 ghost use Rattle.sc_workers.specs.Phases.{IsServed, AllServed, shells_of, rows_of_all};
 
@@ -72,6 +72,7 @@ fn put_back<A: Actor>(shells: &mut Vec<Shell<A>>, all: Vec<Served<A>>) -> Result
     ensures shells { IfOk result (λ did. shells.new.items ≡ shells_of all.items) }
     ensures did { IfOk result (λ did. did ≡ rows_of_all all.items) }
 {
+    shells.reserve(all.len())?;
     let mut did = 0u32;
     for one in all {
         let Served { shell, did: more } = one;
@@ -91,21 +92,30 @@ fn grant_of(left: u32, many: usize) -> u32
     (left as usize / many).min(MOST_TURNS as usize) as u32
 }
 
-// As many workers as shells have mail, but at most so many, and one at least.
+// One worker for every two shells with mail, but two where two have mail, and at most so many and
+// one at least. To start a thread costs as much as a shell's turns of a phase, so one for each shell
+// with mail takes more time than it saves.
 fn workers_for(waits: &[bool], workers: u32) -> usize
     requires { workers ≤ 16 }
-    ensures value { result ≡ max (min (count_by (λ wait. wait) waits.now) workers) 1 }
+    ensures value { result
+        ≡ max
+        (min
+        (max ((count_by (λ wait. wait) waits.now + 1) / 2) (min (count_by (λ wait. wait) waits.now) 2))
+        workers)
+        1 }
     ensures most { result ≤ 16 }
 {
     let with_mail = waits.iter().filter(|wait| **wait).count();
-    with_mail.min(workers as usize).max(1)
+    let wanted = with_mail.div_ceil(2).max(with_mail.min(2));
+    wanted.min(workers as usize).max(1)
 }
 
 /// Each shell is put into a queue, from which workers take. A worker gives a shell turns until one
 /// makes no row, 16 at most, and all shells together at most `left`. Then the shells are put back
 /// in their order. Answers how many rows were made.
 ///
-/// `waits` tells for which of the shells mail waits: there are no more workers than such shells.
+/// `waits` tells for which of the shells mail waits: there is one worker for every two such shells,
+/// and two where there are two.
 /// Without memory it is an error, and shells may be lost.
 pub(crate) fn phase<A: Actor, G: Gate, R: Threads + Wait + Sync>(
     rt: &R,

@@ -52,12 +52,14 @@ pub(crate) fn any_of(waits: &[bool]) -> bool
     waits.iter().any(|wait| *wait)
 }
 
-// In how many runs of `size` mail waits, told up to three, and the places of the first two of them.
+// In how many runs of `size` mail waits, told up to three, and the places of the first of them, the
+// second and the last.
 #[derive(Clone, Copy, Debug, PartialEq, Eq)]
 struct Busy {
     runs: u32,
     first: usize,
     second: usize,
+    last: usize,
 }
 
 fn busy_in(waits: &[bool], size: usize) -> Busy
@@ -67,10 +69,12 @@ fn busy_in(waits: &[bool], size: usize) -> Busy
         runs: 0,
         first: 0,
         second: 0,
+        last: 0,
     };
     for (place, run) in waits.chunks(size).enumerate() {
         if any_of(run) {
             busy.runs = busy.runs.saturating_add(1).min(3);
+            busy.last = place;
             if busy.runs == 1 {
                 busy.first = place;
             } else if busy.runs == 2 {
@@ -138,7 +142,25 @@ fn in_two<A: Actor, G: Gate, R: Threads + Wait + Sync>(
     by_threads(rt, alloc, gate, size, many, parts);
 }
 
-// Shells of which the first run has mail, and perhaps one more.
+// The shells behind so many runs take their turns, and then those runs at the same time.
+fn in_many<A: Actor, G: Gate, R: Threads + Wait + Sync>(
+    rt: &R,
+    alloc: Global,
+    gate: &G,
+    size: usize,
+    runs: usize,
+    shells: &mut [Shell<A>],
+)
+    requires { 0 < size }
+    ensures { AllTook shells.old shells.new }
+{
+    let cut = runs.saturating_mul(size).min(shells.len());
+    let (parts, others) = shells.split_at_mut(cut);
+    turns(rt, alloc, gate, others);
+    by_threads(rt, alloc, gate, size, size, parts);
+}
+
+// Shells of which the first run has mail, and perhaps more.
 fn with_mail<A: Actor, G: Gate, R: Threads + Wait + Sync>(
     rt: &R,
     alloc: Global,
@@ -150,23 +172,21 @@ fn with_mail<A: Actor, G: Gate, R: Threads + Wait + Sync>(
     requires { 0 < size }
     ensures { AllTook shells.old shells.new }
 {
-    if busy.runs == 1 {
-        first_last(rt, alloc, gate, size, shells);
-    } else {
-        let apart = busy.second.saturating_sub(busy.first);
-        in_two(
-            rt,
-            alloc,
-            gate,
-            size,
-            apart.saturating_mul(size).max(size),
-            shells,
-        );
+    let apart = busy.second.saturating_sub(busy.first);
+    match busy.runs {
+        1 => first_last(rt, alloc, gate, size, shells),
+        2 => {
+            let many = apart.saturating_mul(size).max(size);
+            in_two(rt, alloc, gate, size, many, shells)
+        }
+        _ => {
+            let runs = busy.last.saturating_sub(busy.first).saturating_add(1);
+            in_many(rt, alloc, gate, size, runs, shells)
+        }
     }
 }
 
-// The shells before the first run with mail take their turns, and then the others. Mail waits in
-// one run or in two.
+// The shells before the first run with mail take their turns, and then the others.
 fn from_busy<A: Actor, G: Gate, R: Threads + Wait + Sync>(
     rt: &R,
     alloc: Global,
@@ -187,9 +207,10 @@ fn from_busy<A: Actor, G: Gate, R: Threads + Wait + Sync>(
 /// Each shell takes a turn, runs of `size` neighbours at the same time. `waits` tells for which of
 /// the shells mail waits.
 ///
-/// No run waits for one with mail. Where mail waits in one run or in two, those without take their
-/// turns first, in the caller's thread; where it waits in more, each run has a thread of its own
-/// but one. So no thread is started where mail waits in one run alone, and one where in two.
+/// No run waits for one with mail. The runs before the first with mail and behind the last take
+/// their turns first, in the caller's thread, and where mail waits in two alone, those between them
+/// too. So no thread is started where mail waits in one run alone, and one where in two; where in
+/// more, each run from the first with mail to the last has a thread of its own but one.
 pub(crate) fn at_once<A: Actor, G: Gate, R: Threads + Wait + Sync>(
     rt: &R,
     alloc: Global,
@@ -204,10 +225,10 @@ pub(crate) fn at_once<A: Actor, G: Gate, R: Threads + Wait + Sync>(
 {
     let busy = busy_in(waits, size);
     let all = shells.as_mut_slice();
-    match busy.runs {
-        0 => turns(rt, alloc, gate, all),
-        1 | 2 => from_busy(rt, alloc, gate, size, busy, all),
-        _ => by_threads(rt, alloc, gate, size, size, all),
+    if busy.runs == 0 {
+        turns(rt, alloc, gate, all);
+    } else {
+        from_busy(rt, alloc, gate, size, busy, all);
     }
 }
 
