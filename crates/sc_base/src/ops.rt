@@ -12,7 +12,7 @@ use std::alloc::Global;
 /// sets the key, `Del` takes it out, `Add` sets it where it had no value, and `Cas` sets it where
 /// its
 /// value was `expect`.
-#[derive(PartialEq, Eq, Drop)]
+#[derive(Clone, PartialEq, Eq, Drop)]
 pub enum Op {
     Get {
         key: Key,
@@ -51,42 +51,20 @@ impl Op {
 }
 
 /// What an operation answers: the value that the key had before, or none.
-#[derive(PartialEq, Eq, Drop)]
+#[derive(Clone, PartialEq, Eq, Drop)]
 pub struct Reply {
     pub old: Option<Value>,
 }
 
 impl Dup for Op {
-    fn dup(&self, alloc: Global) -> Result<Op, OutOfMemory> {
-        Ok(match self {
-            Op::Get { key } => Op::Get {
-                key: key.dup(alloc)?,
-            },
-            Op::Put { key, value } => Op::Put {
-                key: key.dup(alloc)?,
-                value: value.dup(alloc)?,
-            },
-            Op::Del { key } => Op::Del {
-                key: key.dup(alloc)?,
-            },
-            Op::Add { key, value } => Op::Add {
-                key: key.dup(alloc)?,
-                value: value.dup(alloc)?,
-            },
-            Op::Cas { key, expect, value } => Op::Cas {
-                key: key.dup(alloc)?,
-                expect: expect.dup(alloc)?,
-                value: value.dup(alloc)?,
-            },
-        })
+    fn dup(&self, _alloc: Global) -> Result<Op, OutOfMemory> {
+        Ok(self.clone()?)
     }
 }
 
 impl Dup for Reply {
-    fn dup(&self, alloc: Global) -> Result<Reply, OutOfMemory> {
-        Ok(Reply {
-            old: self.old.dup(alloc)?,
-        })
+    fn dup(&self, _alloc: Global) -> Result<Reply, OutOfMemory> {
+        Ok(self.clone()?)
     }
 }
 
@@ -94,7 +72,7 @@ impl Dup for Reply {
 pub type Pairs = Ordered<Key, Value>;
 
 /// The number of a client's last request, and its reply.
-#[derive(PartialEq, Eq, Drop)]
+#[derive(Clone, PartialEq, Eq, Drop)]
 pub struct Noted {
     pub seq: u32,
     pub reply: Reply,
@@ -104,11 +82,8 @@ pub struct Noted {
 pub type SeenList = Ordered<u16, Noted>;
 
 impl Dup for Noted {
-    fn dup(&self, alloc: Global) -> Result<Noted, OutOfMemory> {
-        Ok(Noted {
-            seq: self.seq,
-            reply: self.reply.dup(alloc)?,
-        })
+    fn dup(&self, _alloc: Global) -> Result<Noted, OutOfMemory> {
+        Ok(self.clone()?)
     }
 }
 

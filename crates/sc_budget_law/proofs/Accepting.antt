@@ -7,7 +7,6 @@ use Rattle.sc_base.specs.declared.names.Ballot.{Ballot}
 use Rattle.sc_base.specs.declared.ops.Op.{Op}
 use Rattle.sc_cmd.specs.declared.commands.Command.{Command}
 use Rattle.sc_cmd.specs.declared.commands.Command.TheVariants.{Call}
-use Rattle.sc_cmd.specs.declared.cores.Base.{Base}
 use Rattle.sc_cmd.specs.declared.cores.Core.{Core}
 use Rattle.sc_mail.specs.declared.bodies.Mail.{Mail}
 use Rattle.sc_mail.specs.declared.bodies.MailBody.TheVariants.{Accepted}
@@ -23,12 +22,11 @@ use Rattle.sc_paxos_words.specs.Ballots.{below}
 use Rattle.sc_paxos_words.specs.Leaders.{flight_at, without_flight}
 use Rattle.sc_paxos_words.proofs.BallotLemmas.{at_least_itself}
 use Rattle.sc_machine_table.specs.Machine.{applied}
-use Rattle.sc_node_table.specs.Births.{ready_children, executed_children, learnt_children}
 use Rattle.sc_node_table.specs.Election.{stopped, saw}
 use Rattle.sc_node_table.specs.Execute.{entered, is_among, executed_one, executed_ready, all_ready, executed}
 use Rattle.sc_node_table.specs.Install.{install_to}
 use Rattle.sc_node_table.specs.Pump.{pumped_from, pumped}
-use Rattle.sc_node_table.specs.Replica.{ReplicaState, Place, name_of, next, members, settled, flying, forgotten, last_slot}
+use Rattle.sc_node_table.specs.Replica.{ReplicaState, Place, Executed, childless, name_of, next, members, settled, flying, forgotten, last_slot}
 use Rattle.sc_node_table.specs.Rows.{learn_row}
 use Rattle.sc_node_table.specs.Slots.{without_slot}
 use Rattle.sc_node_table.specs.Voting.{hinted, accepted_to, took, accept_row}
@@ -173,28 +171,32 @@ module _ (begun : Requests) (frame : Frame) (is : IsFrame frame) (me : ℕ) (r :
     unfolding learnt_state
     one_is = learnt_call client seq op r [] (ap (λ (core : Core). core.members) (core_after ∙ sym p.group.core_is)) stopped_after (ap (λ (core : Core). core.gone) core_after ∙ is.stands) knows_after flies_none
 
-    rest_is : pumped (all_ready (learnt_state, [])) ≡ (learnt_state, [])
+    rest_is : pumped (all_ready (learnt_state, [])).0 ≡ (learnt_state, [])
     unfolding executed_ready pumped
     rest_is =
-        ap (λ (es : List (ℕ × Command)). pumped (executed_ready es (learnt_state, []))) ready_none
+        ap (λ (es : List (ℕ × Command)). pumped (executed_ready es (learnt_state, [])).0) ready_none
         ∙ cond-false (settled learnt_state && nat_le (next learnt_state) last_slot) (pumped_from (next learnt_state) learnt_state.sets (learnt_state, [])) (learnt_state, []) (and_left (settled learnt_state) _ settled_not)
 
-    pub learn_is : (from slot : ℕ) → slot ≡ next r → learn_row from slot (Call client seq op) (r, []) ≡ (learnt_state, [])
-    unfolding learn_row executed
-    learn_is from slot e =
-        cond-false (nat_lt last_slot slot) (r, []) _ (le-ltb last_slot slot (omega (arith, e, room)))
+    executes : (from slot : ℕ) → slot ≡ next r → learn_row from slot (Call client seq op) (r, []) ≡ executed false (Call client seq op) (r, [])
+    unfolding learn_row
+    executes from slot e =
+        cond-false (nat_lt last_slot slot) (childless (r, [])) _ (le-ltb last_slot slot (omega (arith, e, room)))
         ∙ cond-true (eqb slot (next r)) (executed false (Call client seq op) (r, [])) _ (eq-eqb slot (next r) e)
-        ∙ ap (λ (q : Place). pumped (all_ready q)) one_is
+
+    pub learn_is : (from slot : ℕ) → slot ≡ next r → (learn_row from slot (Call client seq op) (r, [])).0 ≡ (learnt_state, [])
+    unfolding executed
+    learn_is from slot e =
+        ap (λ (step : Executed). step.0) (executes from slot e)
+        ∙ ap (λ (q : Place). pumped (all_ready q).0) one_is
         ∙ rest_is
 
     -- it makes no child
-    pub learnt_none : (slot : ℕ) (made : List Base) → slot ≡ next r → learnt_children slot (Call client seq op) (r, []) made ≡ made
-    unfolding learnt_children executed_children ready_children
-    learnt_none slot made e =
-        cond-false (nat_lt last_slot slot) made _ (le-ltb last_slot slot (omega (arith, e, room)))
-        ∙ cond-true (eqb slot (next r)) (executed_children false (Call client seq op) (r, []) made) made (eq-eqb slot (next r) e)
-        ∙ ap (λ (q : Place). ready_children q.0.ready q made) one_is
-        ∙ ap (λ (es : List (ℕ × Command)). ready_children es (learnt_state, []) made) ready_none
+    pub learnt_none : (from slot : ℕ) → slot ≡ next r → (learn_row from slot (Call client seq op) (r, [])).1 ≡ []
+    unfolding executed executed_ready
+    learnt_none from slot e =
+        ap (λ (step : Executed). step.1) (executes from slot e)
+        ∙ ap (λ (q : Place). (all_ready q).1) one_is
+        ∙ ap (λ (es : List (ℕ × Command)). (executed_ready es (learnt_state, [])).1) ready_none
 
     pub learnt_plain : IsPlainReplica begun frame me learnt_state
     unfolding learnt_state entered forgotten

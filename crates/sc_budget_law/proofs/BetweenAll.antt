@@ -11,7 +11,7 @@ use Rattle.sc_client_table.specs.Client.{Client as ClientState}
 use Rattle.sc_scenario.specs.declared.scenarios.Asks.{Asks}
 use Rattle.sc_scenario.specs.declared.scenarios.Scenario.{Scenario}
 use Rattle.sc_sound.specs.Players.{Player, player_table, node_seat, client_seat, route_of, system_of, as_nodes}
-use Rattle.sc_sound.specs.declared.roles.Role.TheVariants.{Node, Client}
+use Rattle.sc_mail.specs.declared.roles.Role.TheVariants.{Node, Client}
 use Rattle.sc_orderly_law.specs.Orderly.{deliveries}
 use Rattle.sc_orderly_law.specs.Owing.{Owing, owed, owed_at_birth}
 use Rattle.sc_budget_law.specs.Frames.{Frame}

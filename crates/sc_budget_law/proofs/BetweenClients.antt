@@ -28,7 +28,7 @@ use Rattle.sc_client_table.specs.Table.{ClientStep, table}
 use Rattle.sc_scenario.specs.declared.scenarios.Asks.{Asks}
 use Rattle.sc_scenario.specs.declared.scenarios.Scenario.{Scenario}
 use Rattle.sc_sound.specs.Players.{Player, player_table, client_seat, route_of, births, system_of, as_nodes}
-use Rattle.sc_sound.specs.declared.roles.Role.TheVariants.{Client}
+use Rattle.sc_mail.specs.declared.roles.Role.TheVariants.{Client}
 use Rattle.sc_orderly_law.specs.Orderly.{IsTidy, IsOrderly, IsInOrder, rest, mail_for, taken}
 use Rattle.sc_orderly_law.specs.Owing.{owed_by}
 use Rattle.sc_orderly_law.proofs.Paying.{IsPaid, pays}

@@ -18,7 +18,7 @@ use Rattle.sc_node_table.specs.Replica.{ReplicaState, next}
 use Rattle.sc_node_table.specs.Slots.{numbers_from}
 use Rattle.sc_scenario.specs.declared.scenarios.Scenario.{Scenario}
 use Rattle.sc_sound.specs.Players.{player_table, node_seat, system_of, as_nodes}
-use Rattle.sc_sound.specs.declared.roles.Role.TheVariants.{Node}
+use Rattle.sc_mail.specs.declared.roles.Role.TheVariants.{Node}
 use Rattle.sc_orderly_law.specs.Orderly.{rest, mail_for, taken}
 use Rattle.sc_budget_law.specs.Frames.{Frame}
 use Rattle.sc_budget_law.specs.Between.{Mark, Asks, Votes, Tells, Other, mark_of, mark, told, AreInOrder, IsBetween}

@@ -15,8 +15,8 @@ use Rattle.sc_scenario.specs.declared.drafts.GroupLine.{GroupLine}
 use Rattle.sc_scenario.specs.declared.scenarios.Asks.{Asks}
 use Rattle.sc_scenario.specs.declared.scenarios.Scenario.{Scenario}
 use Rattle.sc_sound.specs.Players.{node_seat, client_seat, client_seats, route_of, births, as_nodes}
-use Rattle.sc_start_law.proofs.Seats.{all_apart}
-use Rattle.sc_start_law.proofs.Starts.{bases_from, first_and_others}
+use Rattle.sc_whole_law.proofs.Seats.{all_apart}
+use Rattle.sc_whole_law.proofs.Starts.{bases_from, first_and_others}
 use Rattle.sc_paxos_law.proofs.Among.{Among-either, from_map, member-among}
 use Rattle.sc_budget_law.specs.Frames.{Frame, frame_of, IsFrame, AreNamedApart}
 

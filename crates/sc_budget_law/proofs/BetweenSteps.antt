@@ -25,7 +25,7 @@ use Rattle.sc_node_table.specs.Slots.{numbers_from, slots_ahead}
 use Rattle.sc_scenario.specs.declared.scenarios.Asks.{Asks}
 use Rattle.sc_scenario.specs.declared.scenarios.Scenario.{Scenario}
 use Rattle.sc_sound.specs.Players.{Player, player_table, node_seat, client_seat, route_of, births, system_of, as_nodes}
-use Rattle.sc_sound.specs.declared.roles.Role.TheVariants.{Node}
+use Rattle.sc_mail.specs.declared.roles.Role.TheVariants.{Node}
 use Rattle.sc_orderly_law.specs.Owing.{owed, owed_at_birth}
 use Rattle.sc_paxos_law.proofs.Among.{Among-left}
 use Rattle.sc_budget_law.specs.BetweenJournal.{replica_at, next_in}

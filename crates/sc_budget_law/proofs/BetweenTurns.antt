@@ -21,7 +21,7 @@ use Rattle.sc_node_table.specs.Replica.{last_slot}
 use Rattle.sc_scenario.specs.declared.scenarios.Asks.{Asks}
 use Rattle.sc_scenario.specs.declared.scenarios.Scenario.{Scenario}
 use Rattle.sc_sound.specs.Players.{Player, player_table, node_seat, births, system_of, as_nodes}
-use Rattle.sc_sound.specs.declared.roles.Role.TheVariants.{Node}
+use Rattle.sc_mail.specs.declared.roles.Role.TheVariants.{Node}
 use Rattle.sc_orderly_law.specs.Orderly.{IsTidy, IsOrderly, IsInOrder, rest, mail_for, taken, deliveries}
 use Rattle.sc_orderly_law.specs.Owing.{owed, owed_at_birth, owed_by}
 use Rattle.sc_orderly_law.proofs.Paying.{IsPaid, pays}

@@ -1,18 +1,16 @@
 -- All that the leading replica of a plain group executes at once, with what it offers then.
-use Rattle.std.proofs.Common.{◌≡◌, ℕ, ◌+◌, ◌-◌, ◌≤◌, ◌&&◌, eqb, true, List, [], ◌∷◌, length, Option, Some, None, inl, inr, refl, sym, ◌∙◌, ap, subst, arith}
+use Rattle.std.proofs.Common.{◌≡◌, ℕ, ◌+◌, ◌-◌, ◌≤◌, ◌&&◌, eqb, true, List, [], ◌∷◌, ◌++◌, length, Option, Some, None, inl, inr, refl, sym, ◌∙◌, ap, subst, arith}
 use Rattle.std.proofs.lemmas.Bool.{cond-true, cases_lt, lt-ltb, and_from}
 use Rattle.std.proofs.lemmas.List.Sums.{count_by-le-length}
 use Rattle.sc_base.specs.declared.ops.Op.{Op}
 use Rattle.sc_cmd.specs.declared.commands.Command.{Command}
 use Rattle.sc_cmd.specs.declared.commands.Command.TheVariants.{Call}
-use Rattle.sc_cmd.specs.declared.cores.Base.{Base}
 use Rattle.sc_mail.specs.declared.bodies.Mail.{Mail}
 use Rattle.sc_paxos_words.specs.declared.flights.Flight.{Flight}
 use Rattle.sc_paxos_words.proofs.ListLemmas.{Each-among}
-use Rattle.sc_node_table.specs.Births.{next_child, ready_children, executed_children}
-use Rattle.sc_node_table.specs.Execute.{executed_one, has_room, next_ready, executed_ready, all_ready, executed}
+use Rattle.sc_node_table.specs.Execute.{executed_one, next_child, has_room, next_ready, ending, executed_ready, all_ready, executed}
 use Rattle.sc_node_table.specs.Pump.{pumped}
-use Rattle.sc_node_table.specs.Replica.{ReplicaState, Place, next, last_slot}
+use Rattle.sc_node_table.specs.Replica.{ReplicaState, Place, Executed, childless, next, last_slot}
 use Rattle.sc_node_table.specs.Slots.{at_slot}
 use Rattle.sc_budget_law.specs.Frames.{Frame, IsFrame}
 use Rattle.sc_budget_law.specs.PlainMail.{Requests, IsPlainCommand}
@@ -33,6 +31,10 @@ module _ (begun : Requests) (frame : Frame) (is : IsFrame frame) (first free : �
     pub taken : ℕ
     pub leads : L taken place
     pub none : entries_at (next place.0) place.0.ready ≡ 0
+
+  -- .. after a step
+  abbrev IsDoneAfter : Executed → Type 0
+  IsDoneAfter step = IsDone step.0
 
   pumped_done : free ≤ last_slot → (place : Place) → IsDone place → IsDone (pumped place)
   pumped_done room place d =
@@ -57,8 +59,8 @@ module _ (begun : Requests) (frame : Frame) (is : IsFrame frame) (first free : �
       ]
 
   done_by : free ≤ last_slot → (es : List (ℕ × Command)) (taken : ℕ) (r : ReplicaState) (mails : List Mail) → length r.ready ≤ length es + 1 → next r + taken ≡ free → L taken (r, mails) → (o : Option Command) → o ≡ at_slot r.ready (next r)
-      → ((t : ℕ) (p : Place) → length p.0.ready ≤ length es → next p.0 + t ≡ free → L t p → IsDone (executed_ready es p))
-      → IsDone (elim o [ None ↦ (r, mails) | Some command ↦ pumped (executed_ready es (executed_one true command (r, mails))) ])
+      → ((t : ℕ) (p : Place) → length p.0.ready ≤ length es → next p.0 + t ≡ free → L t p → IsDone (executed_ready es p).0)
+      → IsDoneAfter (elim o [ None ↦ childless (r, mails) | Some command ↦ ending (next_child command r) (executed_ready es (executed_one true command (r, mails))) ])
   done_by room es taken r mails short end k None e more = record { taken = taken; leads = k; none = at_nothing r.ready (next r) (sym e) }
   done_by room es taken r mails short end k (Some command) e more =
       let found = at_found r.ready (next r) command (sym e) in
@@ -71,10 +73,10 @@ module _ (begun : Requests) (frame : Frame) (is : IsFrame frame) (first free : �
       let place : Place = executed_one true (Call c.0 c.1 c.2) (r, mails) in
       let shorter = one_less begun frame is first free held bound wanted less.0 r mails c.0 c.1 c.2 up ready now in
       let step = one_next begun frame is first free held bound wanted less.0 r mails c.0 c.1 c.2 up ready now in
-      let done : IsDone (executed_ready es place) = more less.0 place (omega (arith, shorter, short)) (omega (arith, step, up)) (one_leads begun frame is first free held bound wanted less.0 r mails c.0 c.1 c.2 up ready now) in
-      subst (λ (x : Command). IsDone (pumped (executed_ready es (executed_one true x (r, mails))))) (sym c.3) (pumped_done room (executed_ready es place) done)
+      let done : IsDone (executed_ready es place).0 = more less.0 place (omega (arith, shorter, short)) (omega (arith, step, up)) (one_leads begun frame is first free held bound wanted less.0 r mails c.0 c.1 c.2 up ready now) in
+      subst (λ (x : Command). IsDone (pumped (executed_ready es (executed_one true x (r, mails))).0)) (sym c.3) (pumped_done room (executed_ready es place).0 done)
 
-  all_done : free ≤ last_slot → (es : List (ℕ × Command)) (taken : ℕ) (place : Place) → length place.0.ready ≤ length es → next place.0 + taken ≡ free → L taken place → IsDone (executed_ready es place)
+  all_done : free ≤ last_slot → (es : List (ℕ × Command)) (taken : ℕ) (place : Place) → length place.0.ready ≤ length es → next place.0 + taken ≡ free → L taken place → IsDone (executed_ready es place).0
   unfolding executed_ready
   all_done room [] taken (r, mails) short end k =
       let few = count_by-le-length (λ (entry : ℕ × Command). eqb entry.0 (next r)) r.ready in
@@ -83,17 +85,20 @@ module _ (begun : Requests) (frame : Frame) (is : IsFrame frame) (first free : �
 
   -- ---- no call makes a child
 
+  abbrev IsChildless : Executed → Type 0
+  IsChildless step = step.1 ≡ []
+
   -- nothing that is ready makes one
-  no_children : free ≤ last_slot → (es : List (ℕ × Command)) (taken : ℕ) (place : Place) (made : List Base) → next place.0 + taken ≡ free → L taken place → ready_children es place made ≡ made
-  unfolding ready_children
-  no_children room [] taken place made end k = refl
-  no_children room (x ∷ es) taken (r, mails) made end k = child_by_ready es taken r mails made end k (next_ready r) (ready_is taken r mails room k) (λ t p m n l. no_children room es t p m n l)
+  no_children : free ≤ last_slot → (es : List (ℕ × Command)) (taken : ℕ) (place : Place) → next place.0 + taken ≡ free → L taken place → (executed_ready es place).1 ≡ []
+  unfolding executed_ready
+  no_children room [] taken place end k = refl
+  no_children room (x ∷ es) taken (r, mails) end k = child_by_ready es taken r mails end k (next_ready r) (ready_is taken r mails room k) (λ t p n l. no_children room es t p n l)
     where
-      child_by_ready : (es : List (ℕ × Command)) (taken : ℕ) (r : ReplicaState) (mails : List Mail) (made : List Base) → next r + taken ≡ free → L taken (r, mails) → (o : Option Command) → o ≡ at_slot r.ready (next r)
-          → ((t : ℕ) (p : Place) (m : List Base) → next p.0 + t ≡ free → L t p → ready_children es p m ≡ m)
-          → ◌≡◌ {A = List Base} (elim o [ None ↦ made | Some command ↦ ready_children es (executed_one true command (r, mails)) (next_child command r made) ]) made
-      child_by_ready es taken r mails made end k None e more = refl
-      child_by_ready es taken r mails made end k (Some command) e more =
+      child_by_ready : (es : List (ℕ × Command)) (taken : ℕ) (r : ReplicaState) (mails : List Mail) → next r + taken ≡ free → L taken (r, mails) → (o : Option Command) → o ≡ at_slot r.ready (next r)
+          → ((t : ℕ) (p : Place) → next p.0 + t ≡ free → L t p → (executed_ready es p).1 ≡ [])
+          → IsChildless (elim o [ None ↦ childless (r, mails) | Some command ↦ ending (next_child command r) (executed_ready es (executed_one true command (r, mails))) ])
+      child_by_ready es taken r mails end k None e more = refl
+      child_by_ready es taken r mails end k (Some command) e more =
           let found = at_found r.ready (next r) command (sym e) in
           let plain = Each-among (λ (entry : ℕ × Command). IsPlainCommand begun frame entry.1) r.ready (next r, command) k.leader.ready found.1 in
           let c = call_is begun frame is first free held bound wanted command plain in
@@ -103,17 +108,17 @@ module _ (begun : Requests) (frame : Frame) (is : IsFrame frame) (first free : �
           let up : next r + (less.0 + 1) ≡ free = ap (λ t. next r + t) (sym less.1) ∙ end in
           let place : Place = executed_one true (Call c.0 c.1 c.2) (r, mails) in
           let step = one_next begun frame is first free held bound wanted less.0 r mails c.0 c.1 c.2 up ready now in
-          subst (λ (y : Command). ready_children es (executed_one true y (r, mails)) (next_child y r made) ≡ made) (sym c.3)
-          (more less.0 place made (omega (arith, step, up)) (one_leads begun frame is first free held bound wanted less.0 r mails c.0 c.1 c.2 up ready now))
+          subst (λ (y : Command). next_child y r ++ (executed_ready es (executed_one true y (r, mails))).1 ≡ []) (sym c.3)
+          (more less.0 place (omega (arith, step, up)) (one_leads begun frame is first free held bound wanted less.0 r mails c.0 c.1 c.2 up ready now))
 
   -- nor an execution
-  pub executed_none : free ≤ last_slot → (taken : ℕ) (r : ReplicaState) (mails : List Mail) (client seq : ℕ) (op : Op) (made : List Base) → next r + (taken + 1) ≡ free → at_slot r.ready (next r) ≡ Some (Call client seq op) → L (taken + 1) (r, mails)
-      → executed_children true (Call client seq op) (r, mails) made ≡ made
-  unfolding executed_children
-  executed_none room taken r mails client seq op made end ready k =
+  pub executed_none : free ≤ last_slot → (taken : ℕ) (r : ReplicaState) (mails : List Mail) (client seq : ℕ) (op : Op) → next r + (taken + 1) ≡ free → at_slot r.ready (next r) ≡ Some (Call client seq op) → L (taken + 1) (r, mails)
+      → (executed true (Call client seq op) (r, mails)).1 ≡ []
+  unfolding executed
+  executed_none room taken r mails client seq op end ready k =
       let place : Place = executed_one true (Call client seq op) (r, mails) in
       let step = one_next begun frame is first free held bound wanted taken r mails client seq op end ready k in
-      no_children room place.0.ready taken place made (omega (arith, step, end)) (one_leads begun frame is first free held bound wanted taken r mails client seq op end ready k)
+      no_children room place.0.ready taken place (omega (arith, step, end)) (one_leads begun frame is first free held bound wanted taken r mails client seq op end ready k)
 
   -- ---- the whole of an execution
 
@@ -124,18 +129,19 @@ module _ (begun : Requests) (frame : Frame) (is : IsFrame frame) (first free : �
     pub done : HasOffered taken place.0
 
   pub executed_run : free ≤ last_slot → (taken : ℕ) (r : ReplicaState) (mails : List Mail) (client seq : ℕ) (op : Op) → next r + (taken + 1) ≡ free → at_slot r.ready (next r) ≡ Some (Call client seq op) → L (taken + 1) (r, mails)
-      → IsRun (executed true (Call client seq op) (r, mails))
+      → IsRun (executed true (Call client seq op) (r, mails)).0
   unfolding executed
   executed_run room taken r mails client seq op end ready k =
       let place : Place = executed_one true (Call client seq op) (r, mails) in
       let step = one_next begun frame is first free held bound wanted taken r mails client seq op end ready k in
-      let d : IsDone (all_ready place) = all_done room place.0.ready taken place (omega arith) (omega (arith, step, end)) (one_leads begun frame is first free held bound wanted taken r mails client seq op end ready k) in
-      let p = pumped_leads begun frame is first free held bound wanted d.taken (all_ready place) room d.leads in
+      let rest : Place = (all_ready place).0 in
+      let d : IsDone rest = all_done room place.0.ready taken place (omega arith) (omega (arith, step, end)) (one_leads begun frame is first free held bound wanted taken r mails client seq op end ready k) in
+      let p = pumped_leads begun frame is first free held bound wanted d.taken rest room d.leads in
       record {
         taken = p.taken;
         leads = p.leads;
         done = record {
-          executed = ap (λ m. entries_at m (pumped (all_ready place)).0.ready) p.same_next ∙ ap (λ (es : List (ℕ × Command)). entries_at (next (all_ready place).0) es) p.same_ready ∙ d.none;
+          executed = ap (λ m. entries_at m (pumped rest).0.ready) p.same_next ∙ ap (λ (es : List (ℕ × Command)). entries_at (next rest.0) es) p.same_ready ∙ d.none;
           offered = p.offered_all;
         };
       }

@@ -39,7 +39,7 @@ use Rattle.sc_scenario.specs.declared.scenarios.Scenario.{Scenario}
 use Rattle.sc_scenario.specs.declared.scenarios.SchedLine.{SchedLine}
 use Rattle.sc_scenario.specs.declared.scenarios.SchedLine.TheVariants as sched
 use Rattle.sc_sound.specs.Players.{Player, player_table, node_seat, client_seat, route_of, births, line_of, schedule, system_of, as_nodes}
-use Rattle.sc_sound.specs.declared.roles.Role.TheVariants.{Node, Client}
+use Rattle.sc_mail.specs.declared.roles.Role.TheVariants.{Node, Client}
 use Rattle.sc_orderly_law.specs.Orderly.{is_born, deliveries}
 use Rattle.sc_orderly_law.specs.Owing.{SendsToActors}
 use Rattle.sc_orderly_law.proofs.Counting.{mails_are_owed, goes_are_few, rows_are}

@@ -15,7 +15,6 @@ use Rattle.sc_mail.specs.declared.bodies.MailBody.{MailBody}
 use Rattle.sc_mail.specs.declared.bodies.MailBody.TheVariants.{Request, Answer, Prepare, Promise, Accept, Accepted, Nack, Learn, Ask, Install, TxPrepare, TxVote, TxOutcome, TxElsewhere, TxWatch, TxWatched, Told}
 use Rattle.sc_member.specs.Roster.{is_member}
 use Rattle.sc_paxos_words.proofs.ListLemmas.{Each-among, Each-weaker, find_found}
-use Rattle.sc_node_table.specs.Births.{mailed_children}
 use Rattle.sc_node_table.specs.Node.{NodeState, replica_of, with_replica, group_of_mail, is_node, may_come, with_children, taken_by, routed, on_mail, node_table}
 use Rattle.sc_node_table.specs.Replica.{ReplicaState, Place, name_of, next, last_slot}
 use Rattle.sc_node_table.specs.Rows.{mailed}
@@ -77,17 +76,17 @@ module _ (begun : Requests) (frames : List Frame) (are : (frame : Frame) → Amo
 
   -- ---- the step
 
-  taken_is : (group : Draw) (from : ℕ) (body : MailBody) (node : NodeState) (r : ReplicaState) (o : Option ReplicaState) → o ≡ Some r → mailed_children from body (r, []) [] ≡ []
-      → taken_by o group from body node ≡ (record node { replicas = with_replica group (mailed from body (r, [])).0 node.replicas }, (mailed from body (r, [])).1)
+  taken_is : (group : Draw) (from : ℕ) (body : MailBody) (node : NodeState) (r : ReplicaState) (o : Option ReplicaState) → o ≡ Some r → (mailed from body (r, [])).1 ≡ []
+      → taken_by o group from body node ≡ (record node { replicas = with_replica group (mailed from body (r, [])).0.0 node.replicas }, (mailed from body (r, [])).0.1)
   unfolding with_children
   taken_is group from body node r None e c = cc
   taken_is group from body node r (Some x) e c =
       let same : x ≡ r = cc in
       ap (λ (y : ReplicaState). taken_by (Some y) group from body node) same
-      ∙ ap (λ (children : List Base). (with_children children (record node { replicas = with_replica group (mailed from body (r, [])).0 node.replicas }), (mailed from body (r, [])).1)) c
+      ∙ ap (λ (children : List Base). (with_children children (record node { replicas = with_replica group (mailed from body (r, [])).0.0 node.replicas }), (mailed from body (r, [])).0.1)) c
 
-  mail_is : (group : Draw) (from : ℕ) (body : MailBody) (node : NodeState) (r : ReplicaState) → may_come from body ≡ true → group_of_mail body ≡ Some group → replica_of group node.replicas ≡ Some r → mailed_children from body (r, []) [] ≡ []
-      → on_mail from body node ≡ (record node { replicas = with_replica group (mailed from body (r, [])).0 node.replicas }, (mailed from body (r, [])).1)
+  mail_is : (group : Draw) (from : ℕ) (body : MailBody) (node : NodeState) (r : ReplicaState) → may_come from body ≡ true → group_of_mail body ≡ Some group → replica_of group node.replicas ≡ Some r → (mailed from body (r, [])).1 ≡ []
+      → on_mail from body node ≡ (record node { replicas = with_replica group (mailed from body (r, [])).0.0 node.replicas }, (mailed from body (r, [])).0.1)
   mail_is group from body node r may g e c =
       cond-true (may_come from body) (routed (group_of_mail body) from body node) (node, []) may
       ∙ ap (λ (o : Option Draw). routed o from body node) g
@@ -125,7 +124,7 @@ module _ (begun : Requests) (frames : List Frame) (are : (frame : Frame) → Amo
         says = m.says;
         r = here.0;
         found = here.1;
-        place = mailed mail.from mail.body (here.0, []);
+        place = (mailed mail.from mail.body (here.0, [])).0;
         after_is = mail_is m.frame.core.id mail.from mail.body node here.0 for.may for.group here.1 row.1;
         row = row.0;
       }

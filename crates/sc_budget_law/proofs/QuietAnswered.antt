@@ -33,7 +33,7 @@ use Rattle.sc_scenario.specs.declared.scenarios.Scenario.{Scenario}
 use Rattle.sc_scenario.specs.declared.scenarios.SchedLine.{SchedLine}
 use Rattle.sc_scenario.specs.declared.scenarios.SchedLine.TheVariants.{Go, Deliver, Drop, Again, Tick, Crash, Told, Settle, Free, Storm}
 use Rattle.sc_sound.specs.Players.{Player, player_table, node_seat, client_seat, route_of, births, line_of, schedule, system_of, as_nodes, replies_of}
-use Rattle.sc_sound.specs.declared.roles.Role.TheVariants.{Node, Client}
+use Rattle.sc_mail.specs.declared.roles.Role.TheVariants.{Node, Client}
 use Rattle.sc_orderly_law.specs.Orderly.{IsPlainLine, rest, is_born}
 use Rattle.sc_orderly_law.specs.Owing.{owed_at_birth}
 use Rattle.sc_orderly_law.proofs.Ordering.{orderly, by_rows}

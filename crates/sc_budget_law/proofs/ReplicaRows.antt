@@ -17,7 +17,6 @@ use Rattle.sc_member.specs.Roster.{is_member}
 use Rattle.sc_paxos_words.specs.Ballots.{below}
 use Rattle.sc_paxos_words.proofs.BallotLemmas.{at_least_itself}
 use Rattle.sc_paxos_words.proofs.ListLemmas.{Each-weaker}
-use Rattle.sc_node_table.specs.Births.{mailed_children}
 use Rattle.sc_node_table.specs.Replica.{ReplicaState, Place, next, last_slot}
 use Rattle.sc_node_table.specs.Rows.{mailed}
 use Rattle.sc_node_table.specs.Slots.{slots_ahead}
@@ -98,7 +97,7 @@ module _ (begun : Requests) (frame : Frame) (is : IsFrame frame) where
     pub does : Does me r from body place
 
   abbrev Row : ℕ → ReplicaState → ℕ → MailBody → Type 0
-  Row me r from body = ReplicaRow me r from body (mailed from body (r, [])) × (mailed_children from body (r, []) [] ≡ [])
+  Row me r from body = ReplicaRow me r from body (mailed from body (r, [])).0 × ((mailed from body (r, [])).1 ≡ [])
 
   module _ (r : ReplicaState) (from : ℕ) (room : next r + slots_ahead ≤ last_slot) where
     -- ---- a request
@@ -110,7 +109,7 @@ module _ (begun : Requests) (frame : Frame) (is : IsFrame frame) where
     open_room taken l = (let most = l.slots.most in omega (arith, most, room))
 
     request_leading : (group : Draw) (client seq : ℕ) (op : Op) → IsPlainReplica begun frame frame.lead r → IsLeading begun frame r → begun client seq op → Row frame.lead r from (Request group client seq op)
-    unfolding mailed mailed_children
+    unfolding mailed
     request_leading group client seq op p k b =
         elim (cases_Bool (holds_key frame.core.arc (key_of op))) [
           | inl h ↦ (
@@ -142,7 +141,7 @@ module _ (begun : Requests) (frame : Frame) (is : IsFrame frame) where
     -- ---- a vote
 
     vote_leading : (group : Draw) (slot : ℕ) → IsPlainReplica begun frame frame.lead r → IsLeading begun frame r → is_member (frame.at slot) from ≡ true → Row frame.lead r from (Accepted group frame.ballot slot)
-    unfolding mailed mailed_children
+    unfolding mailed
     vote_leading group slot p k m =
         let counted = accepted_counted begun frame is k.taken r p k.leader k.done (open_room k.taken k.leader) from slot m in
         let run = counted.run in
@@ -154,7 +153,7 @@ module _ (begun : Requests) (frame : Frame) (is : IsFrame frame) where
             owed = omega (arith, owed);
             does = (refl, record { taken = k.taken; plain = p; leader = k.leader; done = k.done; room = open_room k.taken k.leader; counted = counted });
           },
-          accepted_none begun frame is k.taken r p k.leader k.done (open_room k.taken k.leader) from slot m [],
+          accepted_none begun frame is k.taken r p k.leader k.done (open_room k.taken k.leader) from slot m,
         )
 
     -- ---- an accept
@@ -170,7 +169,7 @@ module _ (begun : Requests) (frame : Frame) (is : IsFrame frame) where
 
     accept_any : (me : ℕ) (group : Draw) (slot : ℕ) (command : Command) → IsPlainReplica begun frame me r → IsSettled begun frame me r → from ≡ frame.lead → is_member (frame.at slot) me ≡ true → next r ≤ slot
         → Row me r from (Accept group frame.ballot slot command)
-    unfolding mailed mailed_children
+    unfolding mailed
     accept_any me group slot command p k f m low =
         let place_is = accept_is begun frame is me r p from slot command low (stays me k) in
         let owes = accepted_owes begun frame is me r p slot command in (
@@ -188,7 +187,7 @@ module _ (begun : Requests) (frame : Frame) (is : IsFrame frame) where
 
     learn_follower : (me : ℕ) (group : Draw) (slot client seq : ℕ) (op : Op) → IsPlainReplica begun frame me r → IsPlainFollower r → (me ≡ frame.lead → ⊥) → IsPlainCall begun frame client seq op → slot ≡ next r
         → Row me r from (Learn group slot (Call client seq op))
-    unfolding mailed mailed_children
+    unfolding mailed
     learn_follower me group slot client seq op p f ne c at =
         let low : next r ≤ last_slot = omega (arith, room) in
         let place_is = learn_is begun frame is me r p f is.leads client seq op c low from slot at in
@@ -201,7 +200,7 @@ module _ (begun : Requests) (frame : Frame) (is : IsFrame frame) where
             owed = omega (arith, owes);
             does = record { follows = ne; follower = f; sends = refl; next_is = learnt_next begun frame is me r p f is.leads client seq op c low; flights_are = after.flights };
           }),
-          learnt_none begun frame is me r p f is.leads client seq op c low slot [] at,
+          learnt_none begun frame is me r p f is.leads client seq op c low from slot at,
         )
 
     -- ---- each mail

@@ -7,7 +7,6 @@ use Rattle.sc_base.specs.Same.{same_ballot}
 use Rattle.sc_base.proofs.NameLemmas.{ballot_itself}
 use Rattle.sc_cmd.specs.declared.commands.Command.{Command}
 use Rattle.sc_cmd.specs.declared.commands.Command.TheVariants.{Call}
-use Rattle.sc_cmd.specs.declared.cores.Base.{Base}
 use Rattle.sc_member.specs.Majority.{votes_of, is_majority}
 use Rattle.sc_member.specs.Roster.{is_member}
 use Rattle.sc_paxos_words.specs.declared.answers.Counted.{Counted}
@@ -16,9 +15,8 @@ use Rattle.sc_paxos_words.specs.declared.flights.Flight.{Flight}
 use Rattle.sc_paxos_words.specs.Leaders.{LeaderState, flight_at, without_flight, without_flight_at}
 use Rattle.sc_paxos_words.specs.Votes.{kept_voters, voters_after, with_voters, vote_at}
 use Rattle.sc_paxos_words.proofs.ListLemmas.{find_found, Each-among}
-use Rattle.sc_node_table.specs.Births.{executed_children, readied_children, tallied_children, voted_children, accepted_children}
 use Rattle.sc_node_table.specs.Execute.{has_room, executed}
-use Rattle.sc_node_table.specs.Replica.{ReplicaState, Place, next, set_at, last_slot}
+use Rattle.sc_node_table.specs.Replica.{ReplicaState, Place, Executed, childless, next, set_at, last_slot}
 use Rattle.sc_node_table.specs.Slots.{at_slot, with_slot, numbers_from, slots_ahead}
 use Rattle.sc_node_table.specs.Voting.{leads, readied, vote_tallied, voted, accepted_row}
 use Rattle.sc_budget_law.specs.Frames.{Frame, IsFrame}
@@ -258,12 +256,12 @@ module _ (begun : Requests) (frame : Frame) (is : IsFrame frame) (taken : ℕ) (
         run = run;
       }
 
-      chosen : R (readied slot flight.value (changed fs r.ready, []))
+      chosen : R (readied slot flight.value (changed fs r.ready, [])).0
       unfolding readied es
       chosen =
           let after : ReplicaState = changed fs es in
           let sets = ap length p.sets_are in
-          cond_both (eqb slot (next r) && has_room after) (executed true flight.value (after, [])) (after, []) R
+          cond_both (eqb slot (next r) && has_room after) (executed true flight.value (after, [])) (childless (after, [])) (λ (step : Executed). R step.0)
           (λ t. (
           let here = eqb-true slot (next r) (and_parts (eqb slot (next r)) (has_room after) t).0 in
           let c = call_is begun frame is (next r) (next r + taken) fs (replica_owes r) Keeps flight.value flies.is_call in
@@ -271,8 +269,8 @@ module _ (begun : Requests) (frame : Frame) (is : IsFrame frame) (taken : ℕ) (
           let less = some_taken begun frame is (next r) (next r + taken) fs (replica_owes r) Keeps taken after [] flight.value ready ready_leads in
           let now = subst (λ t_. Leads begun frame (next r) (next r + taken) fs (replica_owes r) Keeps t_ (after, [])) less.1 ready_leads in
           let up : next r + (less.0 + 1) ≡ next r + taken = ap (λ t_. next r + t_) (sym less.1) in
-          decided_by (executed true flight.value (after, []))
-          (subst (λ (x : Command). IsRun begun frame is (next r) (next r + taken) fs (replica_owes r) Keeps (executed true x (after, []))) (sym c.3)
+          decided_by (executed true flight.value (after, [])).0
+          (subst (λ (x : Command). IsRun begun frame is (next r) (next r + taken) fs (replica_owes r) Keeps (executed true x (after, [])).0) (sym c.3)
           (executed_run begun frame is (next r) (next r + taken) fs (replica_owes r) Keeps room less.0 after [] c.0 c.1 c.2 up (ready ∙ ap Some c.3) now))))
           (λ n. (
           let past : slot ≡ next r → ⊥ = λ here. both_ways (eqb slot (next r) && has_room after) n
@@ -283,11 +281,11 @@ module _ (begun : Requests) (frame : Frame) (is : IsFrame frame) (taken : ℕ) (
           decided_by (after, []) (record { taken = taken; leads = ready_leads; done = record { executed = omega (arith, was, more, no_); offered = d.offered } })))
 
       -- .. and makes no child
-      chosen_none : (made : List Base) → readied_children slot flight.value (changed fs r.ready, []) made ≡ made
-      unfolding readied_children es
-      chosen_none made =
+      chosen_none : (readied slot flight.value (changed fs r.ready, [])).1 ≡ []
+      unfolding readied es
+      chosen_none =
           let after : ReplicaState = changed fs es in
-          cond_both (eqb slot (next r) && has_room after) (executed_children true flight.value (after, []) made) made (λ (l_ : List Base). l_ ≡ made)
+          cond_both (eqb slot (next r) && has_room after) (executed true flight.value (after, [])) (childless (after, [])) (λ (step : Executed). step.1 ≡ [])
           (λ t. (
           let here = eqb-true slot (next r) (and_parts (eqb slot (next r)) (has_room after) t).0 in
           let c = call_is begun frame is (next r) (next r + taken) fs (replica_owes r) Keeps flight.value flies.is_call in
@@ -295,27 +293,27 @@ module _ (begun : Requests) (frame : Frame) (is : IsFrame frame) (taken : ℕ) (
           let less = some_taken begun frame is (next r) (next r + taken) fs (replica_owes r) Keeps taken after [] flight.value ready ready_leads in
           let now = subst (λ t_. Leads begun frame (next r) (next r + taken) fs (replica_owes r) Keeps t_ (after, [])) less.1 ready_leads in
           let up : next r + (less.0 + 1) ≡ next r + taken = ap (λ t_. next r + t_) (sym less.1) in
-          subst (λ (x : Command). executed_children true x (after, []) made ≡ made) (sym c.3)
-          (executed_none begun frame is (next r) (next r + taken) fs (replica_owes r) Keeps room less.0 after [] c.0 c.1 c.2 made up (ready ∙ ap Some c.3) now)))
+          subst (λ (x : Command). (executed true x (after, [])).1 ≡ []) (sym c.3)
+          (executed_none begun frame is (next r) (next r + taken) fs (replica_owes r) Keeps room less.0 after [] c.0 c.1 c.2 up (ready ∙ ap Some c.3) now)))
           (λ n. refl)
 
-    vote_none : (o : Option (Flight Command)) (made : List Base) → flight_at slot r.leader.flights ≡ o → tallied_children slot (vote_at from slot (frame.at slot) o r.leader) (r, []) made ≡ made
+    vote_none : (o : Option (Flight Command)) → flight_at slot r.leader.flights ≡ o → (vote_tallied slot (vote_at from slot (frame.at slot) o r.leader) (r, [])).1 ≡ []
     unfolding fs
-    vote_none None made e = refl
-    vote_none (Some flight) made e =
+    vote_none None e = refl
+    vote_none (Some flight) e =
         let set : List ℕ = frame.at slot in
         let v : Option (List ℕ) = voters_after set from flight.voters in
         cond_both (is_majority set (kept_voters v)) (Chosen flight.value, without_flight_at slot r.leader) (NotYet (length (kept_voters v)), record r.leader { flights = with_voters slot v r.leader.flights })
-        (λ (x : Counted Command × LeaderState Command). tallied_children slot x (r, []) made ≡ made) (λ t. chosen_none flight e made) (λ f. refl)
+        (λ (x : Counted Command × LeaderState Command). (vote_tallied slot x (r, [])).1 ≡ []) (λ t. chosen_none flight e) (λ f. refl)
 
-    vote_run : (o : Option (Flight Command)) → flight_at slot r.leader.flights ≡ o → R (vote_tallied slot (vote_at from slot (frame.at slot) o r.leader) (r, []))
+    vote_run : (o : Option (Flight Command)) → flight_at slot r.leader.flights ≡ o → R (vote_tallied slot (vote_at from slot (frame.at slot) o r.leader) (r, [])).0
     unfolding voters fs
     vote_run None e = same_counted from slot (λ f k. (let no_ : None ≡ Some f = sym e ∙ k in cc))
     vote_run (Some flight) e =
         let set : List ℕ = frame.at slot in
         let v : Option (List ℕ) = voters_after set from flight.voters in
         cond_both (is_majority set (kept_voters v)) (Chosen flight.value, without_flight_at slot r.leader) (NotYet (length (kept_voters v)), record r.leader { flights = with_voters slot v r.leader.flights })
-        (λ (x : Counted Command × LeaderState Command). R (vote_tallied slot x (r, []))) (λ t. chosen flight e) (λ f. not_yet flight e f)
+        (λ (x : Counted Command × LeaderState Command). R (vote_tallied slot x (r, [])).0) (λ t. chosen flight e) (λ f. not_yet flight e f)
 
     voted_open : next r ≤ slot → slot < next r + slots_ahead → set_at slot r ≡ Some (frame.at slot)
     voted_open low high =
@@ -333,38 +331,38 @@ module _ (begun : Requests) (frame : Frame) (is : IsFrame frame) (taken : ℕ) (
     ballots = ap (same_ballot frame.ballot) l.ballot_is ∙ ballot_itself frame.ballot
 
     -- a vote at a slot that is not open counts for nothing
-    counted_out : (slot < next r) ⊎ (next r + slots_ahead ≤ slot) → R (voted from frame.ballot slot (set_at slot r) (r, []))
-    counted_out out = subst (λ (o : Option (List ℕ)). R (voted from frame.ballot slot o (r, []))) (sym (voted_closed out)) (same_counted from slot (closed slot out))
+    counted_out : (slot < next r) ⊎ (next r + slots_ahead ≤ slot) → R (voted from frame.ballot slot (set_at slot r) (r, [])).0
+    counted_out out = subst (λ (o : Option (List ℕ)). R (voted from frame.ballot slot o (r, [])).0) (sym (voted_closed out)) (same_counted from slot (closed slot out))
 
-    counted_in : next r ≤ slot → slot < next r + slots_ahead → R (voted from frame.ballot slot (set_at slot r) (r, []))
+    counted_in : next r ≤ slot → slot < next r + slots_ahead → R (voted from frame.ballot slot (set_at slot r) (r, [])).0
     counted_in low high =
-        subst (λ (o : Option (List ℕ)). R (voted from frame.ballot slot o (r, []))) (sym (voted_open low high))
-        (subst (λ (x : Counted Command × LeaderState Command). R (vote_tallied slot x (r, [])))
+        subst (λ (o : Option (List ℕ)). R (voted from frame.ballot slot o (r, [])).0) (sym (voted_open low high))
+        (subst (λ (x : Counted Command × LeaderState Command). R (vote_tallied slot x (r, [])).0)
         (sym (cond-true (same_ballot frame.ballot r.leader.ballot) (vote_at from slot (frame.at slot) (flight_at slot r.leader.flights) r.leader) (NotYet 0, r.leader) ballots))
         (vote_run (flight_at slot r.leader.flights) refl))
 
-    none_out : (made : List Base) → (slot < next r) ⊎ (next r + slots_ahead ≤ slot) → voted_children from frame.ballot slot (set_at slot r) (r, []) made ≡ made
-    none_out made out = ap (λ (o : Option (List ℕ)). voted_children from frame.ballot slot o (r, []) made) (voted_closed out)
+    none_out : (slot < next r) ⊎ (next r + slots_ahead ≤ slot) → (voted from frame.ballot slot (set_at slot r) (r, [])).1 ≡ []
+    none_out out = ap (λ (o : Option (List ℕ)). (voted from frame.ballot slot o (r, [])).1) (voted_closed out)
 
-    none_in : (made : List Base) → next r ≤ slot → slot < next r + slots_ahead → voted_children from frame.ballot slot (set_at slot r) (r, []) made ≡ made
-    none_in made low high =
-        ap (λ (o : Option (List ℕ)). voted_children from frame.ballot slot o (r, []) made) (voted_open low high)
-        ∙ ap (λ (x : Counted Command × LeaderState Command). tallied_children slot x (r, []) made) (cond-true (same_ballot frame.ballot r.leader.ballot) (vote_at from slot (frame.at slot) (flight_at slot r.leader.flights) r.leader) (NotYet 0, r.leader) ballots)
-        ∙ vote_none (flight_at slot r.leader.flights) made refl
+    none_in : next r ≤ slot → slot < next r + slots_ahead → (voted from frame.ballot slot (set_at slot r) (r, [])).1 ≡ []
+    none_in low high =
+        ap (λ (o : Option (List ℕ)). (voted from frame.ballot slot o (r, [])).1) (voted_open low high)
+        ∙ ap (λ (x : Counted Command × LeaderState Command). (vote_tallied slot x (r, [])).1) (cond-true (same_ballot frame.ballot r.leader.ballot) (vote_at from slot (frame.at slot) (flight_at slot r.leader.flights) r.leader) (NotYet 0, r.leader) ballots)
+        ∙ vote_none (flight_at slot r.leader.flights) refl
 
-    pub accepted_none : (made : List Base) → accepted_children from frame.ballot slot (r, []) made ≡ made
-    unfolding accepted_children
-    accepted_none made =
-        cond-true (leads frame.ballot r) (voted_children from frame.ballot slot (set_at slot r) (r, []) made) made (and_from r.running (same_ballot frame.ballot r.leader.ballot) l.running ballots)
+    pub accepted_none : (accepted_row from frame.ballot slot (r, [])).1 ≡ []
+    unfolding accepted_row
+    accepted_none =
+        ap (λ (step : Executed). step.1) (cond-true (leads frame.ballot r) (voted from frame.ballot slot (set_at slot r) (r, [])) (childless (r, [])) (and_from r.running (same_ballot frame.ballot r.leader.ballot) l.running ballots))
         ∙ elim (cases_lt slot (next r)) [
-          | inl low ↦ none_out made (inl low)
-          | inr on ↦ elim (cases_lt slot (next r + slots_ahead)) [ inl high ↦ none_in made on high | inr past ↦ none_out made (inr past) ]
+          | inl low ↦ none_out (inl low)
+          | inr on ↦ elim (cases_lt slot (next r + slots_ahead)) [ inl high ↦ none_in on high | inr past ↦ none_out (inr past) ]
         ]
 
-    pub accepted_counted : R (accepted_row from frame.ballot slot (r, []))
+    pub accepted_counted : R (accepted_row from frame.ballot slot (r, [])).0
     unfolding accepted_row
     accepted_counted =
-        subst R (sym (cond-true (leads frame.ballot r) (voted from frame.ballot slot (set_at slot r) (r, [])) (r, []) (and_from r.running (same_ballot frame.ballot r.leader.ballot) l.running ballots)))
+        subst (λ (step : Executed). R step.0) (sym (cond-true (leads frame.ballot r) (voted from frame.ballot slot (set_at slot r) (r, [])) (childless (r, [])) (and_from r.running (same_ballot frame.ballot r.leader.ballot) l.running ballots)))
         (elim (cases_lt slot (next r)) [
           | inl low ↦ counted_out (inl low)
           | inr on ↦ elim (cases_lt slot (next r + slots_ahead)) [ inl high ↦ counted_in on high | inr past ↦ counted_out (inr past) ]

@@ -14,7 +14,7 @@ use Rattle.sc_node_table.specs.Node.{replica_of, is_node}
 use Rattle.sc_node_table.specs.Replica.{ReplicaState, next}
 use Rattle.sc_scenario.specs.declared.scenarios.Scenario.{Scenario}
 use Rattle.sc_sound.specs.Players.{Player, player_table, node_seat, system_of, as_nodes}
-use Rattle.sc_sound.specs.declared.roles.Role.TheVariants.{Node, Client}
+use Rattle.sc_mail.specs.declared.roles.Role.TheVariants.{Node, Client}
 use Rattle.sc_orderly_law.specs.Orderly.{rest}
 use Rattle.sc_budget_law.specs.Frames.{Frame}
 use Rattle.sc_budget_law.specs.Between.{Mark, mark, View}

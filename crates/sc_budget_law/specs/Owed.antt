@@ -9,7 +9,7 @@ use Rattle.sc_client_table.specs.Client.{Client as ClientState}
 use Rattle.sc_node_table.specs.Node.{NodeState}
 use Rattle.sc_node_table.specs.Replica.{ReplicaState, next}
 use Rattle.sc_sound.specs.Players.{Player}
-use Rattle.sc_sound.specs.declared.roles.Role.TheVariants.{Node, Client}
+use Rattle.sc_mail.specs.declared.roles.Role.TheVariants.{Node, Client}
 
 -- an answer is one delivery; where it sends the client on, its request comes again
 abbrev pub answer_owes : AnswerBody → ℕ

@@ -12,10 +12,10 @@ use Rattle.sc_paxos_words.specs.declared.answers.Must.TheVariants.{Free as Open}
 use Rattle.sc_paxos_words.specs.declared.reports.Report.{Report}
 use Rattle.sc_paxos_words.specs.Leaders.{LeaderState, new_leader, must}
 use Rattle.sc_node_table.specs.Election.{open_nodes, elected}
-use Rattle.sc_node_table.specs.Execute.{is_among, looked_for, looked, executed_one, has_room, executed_ready, all_ready, executed}
+use Rattle.sc_node_table.specs.Execute.{is_among, looked_for, looked, executed_one, next_child, has_room, ending, executed_ready, all_ready, executed}
 use Rattle.sc_node_table.specs.Mails.{sent, sent_all}
 use Rattle.sc_node_table.specs.Pump.{pumped, pumped_from}
-use Rattle.sc_node_table.specs.Replica.{ReplicaState, Place, name_of, next, members, first_set, may_offer, last_slot}
+use Rattle.sc_node_table.specs.Replica.{ReplicaState, Place, Executed, childless, name_of, next, members, first_set, may_offer, last_slot}
 use Rattle.sc_node_table.specs.Rows.{learn_row}
 use Rattle.sc_node_table.specs.Slots.{at_slot}
 use Rattle.sc_calm_law.specs.Laws.{AreNines, Follows}
@@ -60,11 +60,11 @@ looked_fresh r mails stopped few = by r.running stopped r.group.core.gone
 
 -- ---- what follows the entry
 
-idle_ready : (es : List (ℕ × Command)) (place : Place) → place.0.running ≡ false → executed_ready es place ≡ place
+idle_ready : (es : List (ℕ × Command)) (place : Place) → place.0.running ≡ false → executed_ready es place ≡ childless place
 unfolding executed_ready
 idle_ready [] place stopped = refl
 idle_ready (e ∷ es) place stopped =
-    ap (λ (o : Option Command). elim o [ None ↦ place | Some command ↦ pumped (executed_ready es (executed_one true command place)) ])
+    ap (λ (o : Option Command). elim o [ None ↦ childless place | Some command ↦ ending (next_child command place.0) (executed_ready es (executed_one true command place)) ])
     (ap (λ b. cond (b && has_room place.0) (at_slot place.0.ready (next place.0)) None) stopped)
 
 idle_pump : (place : Place) → place.0.running ≡ false → pumped place ≡ place
@@ -75,7 +75,7 @@ idle_pump place stopped = ap (λ b. cond b (pumped_from (next place.0) place.0.s
     all_false true e = absurd (true≢false e)
     all_false false e = refl
 
-ready_none : (es : List (ℕ × Command)) (place : Place) → es ≡ [] → executed_ready es place ≡ place
+ready_none : (es : List (ℕ × Command)) (place : Place) → es ≡ [] → executed_ready es place ≡ childless place
 unfolding executed_ready
 ready_none [] place e = refl
 ready_none (x ∷ es) place e = cc
@@ -84,13 +84,13 @@ unbound_new : (leader : LeaderState Command) → leader.reports ≡ [] → (slot
 unbound_new leader none slot = ap (λ (reports : List (Report Command)). must slot (record leader { reports = reports })) none
 
 module _ (ways : Ways) where
-  fresh_owes : (place : Place) → IsFresh place → place_owes ways (pumped (all_ready place)) ≤ place_owes ways place
+  fresh_owes : (place : Place) → IsFresh place → place_owes ways (pumped (all_ready place).0) ≤ place_owes ways place
   fresh_owes place (inl stopped) =
-      let same = ap pumped (idle_ready place.0.ready place stopped) ∙ idle_pump place stopped in
+      let same = ap (λ (step : Executed). pumped step.0) (idle_ready place.0.ready place stopped) ∙ idle_pump place stopped in
       let owes = ap (place_owes ways) same in
       omega (arith, owes)
   fresh_owes place (inr new) =
-      let same = ap (λ p. place_owes ways (pumped p)) (ready_none place.0.ready place new.0) in
+      let same = ap (λ (step : Executed). place_owes ways (pumped step.0)) (ready_none place.0.ready place new.0) in
       let le = pump_owes ways place (λ slot at. unbound_new place.0.leader new.1 slot) new.2 in
       omega (arith, same, le)
 
@@ -98,19 +98,19 @@ module _ (ways : Ways) where
   learnt_fresh command place f =
       learnt_ends ways IsFresh command place f.stopped f.flights (λ r mails learns. looked_fresh r mails learns.stopped (subst AreNines (sym learns.sets) f.few))
 
-  entry_owes : (command : Command) (place : Place) → Follows command place.0 → place_owes ways (executed false command place) ≤ place_owes ways place
+  entry_owes : (command : Command) (place : Place) → Follows command place.0 → place_owes ways (executed false command place).0 ≤ place_owes ways place
   unfolding executed
   entry_owes command place f =
       let one = learnt_owes ways command place f.stopped f.stands f.flights in
       let more = fresh_owes (executed_one false command place) (learnt_fresh command place f) in
       omega (arith, one, more)
 
-  pub learn_lowers : (from slot : ℕ) (command : Command) (place : Place) → Follows command place.0 → slot ≤ next place.0 → place_owes ways (learn_row from slot command place) + 1 ≤ place_owes ways place + 1
+  pub learn_lowers : (from slot : ℕ) (command : Command) (place : Place) → Follows command place.0 → slot ≤ next place.0 → place_owes ways (learn_row from slot command place).0 + 1 ≤ place_owes ways place + 1
   unfolding learn_row
   learn_lowers from slot command (r, mails) f low = by (ltb last_slot slot) (eqb slot (next r)) (ltb (next r) slot) refl (entry_owes command (r, mails) f)
     where
-      by : (a b c : Bool) → ltb (next r) slot ≡ c → place_owes ways (executed false command (r, mails)) ≤ place_owes ways (r, mails) →
-          place_owes ways (cond {A = Place} a (r, mails) (cond b (executed false command (r, mails)) (cond c (r, sent r.me from (Ask (name_of r) (next r)) mails) (r, mails)))) + 1 ≤ place_owes ways (r, mails) + 1
+      by : (a b c : Bool) → ltb (next r) slot ≡ c → place_owes ways (executed false command (r, mails)).0 ≤ place_owes ways (r, mails) →
+          place_owes ways (cond {A = Executed} a (childless (r, mails)) (cond b (executed false command (r, mails)) (cond c (childless (r, sent r.me from (Ask (name_of r) (next r)) mails)) (childless (r, mails))))).0 + 1 ≤ place_owes ways (r, mails) + 1
       by true b c e le = omega arith
       by false true c e le = omega (arith, le)
       by false false false e le = omega arith

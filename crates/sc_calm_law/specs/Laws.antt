@@ -120,7 +120,7 @@ pub record MayPump (r : ReplicaState) : Type 0 where
 
 -- a mail to a replica lowers what is owed by one at least, with what it leaves and sends
 abbrev pub Lowers : Ways → ℕ → MailBody → Place → Type 0
-Lowers ways from body place = place_owes ways (mailed from body place) + 1 ≤ place_owes ways place + body_owes ways place.0.me body
+Lowers ways from body place = place_owes ways (mailed from body place).0 + 1 ≤ place_owes ways place + body_owes ways place.0.me body
 
 -- no leader stops for this ballot
 abbrev pub GoesOn : Ballot → ReplicaState → Type 0

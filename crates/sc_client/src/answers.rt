@@ -3,8 +3,7 @@ ghost use Rattle.std.specs.Prelude.{◌≡◌, ◌+◌, ◌++◌, ◌∷◌, [],
 ghost use Rattle.sc_client_table.specs.Table.{answer_taken, got, started, redirected, was_asked, waits_for};
 
 use crate::client::ClientCore;
-use sc_base::{Draw, Dup, OutOfMemory, Reply, Sequence};
-use sc_cmd::same_draw;
+use sc_base::{Draw, Dup, OutOfMemory, Reply, Sequence, same_draw};
 use sc_mail::{AnswerBody, Mail, MailBody};
 use std::alloc::Global;
 

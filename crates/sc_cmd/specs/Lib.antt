@@ -1,2 +1,4 @@
+pub mod Cores
+pub mod Effects
 pub mod Order
 pub mod Weight

@@ -5,7 +5,7 @@ use sc_member::Members;
 use std::alloc::Global;
 
 /// What a transaction does.
-#[derive(Clone, Copy)]
+#[derive(Clone, Copy, PartialEq, Eq)]
 pub enum Body {
     /// The coordinator takes over its successor.
     Merge,
@@ -60,21 +60,7 @@ impl Dup for Watch {
 
 impl Same for Body {
     fn is_same(&self, other: &Body) -> bool {
-        match (self, other) {
-            (Body::Merge, Body::Merge) => true,
-            (Body::Repart { at }, Body::Repart { at: second_at }) => at.is_same(second_at),
-            (Body::Migrate { node }, Body::Migrate { node: second_node }) => node.is_same(
-                second_node,
-            ),
-            (
-                Body::Split { at, child },
-                Body::Split {
-                    at: second_at,
-                    child: second_child,
-                },
-            ) => at.is_same(second_at) && child.is_same(second_child),
-            _ => false,
-        }
+        self == other
     }
 }
 

@@ -1,10 +1,11 @@
 //! The state of a group.
 ghost use Rattle.std.specs.Prelude.{◌≡◌, ◌↔◌, IsTrue};
+ghost use Rattle.sc_cmd.specs.Cores.{is_alone};
 
 use crate::bodies::{Body, Offer, Watch};
 use crate::links::{Link, Route};
 use crate::votes::{DecidedList, Heard, VotedList};
-use sc_base::{Draw, Dup, OutOfMemory, Pairs, RingArc, Same, SeenList, Sequence};
+use sc_base::{Draw, Dup, OutOfMemory, Pairs, RingArc, Same, SeenList, Sequence, same_draw};
 use sc_member::Members;
 use std::alloc::Global;
 
@@ -62,6 +63,15 @@ pub struct Base {
     pub core: Core,
     pub pairs: Pairs,
     pub clients: SeenList,
+}
+
+impl Core {
+    /// Whether the group is its own successor.
+    pub fn is_alone(&self) -> bool
+        ensures { result ≡ is_alone self.now }
+    {
+        same_draw(self.succ.group, self.id)
+    }
 }
 
 impl Dup for Lock {

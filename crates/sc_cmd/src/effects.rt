@@ -1,6 +1,11 @@
 //! What a group answers when its log executes an entry.
+ghost use Rattle.std.specs.Prelude.{◌≡◌, Some, None, MatchBool};
+ghost use Rattle.std.specs.Option.{option_copied};
+ghost use Rattle.sc_cmd.specs.declared.votes.Outcome.{Outcome};
+ghost use Rattle.sc_cmd.specs.Effects.{is_changed, is_divided, refused_result, result_of, decided_in, cast_in};
+
 use crate::links::{Link, Route};
-use crate::orders::OrderRefusal;
+use crate::orders::{OrderRefusal, ToldResult};
 use crate::votes::{Outcome, Past};
 use sc_base::{Draw, Dup, OutOfMemory, Reply, RingArc};
 use std::alloc::Global;
@@ -30,6 +35,72 @@ pub enum Effect {
     Decided(Outcome),
     /// An order is refused.
     Refused(OrderRefusal),
+}
+
+impl Effect {
+    /// Whether an order was carried out or begun.
+    pub fn is_changed(&self) -> bool
+        ensures { result ≡ is_changed self.now }
+    {
+        matches!(self, Effect::Changed)
+    }
+
+    /// Whether a split was decided.
+    pub fn is_divided(&self) -> bool
+        ensures { result ≡ is_divided self.now }
+    {
+        matches!(self, Effect::Decided(Outcome::Divided))
+    }
+
+    /// What is told of an order that was refused when it was executed.
+    pub fn refused(&self) -> Option<ToldResult>
+        ensures { result ≡ refused_result self.now }
+    {
+        match self {
+            Effect::Refused(why) => Some(ToldResult::Refused(*why)),
+            _ => None,
+        }
+    }
+
+    /// What is told of an order that one entry carries out; nothing where the order goes on.
+    pub fn told(&self) -> Option<ToldResult>
+        ensures { result ≡ result_of self.now }
+    {
+        match self {
+            Effect::Changed => Some(ToldResult::Done),
+            Effect::Refused(why) => Some(ToldResult::Refused(*why)),
+            _ => None,
+        }
+    }
+
+    /// Whether the entry decided an outcome. One without effect decided none, whatever it was to
+    /// decide.
+    pub fn has_outcome(&self) -> bool
+        ensures { MatchBool result ((outcome : Outcome) × (decided_in self.now ≡ Some outcome))
+            (decided_in self.now ≡ None) }
+    {
+        matches!(self, Effect::Decided(_))
+    }
+
+    /// The outcome that the entry decided.
+    pub fn outcome(&self) -> Option<&Outcome>
+        ensures { option_copied result ≡ decided_in self.now }
+    {
+        match self {
+            Effect::Decided(outcome) => Some(outcome),
+            _ => None,
+        }
+    }
+
+    /// The vote that the entry cast.
+    pub fn vote(&self) -> Option<Past>
+        ensures { result ≡ cast_in self.now }
+    {
+        match self {
+            Effect::Voted(vote) => Some(*vote),
+            _ => None,
+        }
+    }
 }
 
 impl Dup for Effect {

@@ -8,7 +8,6 @@ mod cores;
 mod effects;
 mod links;
 mod orders;
-mod same;
 mod votes;
 mod weights;
 
@@ -18,7 +17,6 @@ pub use cores::{Base, Core, Lock};
 pub use effects::Effect;
 pub use links::{Link, MemberSets, Route};
 pub use orders::{Order, OrderLine, OrderRefusal, ToldResult};
-pub use same::{same_ballot, same_draw};
 pub use votes::{DecidedList, Frozen, Gift, Heard, No, Outcome, Past, Vote, VotedList};
 pub use weights::{
     base_weight, command_weight, op_weight, outcome_weight, reply_weight, vote_weight,

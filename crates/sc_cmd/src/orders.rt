@@ -6,7 +6,7 @@ use sc_base::{Draw, Dup, OutOfMemory, Same};
 use std::alloc::Global;
 
 /// An order to a group.
-#[derive(Clone, Copy)]
+#[derive(Clone, Copy, PartialEq, Eq)]
 pub enum Order {
     Join { node: u16, group: Draw },
     Leave { node: u16, group: Draw },
@@ -17,14 +17,14 @@ pub enum Order {
 }
 
 /// An order with its number, from 1 over the whole scenario.
-#[derive(Clone, Copy)]
+#[derive(Clone, Copy, PartialEq, Eq)]
 pub struct OrderLine {
     pub number: u32,
     pub order: Order,
 }
 
 /// Why an order is refused.
-#[derive(Clone, Copy)]
+#[derive(Clone, Copy, PartialEq, Eq)]
 pub enum OrderRefusal {
     /// The node does not lead the group; it takes `hint` for the leader.
     NotLeader { hint: Option<u16> },
@@ -47,7 +47,7 @@ pub enum OrderRefusal {
 }
 
 /// What is told of an order.
-#[derive(Clone, Copy)]
+#[derive(Clone, Copy, PartialEq, Eq)]
 pub enum ToldResult {
     Done,
     Committed,
@@ -117,87 +117,24 @@ impl Dup for ToldResult {
 
 impl Same for Order {
     fn is_same(&self, other: &Order) -> bool {
-        match (self, other) {
-            (
-                Order::Join { node, group },
-                Order::Join {
-                    node: second_node,
-                    group: second_group,
-                },
-            ) => node.is_same(second_node) && group.is_same(second_group),
-            (
-                Order::Leave { node, group },
-                Order::Leave {
-                    node: second_node,
-                    group: second_group,
-                },
-            ) => node.is_same(second_node) && group.is_same(second_group),
-            (
-                Order::Split { group, at },
-                Order::Split {
-                    group: second_group,
-                    at: second_at,
-                },
-            ) => group.is_same(second_group) && at.is_same(second_at),
-            (
-                Order::Merge { group },
-                Order::Merge {
-                    group: second_group,
-                },
-            ) => group.is_same(second_group),
-            (
-                Order::Repart { group, at },
-                Order::Repart {
-                    group: second_group,
-                    at: second_at,
-                },
-            ) => group.is_same(second_group) && at.is_same(second_at),
-            (
-                Order::Migrate { group, node },
-                Order::Migrate {
-                    group: second_group,
-                    node: second_node,
-                },
-            ) => group.is_same(second_group) && node.is_same(second_node),
-            _ => false,
-        }
+        self == other
     }
 }
 
 impl Same for OrderLine {
     fn is_same(&self, other: &OrderLine) -> bool {
-        self.number.is_same(&other.number) && self.order.is_same(&other.order)
+        self == other
     }
 }
 
 impl Same for OrderRefusal {
     fn is_same(&self, other: &OrderRefusal) -> bool {
-        match (self, other) {
-            (OrderRefusal::NotLeader { hint }, OrderRefusal::NotLeader { hint: second_hint }) =>
-                hint.is_same(second_hint),
-            (OrderRefusal::InTransaction { tx }, OrderRefusal::InTransaction { tx: second_tx }) =>
-                tx.is_same(second_tx),
-            (OrderRefusal::NoNeighbour, OrderRefusal::NoNeighbour) => true,
-            (OrderRefusal::BadBoundary, OrderRefusal::BadBoundary) => true,
-            (OrderRefusal::TooManyMembers { n }, OrderRefusal::TooManyMembers { n: second_n }) => n
-                == second_n,
-            (OrderRefusal::NotMember, OrderRefusal::NotMember) => true,
-            (OrderRefusal::LastMember, OrderRefusal::LastMember) => true,
-            (OrderRefusal::TxLimit, OrderRefusal::TxLimit) => true,
-            (OrderRefusal::IsMember, OrderRefusal::IsMember) => true,
-            _ => false,
-        }
+        self == other
     }
 }
 
 impl Same for ToldResult {
     fn is_same(&self, other: &ToldResult) -> bool {
-        match (self, other) {
-            (ToldResult::Done, ToldResult::Done) => true,
-            (ToldResult::Committed, ToldResult::Committed) => true,
-            (ToldResult::Aborted, ToldResult::Aborted) => true,
-            (ToldResult::Refused(one), ToldResult::Refused(second)) => one.is_same(second),
-            _ => false,
-        }
+        self == other
     }
 }

@@ -22,7 +22,7 @@ pub struct Heard {
 }
 
 /// Why a party votes No.
-#[derive(Clone, Copy)]
+#[derive(Clone, Copy, PartialEq, Eq)]
 pub enum No {
     /// It is locked in the transaction `tx`.
     Busy { tx: Draw },
@@ -42,7 +42,7 @@ pub enum Vote {
 }
 
 /// What a group remembers of a vote of its own, or that the transaction has ended there.
-#[derive(Clone, Copy)]
+#[derive(Clone, Copy, PartialEq, Eq)]
 pub enum Past {
     Yes,
     No(No),
@@ -159,13 +159,7 @@ impl Same for Heard {
 
 impl Same for No {
     fn is_same(&self, other: &No) -> bool {
-        match (self, other) {
-            (No::Busy { tx }, No::Busy { tx: second_tx }) => tx.is_same(second_tx),
-            (No::Gone, No::Gone) => true,
-            (No::Apart, No::Apart) => true,
-            (No::TooMany { n }, No::TooMany { n: second_n }) => n == second_n,
-            _ => false,
-        }
+        self == other
     }
 }
 
@@ -181,12 +175,7 @@ impl Same for Vote {
 
 impl Same for Past {
     fn is_same(&self, other: &Past) -> bool {
-        match (self, other) {
-            (Past::Yes, Past::Yes) => true,
-            (Past::No(one), Past::No(second)) => one.is_same(second),
-            (Past::Ended, Past::Ended) => true,
-            _ => false,
-        }
+        self == other
     }
 }
 

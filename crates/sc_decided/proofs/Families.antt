@@ -17,11 +17,11 @@ use Rattle.sc_sound.specs.Players.{as_nodes}
 use Rattle.sc_sound.specs.Accepts.{accepts}
 use Rattle.sc_sound.specs.GroupsOf.{children_of, children_by, is_birth_of, with_birth, with_next_children, with_descendants, groups_at, log_by}
 use Rattle.sc_sound.specs.Logs.{rule_of, decided_log}
-use Rattle.sc_known.specs.Known.{IsKnown}
+use Rattle.sc_chosen.specs.Known.{IsKnown}
 use Rattle.sc_decided.specs.Found.{kept_log, is_kept_of, log_kept, AreKnown, AreTracked}
 use Rattle.sc_decided.specs.declared.births.Groups.{Groups}
-use Rattle.sc_known.specs.declared.known.Known.{Known}
-use Rattle.sc_known.proofs.Chosen.{log_is}
+use Rattle.sc_chosen.specs.declared.known.Known.{Known}
+use Rattle.sc_chosen.proofs.Chosen.{log_is}
 use Rattle.sc_paxos_words.proofs.ListLemmas.{Each-push}
 
 -- ---- facts of each

@@ -18,18 +18,18 @@ use Rattle.sc_actor.specs.declared.rows.Row.{Row}
 use Rattle.sc_machine_table.specs.Group.{group_of}
 use Rattle.sc_sound.specs.Players.{as_nodes}
 use Rattle.sc_paxos_law.specs.Decided.{log_of}
-use Rattle.sc_entries.specs.declared.LogEntry.{LogEntry}
+use Rattle.sc_log_entries.specs.declared.LogEntry.{LogEntry}
 use Rattle.sc_sound.specs.Accepts.{accepts}
 use Rattle.sc_sound.specs.GroupsOf.{children_of, children_by, is_birth_of, with_next_children, groups_at, log_by, entries_from, entries_after, entries_by_row}
 use Rattle.sc_sound.specs.Logs.{rule_of, decided_log}
-use Rattle.sc_known.specs.Known.{Adds, IsKnown, StaysKnown}
+use Rattle.sc_chosen.specs.Known.{Adds, IsKnown, StaysKnown}
 use Rattle.sc_decided.specs.Found.{AreKnown, AreTracked, StayKnown, log_kept, new_entries, grown_by}
-use Rattle.sc_known.specs.declared.accepting.Acceptance.{Acceptance}
+use Rattle.sc_chosen.specs.declared.accepting.Acceptance.{Acceptance}
 use Rattle.sc_decided.specs.declared.births.Groups.{Groups}
-use Rattle.sc_known.specs.declared.known.Known.{Known}
+use Rattle.sc_chosen.specs.declared.known.Known.{Known}
 use Rattle.sc_paxos_words.proofs.ListLemmas.{Each-push}
 use Rattle.sc_decided.proofs.Families.{each_of, flat_same, known_log, log_in_is, same_groups, SameChildren}
-use Rattle.sc_known.proofs.Elsewhere.{accepts_elsewhere, known_elsewhere}
+use Rattle.sc_chosen.proofs.Elsewhere.{accepts_elsewhere, known_elsewhere}
 
 -- ---- other groups
 

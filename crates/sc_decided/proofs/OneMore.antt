@@ -11,9 +11,9 @@ use Rattle.sc_actor.specs.Mail.{mails}
 use Rattle.sc_actor.specs.declared.rows.Row.{Row}
 use Rattle.sc_paxos_law.specs.Steps.{Step}
 use Rattle.sc_sound.specs.Accepts.{accepts_at, accepts_from, accepts}
-use Rattle.sc_known.specs.Acceptances.{steps_by}
-use Rattle.sc_known.specs.Known.{Adds}
-use Rattle.sc_known.specs.declared.accepting.Acceptance.{Acceptance}
+use Rattle.sc_chosen.specs.Acceptances.{steps_by}
+use Rattle.sc_chosen.specs.Known.{Adds}
+use Rattle.sc_chosen.specs.declared.accepting.Acceptance.{Acceptance}
 
 accepts_from-push : (group : Draw) (sent : List Mail) (rows : List (Row Mail OrderLine)) (row : Row Mail OrderLine) (steps : List (Step Command))
     → accepts_from group sent (rows ++ row ∷ []) steps ≡ accepts_at group (sent ++ mails rows) row row.event ++ accepts_from group sent rows steps

@@ -9,11 +9,11 @@ use Rattle.sc_cmd.specs.declared.orders.OrderLine.{OrderLine}
 use Rattle.sc_mail.specs.declared.bodies.Mail.{Mail}
 use Rattle.sc_actor.specs.declared.rows.Row.{Row}
 use Rattle.sc_sound.specs.Players.{as_nodes}
-use Rattle.sc_entries.specs.declared.LogEntry.{LogEntry}
+use Rattle.sc_log_entries.specs.declared.LogEntry.{LogEntry}
 use Rattle.sc_sound.specs.GroupsOf.{children_by, groups_at, with_next_children, entries_from, entries_after}
-use Rattle.sc_known.specs.declared.known.Known.{Known}
+use Rattle.sc_chosen.specs.declared.known.Known.{Known}
 use Rattle.sc_decided.specs.declared.births.Groups.{Groups}
-use Rattle.sc_known.specs.Known.{IsKnown}
+use Rattle.sc_chosen.specs.Known.{IsKnown}
 
 -- the log that is kept of a group that was found: none of one that was not
 abbrev pub kept_log : Option Known → List Command

@@ -14,10 +14,10 @@ ghost use Rattle.sc_sound.specs.GroupsOf.{children_of, with_birth, with_next_chi
 ghost use Rattle.sc_decided.specs.Found.{is_kept_of, log_kept, AreKnown, AreTracked};
 
 use sc_actor::Row;
-use sc_base::{Draw, Dup, OutOfMemory};
-use sc_cmd::{Base, Command, OrderLine, same_draw};
-use sc_entries::births_are_children;
-use sc_known::{Known, known_of};
+use sc_base::{Draw, Dup, OutOfMemory, same_draw};
+use sc_chosen::{Known, known_of};
+use sc_cmd::{Base, Command, OrderLine};
+use sc_log_entries::births_are_children;
 use sc_machine::Machine;
 use sc_mail::Mail;
 use std::alloc::Global;

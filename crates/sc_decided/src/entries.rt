@@ -13,16 +13,16 @@ ghost use Rattle.sc_machine_table.specs.Group.{group_of};
 ghost use Rattle.sc_sound.specs.Players.{as_nodes};
 ghost use Rattle.sc_sound.specs.Accepts.{accepts};
 ghost use Rattle.sc_sound.specs.GroupsOf.{children_by, log_at, log_by, is_birth_of, entries_from, entries_after, entries_by_row, entries_at};
-ghost use Rattle.sc_known.specs.Acceptances.{steps_by};
-ghost use Rattle.sc_known.specs.Known.{Adds, IsKnown};
+ghost use Rattle.sc_chosen.specs.Acceptances.{steps_by};
+ghost use Rattle.sc_chosen.specs.Known.{Adds, IsKnown};
 ghost use Rattle.sc_decided.specs.Found.{log_kept, new_entries, grown_by, StayKnown, AreTracked};
 
 use crate::births::{Groups, both, groups_of, log_in};
 use sc_actor::Row;
-use sc_base::{Draw, Dup, OutOfMemory};
-use sc_cmd::{Base, Command, OrderLine, same_draw};
-use sc_entries::LogEntry;
-use sc_known::{Acceptance, Known, accepted_in, add_mails, taken_in};
+use sc_base::{Draw, Dup, OutOfMemory, same_draw};
+use sc_chosen::{Acceptance, Known, accepted_in, add_mails, taken_in};
+use sc_cmd::{Base, Command, OrderLine};
+use sc_log_entries::LogEntry;
 use sc_mail::Mail;
 use std::alloc::Global;
 

@@ -22,3 +22,4 @@ pub mod StormSteps
 pub mod Working
 pub mod Settled
 pub mod Singles
+mod OneMet

@@ -9,3 +9,4 @@ pub mod Lowest
 pub mod Storming
 pub mod Ends
 pub mod Working
+pub mod Gatherings

@@ -8,11 +8,11 @@ ghost use Rattle.sc_drive.specs.Acts.{MetAndTold, MetAndTook};
 ghost use Rattle.sc_drive.specs.Working.{ActServed, ActTold, AreTogether};
 
 use crate::company::Company;
+use crate::gathering::gather_after;
 use sc_actor::{Actor, Event, Gate};
 use sc_base::OutOfMemory;
 use sc_exchange::{Fetched, Port};
 use sc_shell::{Shell, Turn};
-use sc_workers::gather;
 use std::alloc::Global;
 use std::sync::Wait;
 
@@ -67,7 +67,7 @@ pub(crate) fn tell<A: Actor, R: Wait>(
         &mut company.shells[place],
         event,
     )?;
-    let _ = gather(rt, &mut company.net, &mut company.shells)?;
+    let _ = gather_after(rt, &mut company.net, &mut company.shells, place)?;
     Ok(turn)
 }
 
@@ -94,6 +94,6 @@ pub(crate) fn serve<A: Actor, G: Gate, R: Wait>(
         k,
         gate,
     )?;
-    let found = gather(rt, &mut company.net, &mut company.shells)?;
+    let found = gather_after(rt, &mut company.net, &mut company.shells, place)?;
     Ok((turn, found))
 }

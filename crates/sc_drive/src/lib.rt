@@ -7,6 +7,7 @@ mod company;
 mod conditions;
 mod end;
 mod free_lines;
+mod gathering;
 mod network_lines;
 mod schedules;
 mod settle_lines;

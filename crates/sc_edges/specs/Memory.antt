@@ -15,3 +15,4 @@ pub record SinkState : Type 0 where
   pub failing : List ℕ  -- the numbers of the calls that fail, from 1
   pub calls : ℕ
   pub faults : ℕ
+  pub pieces : List (List ℕ)  -- what its calls brought, one a call, those that failed among them

@@ -4,6 +4,7 @@
 mod memory;
 mod outside;
 mod reading;
+mod told;
 mod traits;
 
 pub use memory::{MemSink, MemSource};

@@ -2,8 +2,9 @@
 ghost use Rattle.std.specs.Prelude.{◌≡◌, ℕ, ◌+◌, ◌-◌, ◌<◌, ◌≤◌, ◌⊎◌, ◌↔◌, [], length, min, Contains, IfOk, OnOk, OnErr, IsErr, Some};
 ghost use Rattle.std.specs.Io.KnownBytes.{Appends};
 ghost use Rattle.sc_edges.specs.Causes.{HasCause};
-ghost use Rattle.sc_edges.specs.Bytes.{Gives, AppendsPart};
+ghost use Rattle.sc_edges.specs.Bytes.{Gives, AppendsPart, IsHanded};
 
+use crate::told::Pieces;
 use crate::traits::{Failed, Sink, Source};
 use sc_base::OutOfMemory;
 use std::alloc::Global;
@@ -93,6 +94,7 @@ pub struct MemSink {
     failing: Vec<u64>,
     calls: u64,
     faults: u64,
+    pieces: Pieces,
 }
 
 impl Model for MemSink {
@@ -108,6 +110,7 @@ impl Model for MemSink {
           failing = s.failing.items;
           calls = s.calls;
           faults = s.faults;
+          pieces = s.pieces.brought;
         } };
 
     ghost invariant = { λ s. vec_len s.held + s.room ≤ vec_capacity s.held };
@@ -119,7 +122,15 @@ impl MemSink {
     pub fn new(alloc: Global, room: usize, failing: &[u64]) -> Result<MemSink, OutOfMemory>
         ensures { IfOk result
             (λ s.
-            s ≡ record { held = []; room = room; failing = failing.now; calls = 0; faults = 0 }) }
+            s
+            ≡ record {
+              held = [];
+              room = room;
+              failing = failing.now;
+              calls = 0;
+              faults = 0;
+              pieces = [];
+            }) }
     {
         Ok(MemSink {
             held: Vec::with_capacity(alloc, room)?,
@@ -127,6 +138,7 @@ impl MemSink {
             failing: Vec::from_slice(alloc, failing)?,
             calls: 0,
             faults: 0,
+            pieces: Pieces::new(),
         })
     }
 
@@ -145,12 +157,15 @@ impl Sink for MemSink {
 
     ghost calls = { λ s. s.calls };
 
+    ghost pieces = { λ s. Some s.pieces };
+
     fn put(&mut self, piece: &[u8]) -> Result<(), Failed>
         ensures whole { OnOk result (Appends (Some self.old.held) (Some self.new.held) piece.now) }
         ensures part { OnErr result
             (AppendsPart (Some self.old.held) (Some self.new.held) piece.now) }
         ensures cause { HasCause self.old.faults self.new.faults result }
         ensures call { self.new.calls ≤ self.old.calls + 1 }
+        ensures piece { IsHanded (Some self.old.pieces) (Some self.new.pieces) piece.now }
         ensures fails { IsErr result ↔
             (Contains self.old.failing self.new.calls ⊎ self.old.room < length piece.now) }
         ensures calls { self.new.calls ≡ min (self.old.calls + 1) u64.MAX }
@@ -161,6 +176,7 @@ impl Sink for MemSink {
             ((self.new.faults ≡ self.old.faults)
             × (self.new.room + length piece.now ≡ self.old.room)) }
     {
+        self.pieces.note(piece);
         self.calls = self.calls.saturating_add(1);
         if self.failing.contains(&self.calls)
             || piece.len() > self.room

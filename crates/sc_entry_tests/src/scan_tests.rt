@@ -1,6 +1,6 @@
 //! Parts of arcs, pairs in the order of the circle, and pages.
 use sc_base::{Draw, Key, Op, Pairs, RingArc, Value};
-use sc_entries::Cut;
+use sc_log_entries::Cut;
 use sc_scan::{Page, Part, ordered, page, parts};
 use sc_store::Store;
 use std::alloc::Global;

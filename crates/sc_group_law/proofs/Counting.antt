@@ -24,7 +24,7 @@ use Rattle.sc_paxos_law.specs.Chosen.{needed, members_of}
 use Rattle.sc_paxos_law.specs.Lawful.{CountedPromise}
 use Rattle.sc_paxos_law.proofs.History.{was_offered, one_offer}
 use Rattle.sc_node_table.specs.Slots.{with_slot}
-use Rattle.sc_node_table.specs.Replica.{ReplicaState, Place, next, set_at}
+use Rattle.sc_node_table.specs.Replica.{ReplicaState, Place, Executed, next, set_at}
 use Rattle.sc_node_table.specs.Execute.{has_room}
 use Rattle.sc_node_table.specs.Voting.{leads, promise_row, readied, vote_tallied, voted, accepted_row}
 use Rattle.sc_sound.specs.Players.{Ahead}
@@ -207,18 +207,22 @@ module _ (ahead : Ahead) (base : Base) (made : Command → Type 0) (heard : Mail
       stays at (inr (inl (g, a, e))) = inr (inl (still_flying slot voters r.leader.flights at g a e))
       stays at (inr (inr t)) = inr (inr t)
 
+  -- .. with the children that a row made
+  abbrev OkAfter : Executed → Type 0
+  OkAfter step = Ok step.0
+
   -- a command became ready
   unfoldable pub ready_place : (slot : ℕ) (c : Command) (r : ReplicaState) (mails : List Mail) → (f : Ok (r, mails)) → IsLearnt (rule ahead base) (f.newer ++ before) slot c
       → Ok (record r { leader = without_flight_at slot r.leader; ready = with_slot r.ready slot c }, mails)
   ready_place slot c r mails f t =
       turn ahead base made heard me older before r (record r { leader = without_flight_at slot r.leader; ready = with_slot r.ready slot c }) mails f (ready_replica (f.newer ++ before) slot c r f.replica t)
 
-  readied_place : (slot : ℕ) (c : Command) (r : ReplicaState) (mails : List Mail) → (f : Ok (r, mails)) → IsLearnt (rule ahead base) (f.newer ++ before) slot c → r.running ≡ true → Ok (readied slot c (record r { leader = without_flight_at slot r.leader }, mails))
+  readied_place : (slot : ℕ) (c : Command) (r : ReplicaState) (mails : List Mail) → (f : Ok (r, mails)) → IsLearnt (rule ahead base) (f.newer ++ before) slot c → r.running ≡ true → Ok (readied slot c (record r { leader = without_flight_at slot r.leader }, mails)).0
   unfolding readied ready_place turn
   readied_place slot c r mails f t runs =
       let after : ReplicaState = record r { leader = without_flight_at slot r.leader; ready = with_slot r.ready slot c } in
       let place = ready_place slot c r mails f t in
-      cond_both (eqb slot (next r) && has_room (record r { leader = without_flight_at slot r.leader })) _ _ Ok
+      cond_both (eqb slot (next r) && has_room (record r { leader = without_flight_at slot r.leader })) _ _ OkAfter
       (λ e. (
       let parts = and_parts (eqb slot (next r)) (has_room (record r { leader = without_flight_at slot r.leader })) e in
       fine_executed ahead base made heard me older before speaks some true c after mails place
@@ -264,22 +268,22 @@ module _ (ahead : Ahead) (base : Base) (made : Command → Type 0) (heard : Mail
           };
         })
 
-    voted_at : (o : Option (Flight Command)) → flight_at slot r.leader.flights ≡ o → Ok (vote_tallied slot (vote_at from slot set o r.leader) (r, mails))
+    voted_at : (o : Option (Flight Command)) → flight_at slot r.leader.flights ≡ o → Ok (vote_tallied slot (vote_at from slot set o r.leader) (r, mails)).0
     voted_at None e = f
     voted_at (Some flight) e =
         let there = find_found (λ (g : Flight Command). eqb g.slot slot) r.leader.flights flight e in
         let at = eqb-true flight.slot slot there.1 in
         let voters = voters_after set from flight.voters in
-        cond_both (is_majority set (kept_voters voters)) _ _ (λ (x : Counted Command × LeaderState Command). Ok (vote_tallied slot x (r, mails)))
+        cond_both (is_majority set (kept_voters voters)) _ _ (λ (x : Counted Command × LeaderState Command). Ok (vote_tallied slot x (r, mails)).0)
         (λ most. readied_place slot flight.value r mails f (learnt_here flight there.0 at most) runs)
         (λ _. turn ahead base made heard me older before r (record r { leader = record r.leader { flights = with_voters slot voters r.leader.flights } }) mails f
         (voters_replica h slot voters r f.replica (λ g a same. (
         let flies = Each-among _ r.leader.flights g f.replica.flights a in
         (flies.0, Each-weaker _ _ (λ n x. subst (λ v. Among (Accepted n b g.slot v) h) (same_value g a same) (subst (λ m. Among (Accepted n b m d) h) (sym same) x)) (kept_voters voters) (accepted_by flight there.0 at))))))
 
-    counted_place : Ok (vote_tallied slot (counted from b slot set r.leader) (r, mails))
+    counted_place : Ok (vote_tallied slot (counted from b slot set r.leader) (r, mails)).0
     counted_place =
-        cond_both (same_ballot b r.leader.ballot) _ _ (λ (x : Counted Command × LeaderState Command). Ok (vote_tallied slot x (r, mails))) (λ _. voted_at (flight_at slot r.leader.flights) refl) (λ _. f)
+        cond_both (same_ballot b r.leader.ballot) _ _ (λ (x : Counted Command × LeaderState Command). Ok (vote_tallied slot x (r, mails)).0) (λ _. voted_at (flight_at slot r.leader.flights) refl) (λ _. f)
 
     -- a count comes to a command that is chosen, or to none yet
     module _ (Q : Counted Command × LeaderState Command → Type 0) (chosen : (c : Command) → IsLearnt (rule ahead base) h slot c → Q (Chosen c, without_flight_at slot r.leader))
@@ -308,18 +312,18 @@ module _ (ahead : Ahead) (base : Base) (made : Command → Type 0) (heard : Mail
 
   -- the row of an Accepted keeps what holds
   pub fine_accepted_row : (from : ℕ) (ballot : Ballot) (slot : ℕ) (d : Command) (r : ReplicaState) (mails : List Mail) → (f : Ok (r, mails)) → Among (Accepted from ballot slot d) (f.newer ++ before)
-      → Ok (accepted_row from ballot slot (r, mails))
+      → Ok (accepted_row from ballot slot (r, mails)).0
   unfolding accepted_row
   fine_accepted_row from ballot slot d r mails f did =
-      cond_both (leads ballot r) _ _ Ok
+      cond_both (leads ballot r) _ _ OkAfter
       (λ t. (
       let parts = and_parts r.running (same_ballot ballot r.leader.ballot) t in
       by_set parts.0 (ballot_is ballot r.leader.ballot parts.1) (set_at slot r) refl))
       (λ _. f)
     where
-      by_set : r.running ≡ true → ballot ≡ r.leader.ballot → (o : Option (List ℕ)) → set_at slot r ≡ o → Ok (voted from ballot slot o (r, mails))
+      by_set : r.running ≡ true → ballot ≡ r.leader.ballot → (o : Option (List ℕ)) → set_at slot r ≡ o → Ok (voted from ballot slot o (r, mails)).0
       by_set runs same None e = f
       by_set runs same (Some set) e =
           let here = set_is (f.newer ++ before) slot set r f.replica e in
-          subst (λ b. Ok (vote_tallied slot (counted from b slot set r.leader) (r, mails))) (sym same)
+          subst (λ b. Ok (vote_tallied slot (counted from b slot set r.leader) (r, mails)).0) (sym same)
           (counted_place from slot set r mails f runs d (subst (λ b. Among (Accepted from b slot d) (f.newer ++ before)) same did) here.0 here.1)

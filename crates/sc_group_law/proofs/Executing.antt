@@ -27,11 +27,10 @@ use Rattle.sc_paxos_words.proofs.ListLemmas.{Each-among, find_found}
 use Rattle.sc_paxos_law.specs.Chosen.{IsLog}
 use Rattle.sc_paxos_law.proofs.Law.{earlier}
 use Rattle.sc_node_table.specs.Slots.{at_slot, without_slot}
-use Rattle.sc_node_table.specs.Replica.{ReplicaState, Place, name_of, next, members, flying, forgotten}
+use Rattle.sc_node_table.specs.Replica.{ReplicaState, Place, Executed, childless, name_of, next, members, flying, forgotten}
 use Rattle.sc_node_table.specs.Mails.{sent, order_number, told_order}
 use Rattle.sc_node_table.specs.Queues.{call_of, without_call, call_before, put_back}
-use Rattle.sc_node_table.specs.Execute.{entered, answer_of, told_call, order_result, told_effect, announced, learnt_to, landed, left_gone, left, is_among, looked_for, looked, executed_one, has_room, next_ready, executed_ready, executed}
-use Rattle.sc_node_table.specs.Pump.{pumped}
+use Rattle.sc_node_table.specs.Execute.{entered, answer_of, told_call, order_result, told_effect, announced, learnt_to, landed, left_gone, left, is_among, looked_for, looked, executed_one, next_child, has_room, next_ready, ending, executed_ready, executed}
 use Rattle.sc_node_table.specs.declared.Before.{Before}
 use Rattle.sc_node_table.specs.Spoken.{before_of, begun_result, spoken_number, told_result, told_begun, went_on, spoken_mails, spoken}
 use Rattle.sc_hist_law.specs.Laws.{IsReplied}
@@ -362,20 +361,24 @@ module _ (ahead : Ahead) (base : Base) (made : Command → Type 0) (heard : Mail
   next_ready_runs r c e =
       cond_both (r.running && has_room r) (at_slot r.ready (next r)) None (λ o. o ≡ Some c → r.running ≡ true) (λ t k. (and_parts r.running (has_room r) t).0) (λ _ k. cc) e
 
-  fine_executed_ready : (es : List (ℕ × Command)) (place : Place) → Ok place → Ok (executed_ready es place)
+  -- .. with the children that are made
+  abbrev OkAfter : Executed → Type 0
+  OkAfter step = Ok step.0
+
+  fine_executed_ready : (es : List (ℕ × Command)) (place : Place) → Ok place → Ok (executed_ready es place).0
   unfolding executed_ready
   fine_executed_ready [] place f = f
   fine_executed_ready (e ∷ es) place f = go (λ p g. fine_executed_ready es p g) (next_ready place.0) refl
     where
-      go : ((p : Place) → Ok p → Ok (executed_ready es p)) → (o : Option Command) → next_ready place.0 ≡ o
-          → Ok (elim o [ None ↦ place | Some command ↦ pumped (executed_ready es (executed_one true command place)) ])
+      go : ((p : Place) → Ok p → Ok (executed_ready es p).0) → (o : Option Command) → next_ready place.0 ≡ o
+          → OkAfter (elim o [ None ↦ childless place | Some command ↦ ending (next_child command place.0) (executed_ready es (executed_one true command place)) ])
       go rest None is = f
       go rest (Some c) is =
           let t = Each-among _ place.0.ready (next place.0, c) f.replica.ready (next_ready_among place.0 c is) in
           fine_pumped ahead base made heard me older before speaks some _ (rest _ (fine_executed_one true c place.0 place.1 f t (learnt_made place f (next place.0) c t) (λ _. next_ready_runs place.0 c is)))
 
   -- Execute
-  pub fine_executed : (counted : Bool) (c : Command) (r : ReplicaState) (mails : List Mail) → (f : Ok (r, mails)) → IsLearnt (rule ahead base) (f.newer ++ before) (next r) c → (counted ≡ true → r.running ≡ true) → Ok (executed counted c (r, mails))
+  pub fine_executed : (counted : Bool) (c : Command) (r : ReplicaState) (mails : List Mail) → (f : Ok (r, mails)) → IsLearnt (rule ahead base) (f.newer ++ before) (next r) c → (counted ≡ true → r.running ≡ true) → Ok (executed counted c (r, mails)).0
   unfolding executed
   fine_executed counted c r mails f t runs =
       let one = fine_executed_one counted c r mails f t (learnt_made (r, mails) f (next r) c t) runs in

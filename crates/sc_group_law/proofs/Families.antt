@@ -29,7 +29,7 @@ use Rattle.sc_paxos_law.proofs.Decided.{log_of-longest, log_grows}
 use Rattle.sc_scenario.specs.declared.scenarios.Asks.{Asks}
 use Rattle.sc_scenario.specs.declared.scenarios.Scenario.{Scenario}
 use Rattle.sc_sound.specs.Players.{Ahead, node_seat, player_table, client_seat}
-use Rattle.sc_sound.specs.declared.roles.Role.TheVariants.{Node as ANode, Client as AClient}
+use Rattle.sc_mail.specs.declared.roles.Role.TheVariants.{Node as ANode, Client as AClient}
 use Rattle.sc_sound.specs.Logs.{decided_log}
 use Rattle.sc_sound.specs.Requests.{kept_replies}
 use Rattle.sc_group_law.specs.Steps.{steps}

@@ -5,7 +5,7 @@ use Rattle.sc_base.specs.Among.{Among, Each}
 use Rattle.sc_base.specs.Same.{same_draw}
 use Rattle.sc_base.specs.declared.names.Draw.{Draw}
 use Rattle.sc_base.proofs.NameLemmas.{same_name, draw_is}
-use Rattle.sc_entries.proofs.Names.{names_differ}
+use Rattle.sc_log_entries.proofs.Names.{names_differ}
 use Rattle.sc_cmd.specs.declared.commands.Command.{Command}
 use Rattle.sc_cmd.specs.declared.cores.Base.{Base}
 use Rattle.sc_node_table.specs.Node.{replica_of, with_replica, is_before, with_new}

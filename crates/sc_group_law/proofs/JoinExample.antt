@@ -1,7 +1,6 @@
 -- The example of a join is a lawful journal.
 use Rattle.std.proofs.Common.{refl}
 use Rattle.sc_actor.specs.System.{no_words}
-use Rattle.sc_node_table.specs.Births.{ready_children, executed_children, learnt_children, readied_children, accepted_children, mailed_children}
 use Rattle.sc_node_table.specs.Spoken.{told_begun, went_on, spoken_mails, spoken}
 use Rattle.sc_node_table.specs.Reminders.{reminded}
 use Rattle.sc_node_table.specs.Node.{with_children}
@@ -20,6 +19,6 @@ use Rattle.sc_group_law.specs.JoinExample.{join_scenario, join_example}
 
 -- the example is lawful
 pub join_is_lawful : Lawful four no_words join_scenario join_example
-unfolding elected ended entered told_call told_effect announced learnt_to welcomed landed left looked executed_one executed_ready executed install_to welcomed_all jumped sent_all sent_others told_order spoken spoken_mails told_begun went_on reminded ready_children executed_children learnt_children readied_children accepted_children mailed_children with_children
+unfolding elected ended entered told_call told_effect announced learnt_to welcomed landed left looked executed_one executed_ready executed install_to welcomed_all jumped sent_all sent_others told_order spoken spoken_mails told_begun went_on reminded with_children
     next_call from_calls from_queues found_for offered pumped_from pumped forgotten looked_up made_by ordered_row mailed readied took accept_row accepted_row saw
 join_is_lawful = (refl, (refl, (refl, (refl, tt))))

@@ -17,7 +17,6 @@ use Rattle.sc_base.specs.Among.{Among, Each}
 use Rattle.sc_paxos_words.proofs.ListLemmas.{Each-among, Each-from, Each-weaker, find_found}
 use Rattle.sc_paxos_law.specs.Lawful.{IsLawfulHistory}
 use Rattle.sc_node_table.specs.Node.{NodeState, replica_of, with_replica, with_new, group_of_mail, absent, with_made, unknown, may_come, with_born, with_children, taken_by, routed, on_mail, group_of_order, ordered_of, on_order}
-use Rattle.sc_node_table.specs.Births.{mailed_children}
 use Rattle.sc_node_table.specs.Ordering.{ordered_command, ordered_row, names_after, untaken}
 use Rattle.sc_base.specs.Drawing.{Drawer, next_name}
 use Rattle.sc_node_table.specs.Slots.{slots_ahead}
@@ -43,7 +42,7 @@ use Rattle.sc_group_law.proofs.Offspring.{IsChildOf, learnt_are, accepted_are}
 use Rattle.sc_group_law.proofs.Newborn.{born_replica_is}
 use Rattle.sc_group_law.proofs.Holding.{each_with, each_new, Holds, held, none_held, with_held, with_far, new_held, new_far}
 use Rattle.sc_base.proofs.NameLemmas.{same_name, draw_is}
-use Rattle.sc_entries.proofs.Names.{names_differ}
+use Rattle.sc_log_entries.proofs.Names.{names_differ}
 
 -- ---- one group's replica
 
@@ -77,7 +76,7 @@ module _ (ahead : Ahead) (base : Base) (made : Command → Type 0) (heard : Mail
 
   -- a mail comes for it
   mailed_ended : (event : Event OrderLine) (mail : Mail) (body : MailBody) (r : ReplicaState) → IsReplica ahead base made before me r → (g : Draw) → group_of_mail body ≡ Some g → g ≡ group
-      → IsTrue ahead base made heard before mail body → RowEnded event body (mailed mail.from body (r, []))
+      → IsTrue ahead base made heard before mail body → RowEnded event body (mailed mail.from body (r, [])).0
   unfolding mailed start
   mailed_ended event mail (Request g client seq op) r k named into is t =
       by_fine event (Request g client seq op) _ (fine_request_row ahead base made heard me [] before speaks some client seq op r [] (start [] r k) t) refl
@@ -92,7 +91,7 @@ module _ (ahead : Ahead) (base : Base) (made : Command → Type 0) (heard : Mail
       by_fine event (Promise g b reports) _ (fine_promise_row ahead base made heard me [] before speaks some mail.from b reports told.0 r [] (start [] r k) told.1 told.2) refl
   mailed_ended event mail (Accept g b slot c) r k named into is t =
       let same : g ≡ group = (let one : g ≡ named = cc in one ∙ is) in
-      subst (λ d. RowEnded event (Accept d b slot c) (mailed mail.from (Accept g b slot c) (r, []))) (sym same)
+      subst (λ d. RowEnded event (Accept d b slot c) (mailed mail.from (Accept g b slot c) (r, [])).0) (sym same)
       (accept_ended ahead base made heard me before speaks some mail.from b slot c r (start [] r k) (t (same_name g group same)))
   mailed_ended event mail (AcceptedMail g b slot) r k named into is t =
       let same : g ≡ group = (let one : g ≡ named = cc in one ∙ is) in
@@ -129,15 +128,15 @@ module _ (ahead : Ahead) (base : Base) (made : Command → Type 0) (heard : Mail
 
   -- the children that a mail makes are those of fronts of the log
   mailed_kids : (mail : Mail) (body : MailBody) (r : ReplicaState) → IsReplica ahead base made before me r → (g : Draw) → group_of_mail body ≡ Some g → g ≡ group
-      → IsTrue ahead base made heard before mail body → Each (IsChildOf ahead base made me before) (mailed_children mail.from body (r, []) [])
-  unfolding mailed_children start
+      → IsTrue ahead base made heard before mail body → Each (IsChildOf ahead base made me before) (mailed mail.from body (r, [])).1
+  unfolding mailed start
   mailed_kids mail (AcceptedMail g b slot) r k named into is t =
       let same : g ≡ group = (let one : g ≡ named = cc in one ∙ is) in
       let told = t (same_name g group same) in
       accepted_are ahead base made heard me before speaks some mail.from b slot told.0 r [] (start [] r k) told.1
   mailed_kids mail (Learn g slot c) r k named into is t =
       let same : g ≡ group = (let one : g ≡ named = cc in one ∙ is) in
-      learnt_are ahead base made heard me before speaks some slot c r [] (start [] r k) (t (same_name g group same))
+      learnt_are ahead base made heard me before speaks some mail.from slot c r [] (start [] r k) (t (same_name g group same))
   mailed_kids mail _ r k named into is t = tt
 
   -- the end of a row of a node, as the group sees it
@@ -373,22 +372,22 @@ module _ (ahead : Ahead) (bases : List Base) (made : Base → Command → Type 0
     unknown_ended event mail body g into node k none one t = absent_ended event mail body node k one
 
     new_kids : (mail : Mail) (body : MailBody) (g : Draw) → HasOffspring → group_of_mail body ≡ Some g → (node : NodeState) → IsNode h me node → IsTrueOfAll mail body → (r : ReplicaState) → replica_of g node.replicas ≡ Some r
-        → Each IsNewborn (mailed_children mail.from body (r, []) [])
+        → Each IsNewborn (mailed mail.from body (r, [])).1
     new_kids mail body g offspring into node k t r found =
         let there = find_found (λ (s : ReplicaState). same_draw (name_of s) g) node.replicas r found in
         let named : name_of r ≡ g = draw_is (name_of r) g there.1 in
         let mine = Each-among (λ s. IsOneOf bases (name_of s)) node.replicas r k.known there.0 in
         let (base, a, is) = mine in
         let was = held ahead base (made base) me (h base) node.replicas (k.holds base a) r there.0 is in
-        Each-weaker _ _ (offspring base a) (mailed_children mail.from body (r, []) [])
+        Each-weaker _ _ (offspring base a) (mailed mail.from body (r, [])).1
         (mailed_kids ahead base (made base) heard me (h base) (speaks base a) (some base a) (lawful base a) (requested base a) mail body r was g into (sym named ∙ is) (t base a))
 
     taken_ended : (event : Event OrderLine) (mail : Mail) (body : MailBody) (g : Draw) → HasOffspring → group_of_mail body ≡ Some g → (node : NodeState) → IsNode h me node → IsNamedIn heard bases body → IsTrueOfAll mail body
         → (o : Option ReplicaState) → replica_of g node.replicas ≡ o → Goal event body (taken_by o g mail.from body node)
     taken_ended event mail body g offspring into node k one t None e = unknown_ended event mail body g into node k e one t
     taken_ended event mail body g offspring into node k one t (Some r) e =
-        let place = mailed mail.from body (r, []) in
-        born_all (λ base. steps_of base.core.id me event body place.1 (h base)) (mailed_children mail.from body (r, []) []) _ place.1 (new_kids mail body g offspring into node k t r e)
+        let place = (mailed mail.from body (r, [])).0 in
+        born_all (λ base. steps_of base.core.id me event body place.1 (h base)) (mailed mail.from body (r, [])).1 _ place.1 (new_kids mail body g offspring into node k t r e)
         (one_row g r node k e place (λ base. steps_of base.core.id me event body place.1 (h base))
         (λ base a is was. mailed_ended ahead base (made base) heard me (h base) (speaks base a) (some base a) (lawful base a) (requested base a) event mail body r was g into is (t base a))
         (λ base a f sent. far_steps heard base.core.id me event g f body into place.1 (h base) sent))

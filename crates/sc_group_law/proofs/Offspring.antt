@@ -20,11 +20,11 @@ use Rattle.sc_paxos_words.proofs.ListLemmas.{Each-among, Each-append}
 use Rattle.sc_paxos_law.specs.Steps.{Accepted}
 use Rattle.sc_paxos_law.specs.Chosen.{IsLog}
 use Rattle.sc_paxos_law.proofs.Law.{earlier}
-use Rattle.sc_node_table.specs.Births.{with_child, next_child, ready_children, executed_children, learnt_children, readied_children, tallied_children, voted_children, accepted_children}
-use Rattle.sc_node_table.specs.Execute.{executed_one, has_room, next_ready}
-use Rattle.sc_node_table.specs.Replica.{ReplicaState, Place, next, set_at, last_slot}
+use Rattle.sc_node_table.specs.Execute.{child_at, next_child, executed_one, has_room, next_ready, ending, executed_ready, executed}
+use Rattle.sc_node_table.specs.Replica.{ReplicaState, Place, Executed, childless, next, set_at, last_slot}
+use Rattle.sc_node_table.specs.Rows.{learn_row}
 use Rattle.sc_node_table.specs.Slots.{with_slot}
-use Rattle.sc_node_table.specs.Voting.{leads}
+use Rattle.sc_node_table.specs.Voting.{leads, readied, vote_tallied, voted, accepted_row}
 use Rattle.sc_sound.specs.Players.{Ahead}
 use Rattle.sc_group_law.proofs.Growth.{IsLearnt, by_own_log}
 use Rattle.sc_group_law.proofs.Invariant.{Steps, rule, first, birth, next_after}
@@ -55,21 +55,20 @@ module _ (ahead : Ahead) (base : Base) (made : Command → Type 0) (heard : Mail
 
   -- ---- one command
 
-  next_are : (c : Command) (r : ReplicaState) (mails : List Mail) → (f : Ok (r, mails)) → IsLearnt (rule ahead base) (f.newer ++ before) (next r) c → made c → (done : List Base) → Children done → Children (next_child c r done)
-  next_are c r mails f t m done e = by (child_by r.group c) refl
+  next_are : (c : Command) (r : ReplicaState) (mails : List Mail) → (f : Ok (r, mails)) → IsLearnt (rule ahead base) (f.newer ++ before) (next r) c → made c → Children (next_child c r)
+  next_are c r mails f t m = by (child_by r.group c) refl
     where
-      by : (o : Option Base) → child_by r.group c ≡ o → Children (with_child r.me o done)
-      by None is = e
+      by : (o : Option Base) → child_by r.group c ≡ o → Children (child_at r.me o)
+      by None is = tt
       by (Some child) is =
-          cond_both (is_member child.core.members r.me) (done ++ child ∷ []) done Children
+          cond_both (is_member child.core.members r.me) (child ∷ []) [] Children
           (λ member. (
           let h = f.newer ++ before in
           let k = f.replica in
           let log = k.whole in
           let known = earlier (rule ahead base) (length log) in
           let chosen = by_own_log (rule ahead base) (first ahead base) h f.lawful (length log + 1) c (subst (λ n. IsLearnt (rule ahead base) h n c) (next_after ahead base made h me r k) t) log k.log_is.is_log known in
-          let has = entered_has ahead base made me h c r k m chosen in
-          Each-append _ done (child ∷ []) e (
+          let has = entered_has ahead base made me h c r k m chosen in (
             record {
               front = log;
               command = c;
@@ -82,70 +81,76 @@ module _ (ahead : Ahead) (base : Base) (made : Command → Type 0) (heard : Mail
             },
             tt,
           )))
-          (λ _. e)
+          (λ _. tt)
 
   -- ---- the ready ones
 
-  ready_are : (es : List (ℕ × Command)) (place : Place) → Ok place → (done : List Base) → Children done → Children (ready_children es place done)
-  unfolding ready_children
-  ready_are [] place f done e = e
-  ready_are (x ∷ es) place f done e = go (λ p g d w. ready_are es p g d w) (next_ready place.0) refl
+  -- the children of a step
+  abbrev ChildrenOf : Executed → Type 0
+  ChildrenOf step = Children step.1
+
+  ready_are : (es : List (ℕ × Command)) (place : Place) → Ok place → Children (executed_ready es place).1
+  unfolding executed_ready
+  ready_are [] place f = tt
+  ready_are (x ∷ es) place f = go (λ p g. ready_are es p g) (next_ready place.0) refl
     where
-      go : ((p : Place) → Ok p → (d : List Base) → Children d → Children (ready_children es p d)) → (o : Option Command) → next_ready place.0 ≡ o
-          → Children (elim o [ None ↦ done | Some command ↦ ready_children es (executed_one true command place) (next_child command place.0 done) ])
-      go rest None is = e
+      go : ((p : Place) → Ok p → Children (executed_ready es p).1) → (o : Option Command) → next_ready place.0 ≡ o
+          → ChildrenOf (elim o [ None ↦ childless place | Some command ↦ ending (next_child command place.0) (executed_ready es (executed_one true command place)) ])
+      go rest None is = tt
       go rest (Some c) is =
           let t = Each-among _ place.0.ready (next place.0, c) f.replica.ready (next_ready_among ahead base made heard me [] before speaks some place.0 c is) in
           let m = learnt_made ahead base made heard me [] before speaks some place f (next place.0) c t in
-          rest _ (fine_executed_one ahead base made heard me [] before speaks some true c place.0 place.1 f t m (λ _. next_ready_runs ahead base made heard me [] before speaks some place.0 c is))
-          (next_child c place.0 done) (next_are c place.0 place.1 f t m done e)
+          let after = executed_one true c place in
+          Each-append _ (next_child c place.0) (executed_ready es after).1 (next_are c place.0 place.1 f t m)
+          (rest after (fine_executed_one ahead base made heard me [] before speaks some true c place.0 place.1 f t m (λ _. next_ready_runs ahead base made heard me [] before speaks some place.0 c is)))
 
   executed_are : (counted : Bool) (c : Command) (r : ReplicaState) (mails : List Mail) → (f : Ok (r, mails)) → IsLearnt (rule ahead base) (f.newer ++ before) (next r) c → (counted ≡ true → r.running ≡ true)
-      → (done : List Base) → Children done → Children (executed_children counted c (r, mails) done)
-  unfolding executed_children
-  executed_are counted c r mails f t runs done e =
+      → Children (executed counted c (r, mails)).1
+  unfolding executed
+  executed_are counted c r mails f t runs =
       let m = learnt_made ahead base made heard me [] before speaks some (r, mails) f (next r) c t in
+      let after = executed_one counted c (r, mails) in
       let one = fine_executed_one ahead base made heard me [] before speaks some counted c r mails f t m runs in
-      ready_are (executed_one counted c (r, mails)).0.ready (executed_one counted c (r, mails)) one (next_child c r done) (next_are c r mails f t m done e)
+      Each-append _ (next_child c r) (executed_ready after.0.ready after).1 (next_are c r mails f t m) (ready_are after.0.ready after one)
 
   -- ---- mails
 
   -- the children of a Learn
-  pub learnt_are : (slot : ℕ) (c : Command) (r : ReplicaState) (mails : List Mail) → (f : Ok (r, mails)) → IsLearnt (rule ahead base) (f.newer ++ before) slot c → Children (learnt_children slot c (r, mails) [])
-  unfolding learnt_children
-  learnt_are slot c r mails f t =
-      cond_both (nat_lt last_slot slot) _ _ Children (λ _. tt)
-      (λ _. cond_both (eqb slot (next r)) _ _ Children
-      (λ e. executed_are false c r mails f (subst (λ n. IsLearnt (rule ahead base) (f.newer ++ before) n c) (eqb-true slot (next r) e) t) (λ no. cc) [] tt)
-      (λ _. tt))
+  pub learnt_are : (from slot : ℕ) (c : Command) (r : ReplicaState) (mails : List Mail) → (f : Ok (r, mails)) → IsLearnt (rule ahead base) (f.newer ++ before) slot c → Children (learn_row from slot c (r, mails)).1
+  unfolding learn_row
+  learnt_are from slot c r mails f t =
+      cond_both (nat_lt last_slot slot) _ _ ChildrenOf (λ _. tt)
+      (λ _. cond_both (eqb slot (next r)) _ _ ChildrenOf
+      (λ e. executed_are false c r mails f (subst (λ n. IsLearnt (rule ahead base) (f.newer ++ before) n c) (eqb-true slot (next r) e) t) (λ no. cc))
+      (λ _. cond_both (nat_lt (next r) slot) _ _ ChildrenOf (λ _. tt) (λ _. tt)))
 
   readied_are : (slot : ℕ) (c : Command) (r : ReplicaState) (mails : List Mail) → (f : Ok (r, mails)) → IsLearnt (rule ahead base) (f.newer ++ before) slot c → r.running ≡ true
-      → Children (readied_children slot c (record r { leader = without_flight_at slot r.leader }, mails) [])
-  unfolding readied_children ready_place turn
+      → Children (readied slot c (record r { leader = without_flight_at slot r.leader }, mails)).1
+  unfolding readied ready_place turn
   readied_are slot c r mails f t runs =
       let after : ReplicaState = record r { leader = without_flight_at slot r.leader; ready = with_slot r.ready slot c } in
-      cond_both (eqb slot (next r) && has_room (record r { leader = without_flight_at slot r.leader })) _ _ Children
+      cond_both (eqb slot (next r) && has_room (record r { leader = without_flight_at slot r.leader })) _ _ ChildrenOf
       (λ e. (
       let parts = and_parts (eqb slot (next r)) (has_room (record r { leader = without_flight_at slot r.leader })) e in
       executed_are true c after mails (ready_place ahead base made heard me [] before speaks some slot c r mails f t)
-      (subst (λ n. IsLearnt (rule ahead base) (f.newer ++ before) n c) (eqb-true slot (next r) parts.0) t) (λ _. runs) [] tt))
+      (subst (λ n. IsLearnt (rule ahead base) (f.newer ++ before) n c) (eqb-true slot (next r) parts.0) t) (λ _. runs)))
       (λ _. tt)
 
   -- the children of a vote
   pub accepted_are : (from : ℕ) (ballot : Ballot) (slot : ℕ) (d : Command) (r : ReplicaState) (mails : List Mail) → (f : Ok (r, mails)) → Among (Accepted from ballot slot d) (f.newer ++ before)
-      → Children (accepted_children from ballot slot (r, mails) [])
-  unfolding accepted_children
+      → Children (accepted_row from ballot slot (r, mails)).1
+  unfolding accepted_row
   accepted_are from ballot slot d r mails f did =
-      cond_both (leads ballot r) _ _ Children
+      cond_both (leads ballot r) _ _ ChildrenOf
       (λ t. (
       let parts = and_parts r.running (same_ballot ballot r.leader.ballot) t in
       by_set parts.0 (ballot_is ballot r.leader.ballot parts.1) (set_at slot r) refl))
       (λ _. tt)
     where
-      by_set : r.running ≡ true → ballot ≡ r.leader.ballot → (o : Option (List ℕ)) → set_at slot r ≡ o → Children (voted_children from ballot slot o (r, mails) [])
+      by_set : r.running ≡ true → ballot ≡ r.leader.ballot → (o : Option (List ℕ)) → set_at slot r ≡ o → Children (voted from ballot slot o (r, mails)).1
       by_set runs same None e = tt
       by_set runs same (Some set) e =
           let here = set_is ahead base made heard me [] before speaks some (f.newer ++ before) slot set r f.replica e in
-          subst (λ b. Children (tallied_children slot (counted from b slot set r.leader) (r, mails) [])) (sym same)
+          subst (λ b. Children (vote_tallied slot (counted from b slot set r.leader) (r, mails)).1) (sym same)
           (count_is ahead base made heard me [] before speaks some from slot set r mails f runs d (subst (λ b. Among (Accepted from b slot d) (f.newer ++ before)) same did) here.0 here.1
-          (λ (x : Counted Command × LeaderState Command). Children (tallied_children slot x (r, mails) [])) (λ c t. readied_are slot c r mails f t runs) (λ n leader. tt))
+          (λ (x : Counted Command × LeaderState Command). Children (vote_tallied slot x (r, mails)).1) (λ c t. readied_are slot c r mails f t runs) (λ n leader. tt))

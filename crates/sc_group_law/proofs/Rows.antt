@@ -27,7 +27,7 @@ use Rattle.sc_paxos_words.specs.Leaders.{flight_at}
 use Rattle.sc_paxos_words.proofs.ListLemmas.{Each-among, Each-append, find_found}
 use Rattle.sc_paxos_law.specs.Steps.{Offered}
 use Rattle.sc_paxos_law.proofs.Law.{chosen_by, earlier}
-use Rattle.sc_node_table.specs.Replica.{ReplicaState, Place, name_of, next, members, settled, may_offer, first_set, flying, is_idle, last_slot}
+use Rattle.sc_node_table.specs.Replica.{ReplicaState, Place, Executed, name_of, next, members, settled, may_offer, first_set, flying, is_idle, last_slot}
 use Rattle.sc_node_table.specs.Mails.{sent, sent_all}
 use Rattle.sc_node_table.specs.Queues.{call_of, without_call}
 use Rattle.sc_node_table.specs.Ordering.{ordered_command, untaken}
@@ -71,14 +71,17 @@ module _ (ahead : Ahead) (base : Base) (made : Command → Type 0) (heard : Mail
   unfolding nack_row
   fine_nack_row promised r mails f = fine_saw ahead base made heard me older before promised r mails f
 
+  abbrev OkAfter : Executed → Type 0
+  OkAfter step = Ok step.0
+
   -- Learn
-  pub fine_learn_row : (from slot : ℕ) (c : Command) (r : ReplicaState) (mails : List Mail) → (f : Ok (r, mails)) → IsLearnt (rule ahead base) (f.newer ++ before) slot c → Ok (learn_row from slot c (r, mails))
+  pub fine_learn_row : (from slot : ℕ) (c : Command) (r : ReplicaState) (mails : List Mail) → (f : Ok (r, mails)) → IsLearnt (rule ahead base) (f.newer ++ before) slot c → Ok (learn_row from slot c (r, mails)).0
   unfolding learn_row
   fine_learn_row from slot c r mails f t =
-      cond_both (nat_lt last_slot slot) _ _ Ok (λ _. f)
-      (λ _. cond_both (eqb slot (next r)) _ _ Ok
+      cond_both (nat_lt last_slot slot) _ _ OkAfter (λ _. f)
+      (λ _. cond_both (eqb slot (next r)) _ _ OkAfter
       (λ e. fine_executed ahead base made heard me older before speaks some false c r mails f (subst (λ n. IsLearnt (rule ahead base) (f.newer ++ before) n c) (eqb-true slot (next r) e) t) (λ no. cc))
-      (λ _. cond_both (nat_lt (next r) slot) _ _ Ok
+      (λ _. cond_both (nat_lt (next r) slot) _ _ OkAfter
       (λ _. says ahead base made heard me older before r mails (record { from = r.me; to = from; body = Ask (name_of r) (next r) }) f refl (named r mails f) tt) (λ _. f)))
 
   held_at : (low slot : ℕ) (whole : List Command) → low < slot → slice_get whole (slot - 1) ≡ slice_get (drop low whole) (slot - low - 1)

@@ -44,7 +44,7 @@ use Rattle.sc_cmd.specs.declared.links.Route.{Route}
 use Rattle.sc_sound.specs.Requests.{issues, asks_for}
 use Rattle.sc_sound.proofs.Rows.{any_push}
 use Rattle.sc_group_law.specs.Steps.{steps_at}
-use Rattle.sc_sound.specs.declared.roles.Role.TheVariants.{Node as ANode, Client as AClient}
+use Rattle.sc_mail.specs.declared.roles.Role.TheVariants.{Node as ANode, Client as AClient}
 use Rattle.sc_group_law.proofs.Invariant.{Steps, rule, first, IsTrue, grown_true}
 use Rattle.sc_group_law.proofs.RowSteps.{number_among, among_numbers, steps_deliver, steps_plain}
 use Rattle.sc_group_law.proofs.Frames.{node_row, steps_of}

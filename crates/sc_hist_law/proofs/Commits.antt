@@ -16,12 +16,12 @@ use Rattle.sc_cmd.specs.declared.votes.Outcome.TheVariants.{Merged, Moved, Migra
 use Rattle.sc_machine_table.specs.Group.{Group}
 use Rattle.sc_machine_table.specs.Logs.{entry_of}
 use Rattle.sc_machine_table.specs.Transactions.{decided}
-use Rattle.sc_entries.specs.Births.{birth_of}
-use Rattle.sc_entries.specs.declared.Cut.{Cut}
-use Rattle.sc_entries.specs.Decisions.{concluded}
-use Rattle.sc_entries.specs.Effective.{after_outcome}
-use Rattle.sc_entries.specs.Rings.{arc_in, both_arcs, is_cut_of, recut, ring_decided, ring_merged, ring_moved}
-use Rattle.sc_entries.specs.Worlds.{StoreWorld, named_group, with_result}
+use Rattle.sc_log_entries.specs.Births.{birth_of}
+use Rattle.sc_log_entries.specs.declared.Cut.{Cut}
+use Rattle.sc_log_entries.specs.Decisions.{concluded}
+use Rattle.sc_log_entries.specs.Effective.{after_outcome}
+use Rattle.sc_log_entries.specs.Rings.{arc_in, both_arcs, is_cut_of, recut, ring_decided, ring_merged, ring_moved}
+use Rattle.sc_log_entries.specs.Worlds.{StoreWorld, named_group, with_result}
 use Rattle.sc_hist_law.specs.Moves.{GivenFrom, JoinedTo, RequestOf, TakenUpTo, Unmoved, both_holdings, holding_of, part_before, part_from, with_next, with_previous}
 use Rattle.sc_hist_law.specs.Telling.{IsItsOwn, IsParty}
 use Rattle.sc_hist_law.specs.Worlds.{HasKnownTable, holdings_in}
@@ -31,7 +31,7 @@ use Rattle.sc_hist_law.proofs.Parties.{next_after, next_before, others_after}
 use Rattle.sc_hist_law.proofs.Recuts.{arc_of, gone_cut, has_arc, has_recut, is_none_of, taken_out}
 use Rattle.sc_hist_law.proofs.Shares.{both_are}
 use Rattle.sc_hist_law.proofs.Staying.{Goes}
-use Rattle.sc_entries.proofs.Names.{draw_cases}
+use Rattle.sc_log_entries.proofs.Names.{draw_cases}
 
 has_some : (name : Draw) (ring : List Cut) (arc : Arc) → arc_in name ring ≡ Some arc → has_arc name ring ≡ true
 has_some name ring arc e = ap is_some e

@@ -26,18 +26,19 @@ use Rattle.sc_cmd.specs.declared.votes.Past.{Past}
 use Rattle.sc_cmd.specs.declared.votes.Past.TheVariants as Cast
 use Rattle.sc_cmd.specs.declared.votes.Vote.{Vote}
 use Rattle.sc_cmd.specs.declared.votes.Vote.TheVariants as Says
+use Rattle.sc_cmd.specs.Cores.{is_alone}
 use Rattle.sc_ideal.specs.History.{contents_after}
 use Rattle.sc_machine_table.specs.Group.{Group}
 use Rattle.sc_machine_table.specs.Machine.{applied, split_group}
-use Rattle.sc_machine_table.specs.Orders.{is_alone, locked_in, refusal_of, refused_in}
+use Rattle.sc_machine_table.specs.Orders.{locked_in, refusal_of, refused_in}
 use Rattle.sc_machine_table.specs.Plans.{can_cut, can_join, can_migrate, can_repart, can_split, closing_group, giving_group, giving_plan, has_key_of, may_merge, merge_plan, merged_group, merged_route, migrate_plan, migrated_group, part_gift, repart_plan, split_plan, taken, taking_group, taking_plan}
 use Rattle.sc_machine_table.specs.Splits.{child_of, has_named, left_group}
 use Rattle.sc_machine_table.specs.Transactions.{aborted, asks_watcher, begun_group, committed, decided, granted, heard_group, is_coordinating, participant_answered, released, vote_recorded, watch_answered, watch_recorded}
-use Rattle.sc_entries.specs.Births.{division_in}
-use Rattle.sc_entries.specs.Decisions.{begun_split, decision, named_watcher}
-use Rattle.sc_entries.specs.declared.Division.{Division}
-use Rattle.sc_entries.specs.Rings.{arc_in, ring_divided}
-use Rattle.sc_entries.specs.Worlds.{StoreWorld, named_group}
+use Rattle.sc_log_entries.specs.Births.{division_in}
+use Rattle.sc_log_entries.specs.Decisions.{begun_split, decision, named_watcher}
+use Rattle.sc_log_entries.specs.declared.Division.{Division}
+use Rattle.sc_log_entries.specs.Rings.{arc_in, ring_divided}
+use Rattle.sc_log_entries.specs.Worlds.{StoreWorld, named_group}
 use Rattle.sc_hist_law.specs.Moves.{RequestOf, TellsHoldings, holding_of}
 use Rattle.sc_hist_law.specs.Telling.{IsItsOwn, IsParty, MayHear, MayHearWatcher, MaySplit}
 use Rattle.sc_hist_law.specs.Worlds.{holdings_in}

@@ -8,8 +8,8 @@ use Rattle.sc_base.specs.Arc.{Arc}
 use Rattle.sc_base.specs.declared.names.Draw.{Draw}
 use Rattle.sc_base.proofs.CommonLemmas.{map-some}
 use Rattle.sc_base.proofs.NameLemmas.{draw_is, same_name}
-use Rattle.sc_entries.specs.declared.Cut.{Cut}
-use Rattle.sc_entries.specs.Rings.{arc_in, is_cut_of}
+use Rattle.sc_log_entries.specs.declared.Cut.{Cut}
+use Rattle.sc_log_entries.specs.Rings.{arc_in, is_cut_of}
 use Rattle.sc_paxos_words.proofs.ListLemmas.{find_found}
 
 -- a name that has an arc has a cut with it

@@ -8,7 +8,7 @@ use Rattle.sc_base.proofs.NameLemmas.{draw_is, same_name}
 use Rattle.sc_ideal.specs.declared.Entry.{Entry}
 use Rattle.sc_hist_law.specs.Moves.{Holding, Holdings, with_holding, AreDisjoint, IsToldOf}
 use Rattle.sc_hist_law.proofs.Holdings.{IsOnRing}
-use Rattle.sc_entries.proofs.Names.{draw_cases}
+use Rattle.sc_log_entries.proofs.Names.{draw_cases}
 
 pub holding_here : (group : Draw) (holding : Option Holding) (holdings : Holdings) (other : Draw) → other ≡ group → with_holding group holding holdings other ≡ holding
 holding_here group holding holdings other e = cond-true (same_draw other group) holding (holdings other) (same_name other group e)

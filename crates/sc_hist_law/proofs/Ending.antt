@@ -21,9 +21,9 @@ use Rattle.sc_machine_table.specs.Finishes.{can_gain, finished, gained_group, lo
 use Rattle.sc_machine_table.specs.Machine.{applied}
 use Rattle.sc_machine_table.specs.Orders.{locked_in}
 use Rattle.sc_machine_table.specs.Plans.{can_cut, has_key_of}
-use Rattle.sc_entries.specs.Decisions.{decision}
-use Rattle.sc_entries.specs.Effective.{after_outcome, effective_by, is_commit}
-use Rattle.sc_entries.specs.Worlds.{StoreWorld, named_group, with_result}
+use Rattle.sc_log_entries.specs.Decisions.{decision}
+use Rattle.sc_log_entries.specs.Effective.{after_outcome, effective_by, is_commit}
+use Rattle.sc_log_entries.specs.Worlds.{StoreWorld, named_group, with_result}
 use Rattle.sc_hist_law.specs.Moves.{RequestOf, holding_of}
 use Rattle.sc_hist_law.specs.Telling.{MayFinish}
 use Rattle.sc_hist_law.specs.Worlds.{HasKnownTable}

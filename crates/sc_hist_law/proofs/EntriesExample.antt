@@ -18,9 +18,9 @@ use Rattle.sc_machine_table.specs.Group.{Group, group_of}
 use Rattle.sc_machine_table.specs.Machine.{applied, done, served_by_note}
 use Rattle.sc_machine_table.specs.Splits.{child_of, left_group}
 use Rattle.sc_machine_table.proofs.Parts.{clients_again}
-use Rattle.sc_entries.specs.declared.Cut.{Cut}
-use Rattle.sc_entries.specs.Rings.{Covers, first_cut}
-use Rattle.sc_entries.specs.Worlds.{StoreWorld, first_world, told, with_result, world_after, world_of}
+use Rattle.sc_log_entries.specs.declared.Cut.{Cut}
+use Rattle.sc_log_entries.specs.Rings.{Covers, first_cut}
+use Rattle.sc_log_entries.specs.Worlds.{StoreWorld, first_world, told, with_result, world_after, world_of}
 use Rattle.sc_hist_law.specs.Example.{ExampleOfEntries, answers_with, example_log, get_a, get_entry, lone_base, offspring, put_a, put_entry, split_entry, two_requests}
 use Rattle.sc_hist_law.specs.Telling.{MayAllBeTold, MayBeTold, MayCall, MaySplit}
 use Rattle.sc_hist_law.specs.Worlds.{BeginBare, BeginsBare}

@@ -19,9 +19,9 @@ use Rattle.sc_machine_table.specs.Finishes.{can_gain, finished, gained_group, lo
 use Rattle.sc_machine_table.specs.Machine.{applied}
 use Rattle.sc_machine_table.specs.Plans.{can_cut, has_key_of}
 use Rattle.sc_machine_table.specs.Transactions.{is_coordinating}
-use Rattle.sc_entries.specs.declared.Transaction.{Transaction}
-use Rattle.sc_entries.specs.Decisions.{decision}
-use Rattle.sc_entries.specs.Effective.{after_outcome, effective_by, is_commit}
+use Rattle.sc_log_entries.specs.declared.Transaction.{Transaction}
+use Rattle.sc_log_entries.specs.Decisions.{decision}
+use Rattle.sc_log_entries.specs.Effective.{after_outcome, effective_by, is_commit}
 use Rattle.sc_hist_law.specs.Moves.{Holding, holding_of}
 use Rattle.sc_hist_law.proofs.Elsewhere.{held_by}
 use Rattle.sc_hist_law.proofs.Outcomes.{commit_in, no_commit}

@@ -12,12 +12,12 @@ use Rattle.sc_ideal.specs.History.{contents_after}
 use Rattle.sc_ideal.specs.IdealStore.{part_of}
 use Rattle.sc_ideal.specs.declared.Entry.{Entry}
 use Rattle.sc_machine_table.specs.Group.{Group}
-use Rattle.sc_entries.specs.declared.Cut.{Cut}
-use Rattle.sc_entries.specs.declared.LogEntry.{LogEntry}
-use Rattle.sc_entries.specs.Effective.{effective}
-use Rattle.sc_entries.specs.Rings.{arc_in}
-use Rattle.sc_entries.specs.Worlds.{StoreWorld, first_world, named_group, told, world_after, world_of}
-use Rattle.sc_entries.proofs.Pushes.{world_append}
+use Rattle.sc_log_entries.specs.declared.Cut.{Cut}
+use Rattle.sc_log_entries.specs.declared.LogEntry.{LogEntry}
+use Rattle.sc_log_entries.specs.Effective.{effective}
+use Rattle.sc_log_entries.specs.Rings.{arc_in}
+use Rattle.sc_log_entries.specs.Worlds.{StoreWorld, first_world, named_group, told, world_after, world_of}
+use Rattle.sc_log_entries.proofs.Pushes.{world_append}
 use Rattle.sc_hist_law.specs.Moves.{RequestOf, HasNotes, TellsHoldings, entries_by, holding_of, holdings_after}
 use Rattle.sc_hist_law.specs.Worlds.{AllMakeMoves, BeginBare, EntriesThatMoveTell, HasKnownTable, IsMoveTo, MakesMove, holdings_in}
 use Rattle.sc_hist_law.proofs.Cuts.{has_cut}

@@ -13,7 +13,7 @@ use Rattle.sc_hist_law.specs.Moves.{Holding, AreBare, MayMakeAll, history_by, pa
 use Rattle.sc_hist_law.specs.Example.{ExampleOfMoves, answers_with, bare_ring, example_moves, lone_holdings, offspring, parent, put_a, two_requests}
 use Rattle.sc_hist_law.proofs.Disjoint.{holding_here, holding_there}
 use Rattle.sc_hist_law.proofs.MovesKept.{moves_tell}
-use Rattle.sc_entries.proofs.Names.{draw_cases}
+use Rattle.sc_log_entries.proofs.Names.{draw_cases}
 use Rattle.std.proofs.lemmas.Option.{none-some, same_Some}
 
 -- only the group holds something

@@ -15,9 +15,9 @@ use Rattle.sc_cmd.specs.declared.votes.Outcome.TheVariants.{Abort}
 use Rattle.sc_machine_table.specs.Group.{Group}
 use Rattle.sc_machine_table.specs.Machine.{applied}
 use Rattle.sc_machine_table.specs.Orders.{locked_in}
-use Rattle.sc_entries.specs.declared.Transaction.{Transaction}
-use Rattle.sc_entries.specs.Decisions.{amended, concluded, decision, is_of, transaction_in, with_outcome, with_watcher}
-use Rattle.sc_entries.specs.Effective.{after_outcome, effective_by, is_commit}
+use Rattle.sc_log_entries.specs.declared.Transaction.{Transaction}
+use Rattle.sc_log_entries.specs.Decisions.{amended, concluded, decision, is_of, transaction_in, with_outcome, with_watcher}
+use Rattle.sc_log_entries.specs.Effective.{after_outcome, effective_by, is_commit}
 
 -- the commit in what was decided, if it is one
 abbrev pub commit_in : Option Outcome → Option Outcome

@@ -24,7 +24,7 @@ use Rattle.sc_ideal.proofs.Apart.{get-part}
 use Rattle.sc_machine_table.specs.Finishes.{can_gain, finished, gained_group, lost_group, participant_after, settled_in, welcomed_group}
 use Rattle.sc_machine_table.specs.Group.{Group}
 use Rattle.sc_machine_table.specs.Plans.{can_cut, can_join, has_key_of, part_gift}
-use Rattle.sc_entries.specs.Effective.{after_outcome}
+use Rattle.sc_log_entries.specs.Effective.{after_outcome}
 use Rattle.sc_hist_law.specs.Moves.{holding_of, part_from, with_previous}
 use Rattle.sc_hist_law.proofs.PlanHoldings.{plans_move}
 

@@ -5,11 +5,11 @@ use Rattle.sc_cmd.specs.declared.commands.Command.TheVariants.{Noop, Call, Join,
 use Rattle.sc_cmd.specs.declared.cores.Core.{Core}
 use Rattle.sc_cmd.specs.declared.effects.Effect.{Effect}
 use Rattle.sc_machine_table.specs.Group.{Group}
-use Rattle.sc_entries.specs.Births.{birth_of}
-use Rattle.sc_entries.specs.declared.Cut.{Cut}
-use Rattle.sc_entries.specs.declared.Transaction.{Transaction}
-use Rattle.sc_entries.specs.Decisions.{transactions_after}
-use Rattle.sc_entries.specs.Rings.{ring_after}
+use Rattle.sc_log_entries.specs.Births.{birth_of}
+use Rattle.sc_log_entries.specs.declared.Cut.{Cut}
+use Rattle.sc_log_entries.specs.declared.Transaction.{Transaction}
+use Rattle.sc_log_entries.specs.Decisions.{transactions_after}
+use Rattle.sc_log_entries.specs.Rings.{ring_after}
 use Rattle.sc_hist_law.specs.Laws.{LeavesWhole}
 
 -- no group is born

@@ -14,11 +14,11 @@ use Rattle.sc_ideal.specs.History.{contents_after}
 use Rattle.sc_ideal.specs.IdealStore.{part_of, with_pairs}
 use Rattle.sc_ideal.specs.Clients.{joined_with}
 use Rattle.sc_machine_table.specs.Group.{Group, group_of}
-use Rattle.sc_entries.specs.declared.Cut.{Cut}
-use Rattle.sc_entries.specs.declared.LogEntry.{LogEntry}
-use Rattle.sc_entries.specs.Rings.{Covers, arc_in, first_cut, is_cut_of}
-use Rattle.sc_entries.specs.Worlds.{StoreWorld, first_world, is_named, named_group, world_of}
-use Rattle.sc_entries.proofs.Pushes.{world_append}
+use Rattle.sc_log_entries.specs.declared.Cut.{Cut}
+use Rattle.sc_log_entries.specs.declared.LogEntry.{LogEntry}
+use Rattle.sc_log_entries.specs.Rings.{Covers, arc_in, first_cut, is_cut_of}
+use Rattle.sc_log_entries.specs.Worlds.{StoreWorld, first_world, is_named, named_group, world_of}
+use Rattle.sc_log_entries.proofs.Pushes.{world_append}
 use Rattle.sc_paxos_words.proofs.ListLemmas.{find_found, Each-split, one_of_name}
 use Rattle.sc_paxos_law.proofs.Among.{from_map}
 use Rattle.sc_hist_law.specs.Moves.{Holding, RequestOf, AreBare, HasNotes, TellsHoldings, holding_of}

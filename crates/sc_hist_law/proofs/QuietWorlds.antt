@@ -19,11 +19,11 @@ use Rattle.sc_machine_table.specs.Logs.{entry_of}
 use Rattle.sc_machine_table.specs.Machine.{applied, done}
 use Rattle.sc_machine_table.specs.Orders.{ordered, refusal_of, with_node, without_node}
 use Rattle.sc_base.specs.Arc.{Arc}
-use Rattle.sc_entries.specs.declared.LogEntry.{LogEntry}
-use Rattle.sc_entries.specs.Effective.{effective, effective_by}
-use Rattle.sc_entries.specs.Rings.{arc_in, first_cut}
-use Rattle.sc_entries.specs.Births.{birth_of}
-use Rattle.sc_entries.specs.Worlds.{StoreWorld, after_command, named_group, told, with_result, world_after}
+use Rattle.sc_log_entries.specs.declared.LogEntry.{LogEntry}
+use Rattle.sc_log_entries.specs.Effective.{effective, effective_by}
+use Rattle.sc_log_entries.specs.Rings.{arc_in, first_cut}
+use Rattle.sc_log_entries.specs.Births.{birth_of}
+use Rattle.sc_log_entries.specs.Worlds.{StoreWorld, after_command, named_group, told, with_result, world_after}
 use Rattle.sc_hist_law.proofs.Elsewhere.{own_group, here, there}
 use Rattle.sc_hist_law.specs.Laws.{LeavesWhole}
 use Rattle.sc_hist_law.specs.Moves.{Holding, RequestOf, MayServe, TellsHoldings, HasNotes, ServedBy, entries_by, holding_of, holdings_after, request_entry, with_request}
@@ -34,7 +34,7 @@ use Rattle.sc_hist_law.proofs.MovesKept.{move_kept, same_told}
 use Rattle.sc_hist_law.proofs.Quiet.{no_birth, same_transactions, same_ring}
 use Rattle.sc_hist_law.proofs.Requests.{TakesEffect, request_cases}
 use Rattle.sc_hist_law.proofs.Told.{entry_later}
-use Rattle.sc_entries.proofs.Names.{draw_cases}
+use Rattle.sc_log_entries.proofs.Names.{draw_cases}
 
 -- ---- without transactions the effective record is the group's own
 

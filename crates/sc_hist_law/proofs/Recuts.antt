@@ -9,10 +9,10 @@ use Rattle.sc_base.specs.Same.{same_draw}
 use Rattle.sc_base.specs.declared.names.Draw.{Draw}
 use Rattle.sc_base.proofs.NameLemmas.{draw_is, same_name}
 use Rattle.sc_paxos_words.proofs.ListLemmas.{find_filter, find_nothing, Each-passes, Each-weaker}
-use Rattle.sc_entries.specs.declared.Cut.{Cut}
-use Rattle.sc_entries.specs.declared.Division.{Division}
-use Rattle.sc_entries.specs.Rings.{arc_in, is_cut_of, parts_of, recut}
-use Rattle.sc_entries.proofs.Names.{other_name}
+use Rattle.sc_log_entries.specs.declared.Cut.{Cut}
+use Rattle.sc_log_entries.specs.declared.Division.{Division}
+use Rattle.sc_log_entries.specs.Rings.{arc_in, is_cut_of, parts_of, recut}
+use Rattle.sc_log_entries.proofs.Names.{other_name}
 
 -- whether a group has a cut
 abbrev pub has_arc : Draw → List Cut → Bool

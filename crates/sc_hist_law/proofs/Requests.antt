@@ -12,7 +12,7 @@ use Rattle.sc_cmd.specs.declared.commands.Command.TheVariants.{Call}
 use Rattle.sc_cmd.specs.declared.effects.Effect.{Effect}
 use Rattle.sc_cmd.specs.declared.effects.Effect.TheVariants.{Again, Stale, NotMine, Gone, NoEffect}
 use Rattle.sc_machine_table.specs.Group.{Group}
-use Rattle.sc_entries.specs.Effective.{is_open}
+use Rattle.sc_log_entries.specs.Effective.{is_open}
 use Rattle.sc_machine_table.specs.Logs.{entry_by}
 use Rattle.sc_machine_table.specs.Machine.{applied, done, served_by_note, served, called}
 

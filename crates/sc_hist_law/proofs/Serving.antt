@@ -22,7 +22,7 @@ use Rattle.sc_hist_law.proofs.Disjoint.{holding_here, holding_there}
 use Rattle.sc_hist_law.proofs.Holdings.{IsOnRing}
 use Rattle.sc_hist_law.proofs.Kept.{IsApart, all_pairs, apart_push}
 use Rattle.sc_hist_law.proofs.Told.{replay_push, after_push, entry_later}
-use Rattle.sc_entries.proofs.Names.{draw_cases}
+use Rattle.sc_log_entries.proofs.Names.{draw_cases}
 use Rattle.sc_paxos_words.proofs.ListLemmas.{Each-from_All}
 use Rattle.sc_member.proofs.Pairs.{AllPairs-head, AllPairs-tail}
 

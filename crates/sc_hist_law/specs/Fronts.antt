@@ -7,8 +7,8 @@ use Rattle.sc_cmd.specs.declared.commands.Command.{Command}
 use Rattle.sc_cmd.specs.declared.cores.Base.{Base}
 use Rattle.sc_machine_table.specs.Group.{Group}
 use Rattle.sc_machine_table.specs.Logs.{state_after}
-use Rattle.sc_entries.specs.declared.LogEntry.{LogEntry}
-use Rattle.sc_entries.specs.Worlds.{StoreWorld, named_group, world_after, world_of}
+use Rattle.sc_log_entries.specs.declared.LogEntry.{LogEntry}
+use Rattle.sc_log_entries.specs.Worlds.{StoreWorld, named_group, world_after, world_of}
 use Rattle.sc_hist_law.specs.Moves.{HasNotes}
 use Rattle.sc_hist_law.specs.Worlds.{LogNotesStay}
 

@@ -9,12 +9,12 @@ use Rattle.sc_cmd.specs.declared.commands.Command.TheVariants.{Noop, Call, Join,
 use Rattle.sc_cmd.specs.declared.cores.Base.{Base}
 use Rattle.sc_ideal.specs.History.{Legal}
 use Rattle.sc_machine_table.specs.Group.{Group}
-use Rattle.sc_entries.specs.declared.Cut.{Cut}
-use Rattle.sc_entries.specs.declared.LogEntry.{LogEntry}
-use Rattle.sc_entries.specs.Effective.{effective}
-use Rattle.sc_entries.specs.Parts.{HoldsItsPart}
-use Rattle.sc_entries.specs.Rings.{Covers, arc_in, first_cut}
-use Rattle.sc_entries.specs.Worlds.{StoreWorld, first_world, named_group, told, world_of}
+use Rattle.sc_log_entries.specs.declared.Cut.{Cut}
+use Rattle.sc_log_entries.specs.declared.LogEntry.{LogEntry}
+use Rattle.sc_log_entries.specs.Effective.{effective}
+use Rattle.sc_log_entries.specs.Parts.{HoldsItsPart}
+use Rattle.sc_log_entries.specs.Rings.{Covers, arc_in, first_cut}
+use Rattle.sc_log_entries.specs.Worlds.{StoreWorld, first_world, named_group, told, world_of}
 use Rattle.sc_hist_law.specs.Laws.{LeavesWhole}
 use Rattle.sc_hist_law.specs.Moves.{Holding, Holdings, Move, RequestOf, HasNotes, MayMake, TellsHoldings, entries_by, holding_of, holdings_after}
 

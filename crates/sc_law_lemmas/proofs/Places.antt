@@ -6,11 +6,11 @@ use Rattle.sc_member.specs.Roster.{is_member}
 use Rattle.sc_paxos_words.specs.Leaders.{without_flight_at}
 use Rattle.sc_paxos_words.specs.Logs.{entry_at}
 use Rattle.sc_paxos_words.specs.Preparing.{prepared}
-use Rattle.sc_node_table.specs.Execute.{welcomed, slot_lost, landed, executed_one, next_ready, executed_ready, all_ready, executed}
+use Rattle.sc_node_table.specs.Execute.{welcomed, slot_lost, landed, executed_one, next_child, next_ready, ending, executed_ready, all_ready, executed}
 use Rattle.sc_node_table.specs.Install.{install_to, welcomed_all}
 use Rattle.sc_node_table.specs.Pump.{pumped}
 use Rattle.sc_node_table.specs.Queues.{put_back}
-use Rattle.sc_node_table.specs.Replica.{ReplicaState, Place, members, next, flying}
+use Rattle.sc_node_table.specs.Replica.{ReplicaState, Place, Executed, childless, members, next, flying}
 use Rattle.sc_node_table.specs.Rows.{taught, most_taught, ask_answered, ask_row}
 use Rattle.sc_node_table.specs.Sameness.{same_command}
 use Rattle.sc_node_table.specs.Slots.{without_slot}
@@ -22,6 +22,10 @@ abbrev pub cleared : ℕ → Place → Place
 cleared slot (r, mails) = (record r { leader = without_flight_at slot r.leader; ready = without_slot r.ready slot }, mails)
 
 module _ (F : Place → Type 0) where
+  -- .. with the children that are made
+  abbrev FAfter : Executed → Type 0
+  FAfter step = F step.0
+
   -- those that an entry added are welcomed
   pub welcomed_place : ((nodes : List ℕ) (place : Place) → F place → F (welcomed_all nodes place)) → (counted : Bool) (nodes : List ℕ) (place : Place) → F place → F (welcomed counted nodes place)
   unfolding welcomed
@@ -61,19 +65,19 @@ module _ (F : Place → Type 0) where
 
   module _ (O : Option Command → Type 0) (ready : (place : Place) → F place → O (next_ready place.0)) (one : (command : Command) (place : Place) → O (Some command) → F place → F (executed_one true command place))
       (pumps : (place : Place) → F place → F (pumped place)) where
-    ready_by : (es : List (ℕ × Command)) (place : Place) (o : Option Command) → O o → F place → ((p : Place) → F p → F (executed_ready es p))
-        → F (elim o [ None ↦ place | Some command ↦ pumped (executed_ready es (executed_one true command place)) ])
+    ready_by : (es : List (ℕ × Command)) (place : Place) (o : Option Command) → O o → F place → ((p : Place) → F p → F (executed_ready es p).0)
+        → FAfter (elim o [ None ↦ childless place | Some command ↦ ending (next_child command place.0) (executed_ready es (executed_one true command place)) ])
     ready_by es place None k f more = f
-    ready_by es place (Some command) k f more = pumps (executed_ready es (executed_one true command place)) (more (executed_one true command place) (one command place k f))
+    ready_by es place (Some command) k f more = pumps (executed_ready es (executed_one true command place)).0 (more (executed_one true command place) (one command place k f))
 
-    ready_places : (es : List (ℕ × Command)) (place : Place) → F place → F (executed_ready es place)
+    ready_places : (es : List (ℕ × Command)) (place : Place) → F place → F (executed_ready es place).0
     unfolding executed_ready
     ready_places [] place f = f
     ready_places (e ∷ es) place f = ready_by es place (next_ready place.0) (ready place f) f (λ p g. ready_places es p g)
 
     -- an entry, what was ready after it, and the pump
-    pub executed_place : (counted : Bool) (command : Command) (place : Place) → F (executed_one counted command place) → F (executed counted command place)
+    pub executed_place : (counted : Bool) (command : Command) (place : Place) → F (executed_one counted command place) → F (executed counted command place).0
     unfolding executed
     executed_place counted command place f =
         let after : Place = executed_one counted command place in
-        pumps (all_ready after) (ready_places after.0.ready after f)
+        pumps (all_ready after).0 (ready_places after.0.ready after f)

@@ -12,7 +12,8 @@ use Rattle.sc_cmd.specs.declared.bodies.Body.TheVariants.{Merge, Repart, Migrate
 use Rattle.sc_cmd.specs.declared.commands.Command.{Command}
 use Rattle.sc_cmd.specs.declared.cores.Core.{Core}
 use Rattle.sc_cmd.specs.declared.orders.OrderRefusal.TheVariants.{NoNeighbour, BadBoundary, TooManyMembers, NotMember, LastMember, TxLimit, IsMember}
-use Rattle.sc_machine_table.specs.Orders.{is_alone, refused_in, refused_free, join_refused, leave_refused, split_refused, limit_refused, body_refused, begin_refused}
+use Rattle.sc_cmd.specs.Cores.{is_alone}
+use Rattle.sc_machine_table.specs.Orders.{refused_in, refused_free, join_refused, leave_refused, split_refused, limit_refused, body_refused, begin_refused}
 use Rattle.sc_machine_table.specs.Splits.{CanSplit}
 
 -- what is not refused passes the first test, and is not refused by what follows

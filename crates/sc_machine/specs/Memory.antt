@@ -1,7 +1,5 @@
 -- Which commands may want memory: those that change what a group keeps in lists, or answer a copy. A command without effect wants none.
-use Rattle.std.specs.Prelude.{◌≡◌, ◌⊎◌, ℕ, Bool, true, false, Some}
-use Rattle.sc_base.specs.Same.{same_draw}
-use Rattle.sc_base.specs.declared.names.Draw.{Draw}
+use Rattle.std.specs.Prelude.{◌≡◌, ◌⊎◌, Bool, true, false, Some}
 use Rattle.sc_cmd.specs.declared.bodies.Body.{Body}
 use Rattle.sc_cmd.specs.declared.bodies.Body.TheVariants as Does
 use Rattle.sc_cmd.specs.declared.commands.Command.{Command}
@@ -18,7 +16,7 @@ use Rattle.sc_machine_table.specs.Group.{Group}
 use Rattle.sc_machine_table.specs.Machine.{called, ordered_by, split_group}
 use Rattle.sc_machine_table.specs.Orders.{refusal_of}
 use Rattle.sc_machine_table.specs.Plans.{can_repart}
-use Rattle.sc_machine_table.specs.Transactions.{asks_watcher, given_up, vote_recorded}
+use Rattle.sc_machine_table.specs.Transactions.{given_up, vote_recorded, watch_recorded}
 use Rattle.sc_machine_table.specs.Votes.{offer_voted, watched}
 
 -- effects that take memory to be made: a reply, a vote, a decision, a change
@@ -58,13 +56,6 @@ LockLooksThrough (Coordinating tx body order heard) vote group = MayLookThrough 
 LockLooksThrough (Promised tx offer) vote group = ⊥
 LockLooksThrough (Watching tx watch) vote group = ⊥
 
--- what was heard of the participant is copied first where a coordinator asks its watcher
-abbrev pub CopiesHeard : Lock → Draw → Type 0
-CopiesHeard Free tx = ⊥
-CopiesHeard (Coordinating locked body order heard) tx = (same_draw locked tx ≡ true) × (asks_watcher body heard ≡ true)
-CopiesHeard (Promised locked offer) tx = ⊥
-CopiesHeard (Watching locked watch) tx = ⊥
-
 -- whether a command may want memory
 abbrev pub MayWantMemory : Group → Command → Type 0
 MayWantMemory group Noop = ⊥
@@ -78,4 +69,4 @@ MayWantMemory group (RecordVote tx vote by) = Makes (vote_recorded group.core.lo
 MayWantMemory group (GiveUp tx) = Makes (given_up group tx)
 MayWantMemory group (Finish tx outcome) = Makes (finished group.core.lock group tx outcome)
 MayWantMemory group (Watched tx watch) = Makes (watched group tx watch)
-MayWantMemory group (RecordWatch tx vote by) = CopiesHeard group.core.lock tx
+MayWantMemory group (RecordWatch tx vote by) = Makes (watch_recorded group.core.lock group tx vote)

@@ -7,11 +7,9 @@ ghost use Rattle.sc_machine_table.specs.Splits.{CanSplit, child_of};
 ghost use Rattle.sc_machine_table.specs.Children.{ordered_child, split_child, released_child, answered_child, watched_child, child_by};
 
 use crate::machine::Machine;
-use crate::orders::is_alone;
-use sc_base::{Draw, OutOfMemory};
-use sc_cmd::{Base, Body, Command, Lock, Past, same_draw};
-use sc_split_merge::{can_split, plan_split};
-use sc_txn::{check, has_named};
+use sc_base::{Draw, OutOfMemory, same_draw};
+use sc_cmd::{Base, Body, Command, Lock, Past};
+use sc_txn::{can_split, check, has_named, plan_split};
 
 impl Machine {
     /// The record of the child, where the group is split at `at`; to be taken before the entry that
@@ -79,7 +77,7 @@ impl Machine {
         requires { split_refused self.now.core at ≡ None }
         ensures { IfOk result (λ base. base ≡ ordered_child None None self.now at child) }
     {
-        if !is_alone(&self.core) {
+        if !self.core.is_alone() {
             return Ok(None);
         }
         let _some = self.core.members.len();

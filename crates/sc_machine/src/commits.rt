@@ -9,11 +9,10 @@ ghost use Rattle.sc_machine_table.specs.Transactions.{committed, decided};
 use crate::machine::Machine;
 use sc_base::{Boxed, Draw, OutOfMemory, Pairs, RingArc, SeenList};
 use sc_cmd::{Core, Effect, Frozen, Gift, Link, Outcome, Route};
-use sc_machine_choices::take_over;
-use sc_migrate::{can_migrate, plan_migrate};
-use sc_repart::{can_repart, plan_repart};
-use sc_split_merge::{can_merge, can_split, plan_merge};
-use sc_store::Store;
+use sc_store::{Store, take_over};
+use sc_txn::{
+    can_merge, can_migrate, can_repart, can_split, plan_merge, plan_migrate, plan_repart,
+};
 use std::alloc::Global;
 
 // The route to a group of that record.
@@ -38,7 +37,7 @@ fn pairs_on(alloc: Global, pairs: &Pairs, arc: &RingArc) -> Result<Pairs, OutOfM
 }
 
 impl Machine {
-    fn may_merge(&self, frozen: &Frozen) -> bool
+    pub(crate) fn may_merge(&self, frozen: &Frozen) -> bool
         ensures { result ≡ may_merge self.now frozen.now }
     {
         can_merge(&self.core, frozen) && !self.store.has_any(&frozen.pairs)

@@ -1,12 +1,12 @@
 //! A group that coordinates a transaction: what its parties answer, and what it decides.
-ghost use Rattle.std.specs.Prelude.{◌≡◌, ◌⊎◌, IfOk, OnErr};
+ghost use Rattle.std.specs.Prelude.{◌≡◌, ◌⊎◌, true, false, IfOk, OnErr};
 ghost use Rattle.sc_machine_table.specs.Transactions.{decided, granted, participant_answered, asks_watcher, vote_recorded, released, watch_answered, watch_recorded, is_coordinating, given_up};
-ghost use Rattle.sc_machine.specs.Memory.{Makes, LooksThrough, MayLookThrough, LockLooksThrough, CopiesHeard};
+ghost use Rattle.sc_machine.specs.Memory.{Makes, LooksThrough, MayLookThrough, LockLooksThrough};
 
 use crate::machine::Machine;
-use sc_base::{Draw, Dup, OutOfMemory};
-use sc_cmd::{Body, Effect, Frozen, Heard, Lock, Outcome, Past, Vote, same_draw};
-use sc_machine_choices::{decides_alone, note_decision};
+use sc_base::{Draw, Dup, OutOfMemory, same_draw};
+use sc_cmd::{Body, Effect, Frozen, Heard, Lock, Outcome, Past, Vote};
+use sc_txn::{can_split, decides_alone, note_decision};
 
 fn asks_watcher(body: &Body, heard: &Option<Heard>) -> bool
     ensures { result ≡ asks_watcher body.now heard.now }
@@ -144,7 +144,8 @@ impl Machine {
         ensures step { IfOk result
             (λ effect.
             watch_recorded self.old.core.lock self.old tx vote.now ≡ (self.new, effect)) }
-        ensures memory { OnErr result (CopiesHeard self.old.core.lock tx) }
+        ensures memory { OnErr result
+            (Makes (watch_recorded self.old.core.lock self.old tx vote.now)) }
     {
         match &self.core.lock {
             Lock::Coordinating {
@@ -153,7 +154,10 @@ impl Machine {
                 heard,
                 ..
             } => {
-                if !same_draw(*locked, tx) || !asks_watcher(body, heard) {
+                if !same_draw(*locked, tx)
+                    || !asks_watcher(body, heard)
+                    || !self.counts_watch(vote, body, heard, tx)
+                {
                     return Ok(Effect::NoEffect { tx });
                 }
                 let (body, heard) = (*body, heard.dup(self.alloc)?);
@@ -162,6 +166,34 @@ impl Machine {
             Lock::Free | Lock::Promised { .. } | Lock::Watching { .. } => {
                 Ok(Effect::NoEffect { tx })
             }
+        }
+    }
+
+    // Whether a watcher's vote has an effect: only then memory is taken, for what was heard.
+    fn counts_watch(&self, vote: &Past, body: &Body, heard: &Option<Heard>, tx: Draw) -> bool
+        ensures some { result ≡ true →
+            Makes (watch_answered vote.now body.now heard.now self.now tx) }
+        ensures none { result ≡ false →
+            watch_answered vote.now body.now heard.now self.now tx ≡ (self.now, Effect.NoEffect tx) }
+    {
+        match vote {
+            Past::Yes => self.may_release(body, heard, tx),
+            Past::No(_) | Past::Ended => true,
+        }
+    }
+
+    fn may_release(&self, body: &Body, heard: &Option<Heard>, tx: Draw) -> bool
+        ensures some { result ≡ true → Makes (released body.now heard.now self.now tx) }
+        ensures none { result ≡ false →
+            released body.now heard.now self.now tx ≡ (self.now, Effect.NoEffect tx) }
+    {
+        match body {
+            Body::Merge => match heard {
+                Some(heard) => self.may_merge(&heard.frozen),
+                None => false,
+            },
+            Body::Split { at, .. } => can_split(&self.core, *at),
+            Body::Repart { .. } | Body::Migrate { .. } => false,
         }
     }
 

@@ -9,11 +9,10 @@ ghost use Rattle.sc_machine_table.specs.Plans.{frozen_of};
 ghost use Rattle.sc_machine.specs.Memory.{Makes, MayWantMemory};
 
 use sc_base::{Dup, Op, OutOfMemory, Pairs, RingArc};
-use sc_clients::ClientTable;
 use sc_cmd::{Base, Command, Core, Effect, Frozen};
 use sc_ideal::Seen;
-use sc_machine_choices::held_back_by;
-use sc_store::Store;
+use sc_store::{ClientTable, Store};
+use sc_txn::held_back_by;
 use std::alloc::Global;
 use std::marker::Model;
 

@@ -4,7 +4,7 @@ ghost use Rattle.sc_cmd.specs.declared.commands.Command.TheVariants.{Join, Leave
 ghost use Rattle.sc_cmd.specs.declared.effects.Effect.TheVariants.{Refused};
 ghost use Rattle.sc_machine_table.specs.Group.{Group};
 ghost use Rattle.sc_machine_table.specs.Machine.{ordered_by, split_group};
-ghost use Rattle.sc_machine_table.specs.Orders.{is_alone, ordered, refusal_of, refused_free, join_refused, leave_refused, split_refused, with_node, without_node};
+ghost use Rattle.sc_machine_table.specs.Orders.{ordered, refusal_of, refused_free, join_refused, leave_refused, split_refused, with_node, without_node};
 ghost use Rattle.sc_machine_table.specs.Splits.{CanSplit, left_group};
 ghost use Rattle.sc_machine_table.specs.Transactions.{begun_group};
 ghost use Rattle.sc_txn.specs.Checked.{is_checked};
@@ -12,15 +12,8 @@ ghost use Rattle.sc_machine.specs.Memory.{Makes};
 
 use crate::machine::Machine;
 use sc_base::{Draw, OutOfMemory};
-use sc_cmd::{Body, Command, Core, Effect, Lock, OrderRefusal, same_draw};
-use sc_split_merge::plan_split;
-use sc_txn::{check, has_named};
-
-pub(crate) fn is_alone(core: &Core) -> bool
-    ensures { result ≡ is_alone core.now }
-{
-    same_draw(core.succ.group, core.id)
-}
+use sc_cmd::{Body, Command, Effect, Lock, OrderRefusal};
+use sc_txn::{check, has_named, plan_split};
 
 impl Machine {
     // Why an order is refused, if it is: a group that is gone leads nothing.
@@ -158,7 +151,7 @@ impl Machine {
         requires { split_refused self.old.core at ≡ None }
         ensures { OnOk result (self.new ≡ split_group self.old at child order) }
     {
-        if !is_alone(&self.core) {
+        if !self.core.is_alone() {
             self.lock_for(child, Body::Split { at, child }, order);
             return Ok(());
         }

@@ -5,16 +5,10 @@ ghost use Rattle.sc_machine_table.specs.Finishes.{gone_group, gained, lost, move
 ghost use Rattle.sc_machine.specs.Memory.{Makes};
 
 use crate::machine::Machine;
-use sc_base::{Boxed, Draw, Dup, OutOfMemory, Sequence};
-use sc_clients::ClientTable;
-use sc_cmd::{
-    Core, Effect, Gift, Link, Lock, No, Offer, Outcome, Past, Route, VotedList, Watch, same_draw,
-};
-use sc_machine_choices::take_over;
-use sc_migrate::welcomed_members;
-use sc_repart::{gained_arc, lost_arc};
-use sc_store::Store;
-use sc_txn::{has_voted, vote, watch_vote};
+use sc_base::{Boxed, Draw, Dup, OutOfMemory, Sequence, same_draw};
+use sc_cmd::{Core, Effect, Gift, Link, Lock, No, Offer, Outcome, Past, Route, VotedList, Watch};
+use sc_store::{ClientTable, Store, take_over};
+use sc_txn::{gained_arc, has_voted, lost_arc, vote, watch_vote, welcomed_members};
 use std::alloc::Global;
 
 fn past_of(why: Option<No>) -> Past

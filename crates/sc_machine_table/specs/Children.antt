@@ -13,8 +13,9 @@ use Rattle.sc_cmd.specs.declared.links.Route.{Route}
 use Rattle.sc_cmd.specs.declared.orders.OrderRefusal.{OrderRefusal}
 use Rattle.sc_cmd.specs.declared.votes.Past.{Past}
 use Rattle.sc_cmd.specs.declared.votes.Past.TheVariants as Cast
+use Rattle.sc_cmd.specs.Cores.{is_alone}
 use Rattle.sc_machine_table.specs.Group.{Group}
-use Rattle.sc_machine_table.specs.Orders.{is_alone, refusal_of}
+use Rattle.sc_machine_table.specs.Orders.{refusal_of}
 use Rattle.sc_machine_table.specs.Plans.{can_split}
 use Rattle.sc_machine_table.specs.Splits.{has_named, child_of}
 

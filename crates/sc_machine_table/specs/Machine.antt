@@ -4,6 +4,7 @@ use Rattle.std.specs.FinMap.{get, insert}
 use Rattle.sc_base.specs.declared.names.Draw.{Draw}
 use Rattle.sc_base.specs.declared.ops.Op.{Op}
 use Rattle.sc_base.specs.declared.ops.Noted.{Noted}
+use Rattle.sc_cmd.specs.Cores.{is_alone}
 use Rattle.sc_ideal.specs.IdealStore.{key_of, reply_of, after, holds_key}
 use Rattle.sc_cmd.specs.declared.bodies.Body.TheVariants as Body
 use Rattle.sc_cmd.specs.declared.links.Route.{Route}
@@ -15,7 +16,7 @@ use Rattle.sc_cmd.specs.declared.commands.Command.TheVariants.{Noop, Call, Join,
 use Rattle.sc_cmd.specs.declared.effects.Effect.{Effect}
 use Rattle.sc_cmd.specs.declared.effects.Effect.TheVariants.{Done, Again, Stale, NotMine, Gone, NoEffect, Idle}
 use Rattle.sc_machine_table.specs.Group.{Group}
-use Rattle.sc_machine_table.specs.Orders.{is_alone, refusal_of, ordered, with_node, without_node}
+use Rattle.sc_machine_table.specs.Orders.{refusal_of, ordered, with_node, without_node}
 use Rattle.sc_machine_table.specs.Splits.{has_named, left_group}
 use Rattle.sc_machine_table.specs.Transactions.{begun_group, given_up, vote_recorded, watch_recorded}
 use Rattle.sc_machine_table.specs.Votes.{offer_voted, watched}

@@ -3,7 +3,6 @@ use Rattle.std.specs.Prelude.{ℕ, Bool, ◌==◌, ◌&&◌, ◌||◌, not, nat_
 use Rattle.sc_base.specs.Arc.{holds, end_of}
 use Rattle.sc_base.specs.declared.names.Draw.{Draw}
 use Rattle.sc_member.specs.Roster.{is_member, with_member, without_member}
-use Rattle.sc_base.specs.Same.{same_draw}
 use Rattle.sc_cmd.specs.declared.bodies.Body.{Body}
 use Rattle.sc_cmd.specs.declared.bodies.Body.TheVariants as At
 use Rattle.sc_cmd.specs.declared.commands.Command.{Command}
@@ -16,6 +15,7 @@ use Rattle.sc_cmd.specs.declared.effects.Effect.TheVariants as Was
 use Rattle.sc_cmd.specs.declared.links.Route.{Route}
 use Rattle.sc_cmd.specs.declared.orders.OrderRefusal.{OrderRefusal}
 use Rattle.sc_cmd.specs.declared.orders.OrderRefusal.TheVariants.{NotLeader, InTransaction, NoNeighbour, BadBoundary, TooManyMembers, NotMember, LastMember, TxLimit, IsMember}
+use Rattle.sc_cmd.specs.Cores.{is_alone}
 use Rattle.sc_machine_table.specs.Group.{Group}
 
 -- the transaction that a lock is in
@@ -24,10 +24,6 @@ locked_in Free = None
 locked_in (Coordinating tx body order heard) = Some tx
 locked_in (Promised tx offer) = Some tx
 locked_in (Watching tx watch) = Some tx
-
--- whether a group is its own successor
-abbrev pub is_alone : Core → Bool
-is_alone core = same_draw core.succ.group core.id
 
 -- 5 and 9. a group has at most nine members
 abbrev pub join_refused : Core → ℕ → Option OrderRefusal

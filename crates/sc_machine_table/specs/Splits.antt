@@ -4,6 +4,7 @@ use Rattle.std.specs.List.{list_any}
 use Rattle.std.specs.FinMap.{entries}
 use Rattle.sc_base.specs.Arc.{CanCut, before, from}
 use Rattle.sc_base.specs.declared.names.Draw.{Draw}
+use Rattle.sc_cmd.specs.Cores.{is_alone}
 use Rattle.sc_ideal.specs.IdealStore.{part_of}
 use Rattle.sc_member.specs.Roster.{least_of}
 use Rattle.sc_base.specs.Same.{same_draw}
@@ -12,7 +13,7 @@ use Rattle.sc_cmd.specs.declared.cores.Core.{Core}
 use Rattle.sc_cmd.specs.declared.cores.Lock.TheVariants.{Free}
 use Rattle.sc_cmd.specs.declared.links.Link.{Link}
 use Rattle.sc_machine_table.specs.Group.{Group}
-use Rattle.sc_machine_table.specs.Orders.{is_alone, locked_in}
+use Rattle.sc_machine_table.specs.Orders.{locked_in}
 
 -- a group can be split where its arc can be cut and it has two members
 pub record CanSplit (core : Core) (at : ℕ) : Type 0 where

@@ -22,7 +22,7 @@ pub fn client_number(client: u16) -> u32
 pub type Reports = Sequence<Report<Command>>;
 
 /// A node's answer to a client's request.
-#[derive(Drop)]
+#[derive(Clone, Drop)]
 pub enum AnswerBody {
     /// The operation is in the log, with this reply.
     Value(Reply),

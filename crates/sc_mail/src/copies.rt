@@ -4,17 +4,8 @@ use sc_base::{Dup, OutOfMemory};
 use std::alloc::Global;
 
 impl Dup for AnswerBody {
-    fn dup(&self, alloc: Global) -> Result<AnswerBody, OutOfMemory> {
-        Ok(match self {
-            AnswerBody::Value(reply) => AnswerBody::Value(reply.dup(alloc)?),
-            AnswerBody::NotLeader { hint } => AnswerBody::NotLeader { hint: *hint },
-            AnswerBody::NotMine { arc, succ } => AnswerBody::NotMine {
-                arc: *arc,
-                succ: *succ,
-            },
-            AnswerBody::Gone { into } => AnswerBody::Gone { into: *into },
-            AnswerBody::Stale { last } => AnswerBody::Stale { last: *last },
-        })
+    fn dup(&self, _alloc: Global) -> Result<AnswerBody, OutOfMemory> {
+        Ok(self.clone()?)
     }
 }
 

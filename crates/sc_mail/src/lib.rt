@@ -1,9 +1,12 @@
-//! Mail between nodes, clients and the desk, and what it counts in the journal's bytes.
+//! Mail between nodes, clients and the desk, what it counts in the journal's bytes, and the actors
+//! that send it: nodes and clients.
 #![tactic(auto)]
 
 mod bodies;
 mod copies;
+mod roles;
 mod sames;
 mod weights;
 
 pub use bodies::{AnswerBody, DESK, Mail, MailBody, Reports, client_number};
+pub use roles::Role;

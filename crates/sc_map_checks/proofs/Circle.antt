@@ -8,8 +8,8 @@ use Rattle.sc_base.proofs.NameLemmas.{draw_is, same_name}
 use Rattle.sc_base.specs.Among.{Among}
 use Rattle.sc_base.specs.Arc.{Arc, IsArc, offset, holds, end_of}
 use Rattle.sc_base.specs.Same.{same_draw}
-use Rattle.sc_entries.specs.declared.Cut.{Cut}
-use Rattle.sc_entries.specs.Rings.{Covers}
+use Rattle.sc_log_entries.specs.declared.Cut.{Cut}
+use Rattle.sc_log_entries.specs.Rings.{Covers}
 use Rattle.sc_map_checks.specs.Covering.{is_beside, is_other, are_others, is_followed}
 use Rattle.sc_member.proofs.Pairs.{AllPairs-head, AllPairs-tail}
 

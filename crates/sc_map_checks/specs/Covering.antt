@@ -3,7 +3,7 @@ use Rattle.std.specs.Prelude.{Bool, true, ◌&&◌, not, List, [], ◌∷◌}
 use Rattle.std.specs.List.{list_all, list_any}
 use Rattle.sc_base.specs.Arc.{Arc, holds, end_of}
 use Rattle.sc_base.specs.Same.{same_draw}
-use Rattle.sc_entries.specs.declared.Cut.{Cut}
+use Rattle.sc_log_entries.specs.declared.Cut.{Cut}
 
 -- whether two arcs have no position in common: neither holds where the other starts
 abbrev pub is_beside : Arc → Arc → Bool

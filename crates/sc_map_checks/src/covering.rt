@@ -2,12 +2,11 @@
 ghost use Rattle.std.specs.Prelude.{◌≡◌, ◌↔◌, ◌<◌, ◌^◌, true, IsTrue, All};
 ghost use Rattle.std.specs.List.{list_all};
 ghost use Rattle.sc_base.specs.Arc.{IsArc};
-ghost use Rattle.sc_entries.specs.Rings.{Covers};
+ghost use Rattle.sc_log_entries.specs.Rings.{Covers};
 ghost use Rattle.sc_map_checks.specs.Covering.{is_beside, is_other, are_others, is_followed};
 
-use sc_base::RingArc;
-use sc_cmd::same_draw;
-use sc_entries::Cut;
+use sc_base::{RingArc, same_draw};
+use sc_log_entries::Cut;
 
 // Whether two arcs have no position in common: neither holds where the other starts.
 fn is_beside(arc: RingArc, other: RingArc) -> bool

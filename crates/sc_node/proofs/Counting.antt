@@ -1,5 +1,5 @@
 -- The count of a vote, by its two cases.
-use Rattle.std.proofs.Common.{◌≡◌, ℕ, List}
+use Rattle.std.proofs.Common.{◌≡◌, ◌++◌, ℕ, List, sym, append-nil}
 use Rattle.sc_cmd.specs.declared.commands.Command.{Command}
 use Rattle.sc_cmd.specs.declared.cores.Base.{Base}
 use Rattle.sc_mail.specs.declared.bodies.Mail.{Mail}
@@ -8,28 +8,27 @@ use Rattle.sc_paxos_words.specs.declared.answers.Counted.TheVariants.{Chosen, No
 use Rattle.sc_paxos_words.specs.Leaders.{LeaderState}
 use Rattle.sc_node_table.specs.Replica.{ReplicaState}
 use Rattle.sc_node_table.specs.Voting.{readied, vote_tallied}
-use Rattle.sc_node_table.specs.Births.{readied_children, tallied_children}
 use Rattle.sc_replica.specs.Steps.{with_leader}
 
 -- a majority was counted
 pub chosen_row : (slot : ℕ) (p : Counted Command × LeaderState Command) (c : Command) (r : ReplicaState) (mails : List Mail) → Chosen c ≡ p.0
-    → readied slot c (with_leader p.1 r, mails) ≡ vote_tallied slot p (r, mails)
+    → (readied slot c (with_leader p.1 r, mails)).0 ≡ (vote_tallied slot p (r, mails)).0
 chosen_row slot p c r mails e = rw (← e)
 
 -- .. and the children of what is executed then
 pub chosen_children : (slot : ℕ) (p : Counted Command × LeaderState Command) (c : Command) (r : ReplicaState) (mails : List Mail) (made : List Base) → Chosen c ≡ p.0
-    → readied_children slot c (with_leader p.1 r, mails) made ≡ tallied_children slot p (r, mails) made
+    → made ++ (readied slot c (with_leader p.1 r, mails)).1 ≡ made ++ (vote_tallied slot p (r, mails)).1
 chosen_children slot p c r mails made e = rw (← e)
 
 -- none was
 pub waiting_row : (slot : ℕ) (p : Counted Command × LeaderState Command) (n : ℕ) (r : ReplicaState) (mails : List Mail) → NotYet n ≡ p.0
-    → (with_leader p.1 r, mails) ≡ vote_tallied slot p (r, mails)
+    → (with_leader p.1 r, mails) ≡ (vote_tallied slot p (r, mails)).0
 waiting_row slot p n r mails e = rw (← e)
 
 -- .. and nothing is executed
 pub waiting_children : (slot : ℕ) (p : Counted Command × LeaderState Command) (n : ℕ) (r : ReplicaState) (mails : List Mail) (made : List Base) → NotYet n ≡ p.0
-    → made ≡ tallied_children slot p (r, mails) made
-waiting_children slot p n r mails made e = rw (← e)
+    → made ≡ made ++ (vote_tallied slot p (r, mails)).1
+waiting_children slot p n r mails made e = rw (← e) (sym (append-nil made))
 
 -- what a count of a vote may come to
 pub ruleset counted = (chosen_row, chosen_children, waiting_row, waiting_children)

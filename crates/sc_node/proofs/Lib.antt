@@ -1,4 +1,7 @@
 mod Counting
+mod Making
 mod Naming
+pub mod PlacesStanding
 mod Saying
 pub mod Standing
+pub mod Ticked

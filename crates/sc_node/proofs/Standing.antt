@@ -15,18 +15,17 @@ use Rattle.sc_node_table.specs.Mails.{told_desk}
 use Rattle.sc_node_table.specs.Rows.{mailed, tick_row}
 use Rattle.sc_node_table.specs.Policy.{names_after_tick}
 use Rattle.sc_node_table.specs.Ordering.{ordered_row, names_after}
-use Rattle.sc_node_table.specs.Births.{mailed_children}
-use Rattle.sc_node_choices.specs.Places.{StandsAt}
-use Rattle.sc_node_choices.specs.Ticking.{ticked_at}
+use Rattle.sc_node.specs.Places.{StandsAt}
+use Rattle.sc_node.specs.Ticking.{ticked_at}
 
 -- a mail for a group whose replica stands at a place
 pub taken-at : (group : Draw) (from : ℕ) (body : MailBody) (node : NodeState) (n : ℕ) (d new : ReplicaState) (more : List Mail) (made : List Base) → StandsAt group node.replicas n
-    → (new, more) ≡ mailed from body (get_or node.replicas n d, []) → made ≡ mailed_children from body (get_or node.replicas n d, []) []
+    → (new, more) ≡ (mailed from body (get_or node.replicas n d, [])).0 → made ≡ (mailed from body (get_or node.replicas n d, [])).1
     → taken_by (replica_of group node.replicas) group from body node ≡ (with_children made (record node { replicas = set node.replicas n new }), more)
 taken-at group from body node n d new more made stands e born =
     ap (λ o. taken_by o group from body node) (stands.found d)
-    ∙ ap (λ (p : Place). (with_children (mailed_children from body (get_or node.replicas n d, []) []) (record node { replicas = with_replica group p.0 node.replicas }), p.1)) (sym e)
-    ∙ ap (λ rs. (with_children (mailed_children from body (get_or node.replicas n d, []) []) (record node { replicas = rs }), more)) (sym (stands.written new))
+    ∙ ap (λ (p : Place). (with_children (mailed from body (get_or node.replicas n d, [])).1 (record node { replicas = with_replica group p.0 node.replicas }), p.1)) (sym e)
+    ∙ ap (λ rs. (with_children (mailed from body (get_or node.replicas n d, [])).1 (record node { replicas = rs }), more)) (sym (stands.written new))
     ∙ ap (λ cs. (with_children cs (record node { replicas = set node.replicas n new }), more)) (sym born)
 
 -- a mail for a group of which there is no replica

@@ -1,14 +1,15 @@
 //! The children that a step makes.
-ghost use Rattle.std.specs.Prelude.{◌≡◌, OnOk};
-ghost use Rattle.sc_node_table.specs.Births.{with_child, next_child};
+ghost use Rattle.std.specs.Prelude.{◌≡◌, ◌++◌, OnOk};
+ghost use Rattle.sc_node_table.specs.Execute.{child_at, next_child};
 
 use sc_base::{OutOfMemory, Sequence};
 use sc_cmd::{Base, Command};
 use sc_replica::Replica;
 
 /// A child is put behind those that are there, where the node is one of its members.
+#[tactic(auto, using(crate::proofs::Making::making))]
 fn keep_child(me: u16, child: Option<Base>, made: &mut Sequence<Base>) -> Result<(), OutOfMemory>
-    ensures { OnOk result (made.new ≡ with_child me child made.old) }
+    ensures { OnOk result (made.new ≡ made.old ++ child_at me child) }
 {
     let Some(child) = child else {
         return Ok(());
@@ -25,7 +26,7 @@ pub(crate) fn bear(
     command: &Command,
     made: &mut Sequence<Base>,
 ) -> Result<(), OutOfMemory>
-    ensures { OnOk result (made.new ≡ next_child command.now replica.now made.old) }
+    ensures { OnOk result (made.new ≡ made.old ++ next_child command.now replica.now) }
 {
     let child = replica.machine().child_by(command)?;
     keep_child(replica.me(), child, made)

@@ -1,21 +1,20 @@
 //! The rows that execute: Accepted, where the command of the next slot became ready, and Learn.
-ghost use Rattle.std.specs.Prelude.{◌≡◌, ◌+◌, ◌<◌, ◌≤◌, OnOk, Some};
+ghost use Rattle.std.specs.Prelude.{◌≡◌, ◌+◌, ◌<◌, ◌≤◌, ◌++◌, OnOk, Some};
 ghost use Rattle.sc_node_table.specs.Slots.{slots_ahead};
 ghost use Rattle.sc_node_table.specs.Replica.{next, set_at, last_slot};
-ghost use Rattle.sc_node_table.specs.Births.{readied_children, voted_children, accepted_children, learnt_children};
 ghost use Rattle.sc_node_table.specs.Voting.{leads, readied, voted, accepted_row};
 ghost use Rattle.sc_node_table.specs.Rows.{learn_row};
 
 use crate::execute::execute;
 use sc_base::{Ballot, OutOfMemory, Sequence};
 use sc_cmd::{Base, Command};
-use sc_leader::Counted;
 use sc_mail::Mail;
 use sc_member::Members;
+use sc_paxos::Counted;
 use sc_replica::{LAST_SLOT, Replica};
 
 /// A command that became ready is executed where its slot is the next one.
-#[tactic(auto, unfolding(sc_node_table::specs::Voting::readied, sc_node_table::specs::Births::readied_children))]
+#[tactic(auto, unfolding(sc_node_table::specs::Voting::readied), using(crate::proofs::Making::making))]
 fn make_ready(
     replica: &mut Replica,
     slot: u32,
@@ -24,9 +23,9 @@ fn make_ready(
     made: &mut Sequence<Base>,
 ) -> Result<(), OutOfMemory>
     ensures place { OnOk result
-        ((replica.new, out.new) ≡ readied slot command.now (replica.old, out.old)) }
+        ((replica.new, out.new) ≡ (readied slot command.now (replica.old, out.old)).0) }
     ensures made { OnOk result
-        (made.new ≡ readied_children slot command.now (replica.old, out.old) made.old) }
+        (made.new ≡ made.old ++ (readied slot command.now (replica.old, out.old)).1) }
 {
     replica.make_ready(slot, command)?;
     if slot == replica.next() && replica.has_room() {
@@ -47,10 +46,11 @@ fn count(
     made: &mut Sequence<Base>,
 ) -> Result<(), OutOfMemory>
     ensures place { OnOk result
-        ((replica.new, out.new) ≡ voted from ballot slot (Some set.now) (replica.old, out.old)) }
+        ((replica.new, out.new)
+        ≡ (voted from ballot slot (Some set.now) (replica.old, out.old)).0) }
     ensures made { OnOk result
         (made.new
-        ≡ voted_children from ballot slot (Some set.now) (replica.old, out.old) made.old) }
+        ≡ made.old ++ (voted from ballot slot (Some set.now) (replica.old, out.old)).1) }
 {
     match replica.count_vote(from, ballot, slot, set) {
         Counted::Chosen(command) => make_ready(replica, slot, &command, out, made),
@@ -59,7 +59,7 @@ fn count(
 }
 
 /// Accepted: a vote at an open slot is counted among that slot's members.
-#[tactic(auto, unfolding(sc_node_table::specs::Voting::accepted_row, sc_node_table::specs::Births::accepted_children))]
+#[tactic(auto, unfolding(sc_node_table::specs::Voting::accepted_row), using(crate::proofs::Making::making))]
 pub(crate) fn on_accepted(
     replica: &mut Replica,
     from: u16,
@@ -69,9 +69,9 @@ pub(crate) fn on_accepted(
     made: &mut Sequence<Base>,
 ) -> Result<(), OutOfMemory>
     ensures place { OnOk result
-        ((replica.new, out.new) ≡ accepted_row from ballot slot (replica.old, out.old)) }
+        ((replica.new, out.new) ≡ (accepted_row from ballot slot (replica.old, out.old)).0) }
     ensures made { OnOk result
-        (made.new ≡ accepted_children from ballot slot (replica.old, out.old) made.old) }
+        (made.new ≡ made.old ++ (accepted_row from ballot slot (replica.old, out.old)).1) }
 {
     if !replica.leads(ballot) {
         return Ok(());
@@ -85,7 +85,7 @@ pub(crate) fn on_accepted(
 
 /// Learn: the next slot's command is executed; for a later one the slots from the next on are asked
 /// for.
-#[tactic(auto, unfolding(sc_node_table::specs::Rows::learn_row, sc_node_table::specs::Births::learnt_children))]
+#[tactic(auto, unfolding(sc_node_table::specs::Rows::learn_row), using(crate::proofs::Making::making))]
 pub(crate) fn on_learn(
     replica: &mut Replica,
     from: u16,
@@ -95,9 +95,9 @@ pub(crate) fn on_learn(
     made: &mut Sequence<Base>,
 ) -> Result<(), OutOfMemory>
     ensures place { OnOk result
-        ((replica.new, out.new) ≡ learn_row from slot command.now (replica.old, out.old)) }
+        ((replica.new, out.new) ≡ (learn_row from slot command.now (replica.old, out.old)).0) }
     ensures made { OnOk result
-        (made.new ≡ learnt_children slot command.now (replica.old, out.old) made.old) }
+        (made.new ≡ made.old ++ (learn_row from slot command.now (replica.old, out.old)).1) }
 {
     let next = replica.next();
     if LAST_SLOT < slot {

@@ -1,8 +1,7 @@
 //! Execute: the command of the next slot, counted where it was ready, else learnt.
-ghost use Rattle.std.specs.Prelude.{◌≡◌, ◌+◌, ◌<◌, OnOk};
+ghost use Rattle.std.specs.Prelude.{◌≡◌, ◌+◌, ◌<◌, ◌++◌, OnOk};
 ghost use Rattle.sc_node_table.specs.Slots.{slots_ahead};
 ghost use Rattle.sc_node_table.specs.Replica.{next, last_slot};
-ghost use Rattle.sc_node_table.specs.Births.{ready_children, executed_children};
 ghost use Rattle.sc_node_table.specs.Execute.{executed_one, executed_ready, executed};
 
 use crate::births::bear;
@@ -13,7 +12,7 @@ use sc_mail::Mail;
 use sc_replica::Replica;
 use sc_replica_transactions::before_of;
 
-/// The steps 1 to 6 but for 3, which makes children.
+/// The steps 1 to 6 but for 3.
 #[tactic(auto, unfolding(sc_node_table::specs::Execute::executed_one))]
 fn execute_one(
     replica: &mut Replica,
@@ -44,9 +43,10 @@ fn execute_ready(
     made: &mut Sequence<Base>,
 ) -> Result<(), OutOfMemory>
     ensures place { OnOk result
-        ((replica.new, out.new) ≡ executed_ready replica.old.ready (replica.old, out.old)) }
+        ((replica.new, out.new) ≡ (executed_ready replica.old.ready (replica.old, out.old)).0) }
     ensures made { OnOk result
-        (made.new ≡ ready_children replica.old.ready (replica.old, out.old) made.old) }
+        (made.new
+        ≡ made.old ++ (executed_ready replica.old.ready (replica.old, out.old)).1) }
 {
     let Some(command) = replica.next_ready()? else {
         return Ok(());
@@ -58,7 +58,7 @@ fn execute_ready(
 }
 
 /// The whole of Execute.
-#[tactic(auto, unfolding(sc_node_table::specs::Execute::executed, sc_node_table::specs::Births::executed_children))]
+#[tactic(auto, unfolding(sc_node_table::specs::Execute::executed), using(crate::proofs::Making::making))]
 pub(crate) fn execute(
     replica: &mut Replica,
     counted: bool,
@@ -68,9 +68,9 @@ pub(crate) fn execute(
 ) -> Result<(), OutOfMemory>
     requires { next replica.old < last_slot + slots_ahead }
     ensures place { OnOk result
-        ((replica.new, out.new) ≡ executed counted command.now (replica.old, out.old)) }
+        ((replica.new, out.new) ≡ (executed counted command.now (replica.old, out.old)).0) }
     ensures made { OnOk result
-        (made.new ≡ executed_children counted command.now (replica.old, out.old) made.old) }
+        (made.new ≡ made.old ++ (executed counted command.now (replica.old, out.old)).1) }
 {
     bear(replica, command, made)?;
     execute_one(replica, counted, command, out)?;

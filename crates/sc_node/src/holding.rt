@@ -1,9 +1,9 @@
 //! The replicas of a node by their places, as its choices see them.
+use crate::Holder;
 use crate::node::NodeCore;
 use crate::ticks::on_tick;
 use sc_base::{Draw, OutOfMemory, Sequence};
 use sc_mail::Mail;
-use sc_node_choices::Holder;
 
 impl Holder for NodeCore {
     ghost node = { λ n. n };

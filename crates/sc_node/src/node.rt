@@ -5,16 +5,16 @@ ghost use Rattle.sc_cmd.specs.declared.cores.Base.{Base};
 ghost use Rattle.sc_node_table.specs.Slots.{slots_ahead};
 ghost use Rattle.sc_node_table.specs.Replica.{name_of};
 ghost use Rattle.sc_node_table.specs.Node.{is_before, are_in_order, born_replicas, born_node, replica_of, taken_by, routed, on_mail, with_children, on_tick, node_table, may_come};
-ghost use Rattle.sc_node_choices.specs.Places.{StandsAt};
+ghost use Rattle.sc_node.specs.Places.{StandsAt};
 
 use crate::absent::{group_in, may_come};
 use crate::arrivals::is_before;
 use crate::rows::take_mail;
+use crate::{replica_place, tick_each};
 use sc_actor::{Actor, Input};
 use sc_base::{Draw, Draws, Dup, OutOfMemory, Sequence};
 use sc_cmd::{Base, OrderLine};
 use sc_mail::{Mail, MailBody};
-use sc_node_choices::{on_tick, replica_place};
 use sc_replica::Replica;
 use std::alloc::Global;
 use std::marker::Model;
@@ -226,7 +226,7 @@ impl NodeCore {
         ensures { IfOk result (λ sent. on_tick self.old ≡ (self.new, sent)) }
     {
         let mut sent = Sequence::new(alloc);
-        on_tick(self, &mut sent)?;
+        tick_each(self, &mut sent)?;
         Ok(sent)
     }
 }

@@ -4,15 +4,15 @@ ghost use Rattle.sc_node_table.specs.Mails.{told_desk};
 ghost use Rattle.sc_node_table.specs.Node.{group_of_order, on_order};
 ghost use Rattle.sc_cmd.specs.declared.orders.ToldResult.TheVariants.{Refused};
 ghost use Rattle.sc_cmd.specs.declared.orders.OrderRefusal.TheVariants.{NotLeader};
-ghost use Rattle.sc_node_choices.specs.Places.{StandsAt};
+ghost use Rattle.sc_node.specs.Places.{StandsAt};
 
 use crate::absent::alone;
 use crate::node::NodeCore;
 use crate::orders::on_order;
+use crate::replica_place;
 use sc_base::{Draw, OutOfMemory, Sequence};
 use sc_cmd::{Order, OrderLine, OrderRefusal, ToldResult};
 use sc_mail::{DESK, Mail, MailBody};
-use sc_node_choices::replica_place;
 use std::alloc::Global;
 
 /// The group of an order.

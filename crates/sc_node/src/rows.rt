@@ -1,8 +1,7 @@
 //! The rows of a replica's table, by the input.
-ghost use Rattle.std.specs.Prelude.{◌≡◌, true, IfOk, OnOk};
+ghost use Rattle.std.specs.Prelude.{◌≡◌, ◌++◌, true, IfOk, OnOk};
 ghost use Rattle.sc_node_table.specs.Node.{may_come};
 ghost use Rattle.sc_node_table.specs.Rows.{mailed, stepped, names_left};
-ghost use Rattle.sc_node_table.specs.Births.{mailed_children, made_in};
 ghost use Rattle.sc_node.specs.Given.{is_of_transaction, may_take};
 
 use crate::counts::{on_accepted, on_learn};
@@ -26,7 +25,8 @@ fn on_transaction(
     out: &mut Sequence<Mail>,
 ) -> Result<(), OutOfMemory>
     requires { is_of_transaction body.now ≡ true }
-    ensures { OnOk result ((replica.new, out.new) ≡ mailed from body.now (replica.old, out.old)) }
+    ensures { OnOk result
+        ((replica.new, out.new) ≡ (mailed from body.now (replica.old, out.old)).0) }
 {
     match body {
         MailBody::TxPrepare { tx, offer } => on_offer(replica, from, *tx, offer.get(), out),
@@ -45,7 +45,7 @@ fn on_transaction(
 }
 
 /// A mail from a node.
-#[tactic(auto, unfolding(sc_node_table::specs::Rows::mailed, sc_node_table::specs::Births::mailed_children))]
+#[tactic(auto, unfolding(sc_node_table::specs::Rows::mailed), using(crate::proofs::Making::making))]
 fn on_mail(
     replica: &mut Replica,
     from: u16,
@@ -54,9 +54,9 @@ fn on_mail(
     made: &mut Sequence<Base>,
 ) -> Result<(), OutOfMemory>
     ensures place { OnOk result
-        ((replica.new, out.new) ≡ mailed from body.now (replica.old, out.old)) }
+        ((replica.new, out.new) ≡ (mailed from body.now (replica.old, out.old)).0) }
     ensures made { OnOk result
-        (made.new ≡ mailed_children from body.now (replica.old, out.old) made.old) }
+        (made.new ≡ made.old ++ (mailed from body.now (replica.old, out.old)).1) }
 {
     match body {
         MailBody::Request {
@@ -89,7 +89,7 @@ fn on_mail(
 /// A mail for its group, by its row. Only a request may come from others than the nodes. The
 /// mails come behind those that are there, and so do the children whose replicas the node must
 /// make. After want of memory the replica may only be dropped.
-#[tactic(auto, unfolding(sc_node_table::specs::Rows::mailed, sc_node_table::specs::Births::mailed_children))]
+#[tactic(auto, unfolding(sc_node_table::specs::Rows::mailed), using(crate::proofs::Making::making))]
 pub fn take_mail(
     replica: &mut Replica,
     from: u32,
@@ -99,9 +99,9 @@ pub fn take_mail(
 ) -> Result<(), OutOfMemory>
     requires { may_come from body.now ≡ true }
     ensures place { OnOk result
-        ((replica.new, out.new) ≡ mailed from body.now (replica.old, out.old)) }
+        ((replica.new, out.new) ≡ (mailed from body.now (replica.old, out.old)).0) }
     ensures made { OnOk result
-        (made.new ≡ mailed_children from body.now (replica.old, out.old) made.old) }
+        (made.new ≡ made.old ++ (mailed from body.now (replica.old, out.old)).1) }
 {
     if from <= MOST_NODES {
         return on_mail(replica, from as u16, body, out, made);
@@ -131,10 +131,12 @@ pub fn step_replica(
 ) -> Result<Made, OutOfMemory>
     requires { may_take input.now ≡ true }
     ensures place { OnOk result
-        ((replica.new, out.new) ≡ stepped policy draws.old input.now (replica.old, out.old)) }
+        ((replica.new, out.new)
+        ≡ (stepped policy draws.old input.now (replica.old, out.old)).0) }
     ensures draws { OnOk result (draws.new ≡ names_left policy draws.old input.now replica.old) }
     ensures made { IfOk result
-        (λ made. made.children ≡ made_in input.now (replica.old, out.old)) }
+        (λ made.
+        made.children ≡ (stepped policy draws.old input.now (replica.old, out.old)).1) }
 {
     let mut children = Sequence::new(replica.alloc());
     match input {

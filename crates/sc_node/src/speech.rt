@@ -1,7 +1,7 @@
 //! What is said of an executed command: a call is answered, of an order the desk is told, and a
 //! transaction goes on.
 ghost use Rattle.std.specs.Prelude.{◌≡◌, true, false, OnOk};
-ghost use Rattle.sc_node_table.specs.Execute.{result_of, order_result, told_effect, announced};
+ghost use Rattle.sc_node_table.specs.Execute.{order_result, told_effect, announced};
 ghost use Rattle.sc_node_table.specs.Spoken.{spoken};
 ghost use Rattle.sc_node.specs.Calls.{is_call};
 
@@ -21,31 +21,12 @@ fn is_call(command: &Command) -> bool
     }
 }
 
-/// What an effect says of its order; nothing where the order goes on.
-fn result_of(effect: &Effect) -> Option<ToldResult>
-    ensures { result ≡ result_of effect.now }
-{
-    match effect {
-        Effect::Changed => Some(ToldResult::Done),
-        Effect::Refused(why) => Some(ToldResult::Refused(*why)),
-        Effect::Done(_)
-        | Effect::Again(_)
-        | Effect::Stale { .. }
-        | Effect::NotMine { .. }
-        | Effect::Gone { .. }
-        | Effect::NoEffect { .. }
-        | Effect::Idle
-        | Effect::Voted(_)
-        | Effect::Decided(_) => None,
-    }
-}
-
 /// What it says of a join or a leave; splits and transactions are spoken of apart.
 fn order_result(command: &Command, effect: &Effect) -> Option<ToldResult>
     ensures { result ≡ order_result command.now effect.now }
 {
     match command {
-        Command::Join { .. } | Command::Leave { .. } => result_of(effect),
+        Command::Join { .. } | Command::Leave { .. } => effect.told(),
         Command::Noop
         | Command::Call { .. }
         | Command::Split { .. }

@@ -6,8 +6,8 @@ ghost use Rattle.sc_node_table.specs.Transactions.{offered_by, offer_row, watche
 use sc_base::{Boxed, Draw, Dup, OutOfMemory, Sequence};
 use sc_cmd::{Command, Offer, Outcome, Past, Vote, Watch};
 use sc_mail::Mail;
-use sc_node_choices::record_of;
 use sc_replica::Replica;
+use sc_replica_choices::record_of;
 use sc_replica_transactions::{
     ask_next, awaits_vote, awaits_watch, is_bound, noted_outcome, pass_on, standing_vote,
     tell_outcome, tell_vote, tell_watch,

@@ -10,17 +10,14 @@ use Rattle.sc_mail.specs.declared.bodies.Mail.{Mail}
 use Rattle.sc_member.specs.Roster.{is_member, least_of}
 use Rattle.sc_machine_table.specs.Machine.{applied}
 use Rattle.sc_node_table.specs.Slots.{at_slot, without_slot}
-use Rattle.sc_node_table.specs.Replica.{ReplicaState, Place, next, members, flying, forgotten}
+use Rattle.sc_node_table.specs.Replica.{ReplicaState, Place, childless, next, members, flying, forgotten}
 use Rattle.sc_node_table.specs.Install.{install_to, asked_to_promise, welcomed_all}
 use Rattle.sc_node_table.specs.Queues.{put_back}
 use Rattle.sc_node_table.specs.Sameness.{same_command}
 use Rattle.sc_node_table.specs.Election.{elected, ended}
-use Rattle.sc_node_table.specs.Pump.{pumped}
 use Rattle.sc_node_table.specs.declared.Before.{Before}
 use Rattle.sc_node_table.specs.Spoken.{before_of, spoken}
-use Rattle.sc_node_table.specs.Births.{next_child, ready_children}
-use Rattle.sc_cmd.specs.declared.cores.Base.{Base}
-use Rattle.sc_node_table.specs.Execute.{entered, answer_of, announced, told_call, told_effect, order_result, learnt_to, welcomed, slot_lost, landed, left, left_gone, is_among, looked, looked_for, executed_one, has_room, next_ready, executed_ready}
+use Rattle.sc_node_table.specs.Execute.{entered, answer_of, announced, told_call, told_effect, order_result, learnt_to, welcomed, slot_lost, landed, left, left_gone, is_among, looked, looked_for, executed_one, next_child, has_room, next_ready, ending, executed_ready}
 
 -- taking a slot out makes the list shorter
 shorter_by : {X : Type 0} (f : ℕ × X) (es : List (ℕ × X)) (slot : ℕ) (x : X) (b : Bool) → (at_slot es slot ≡ Some x → length (without_slot es slot) < length es)
@@ -202,23 +199,23 @@ one-shorter command place e =
 -- ---- the bound of step 7 decides nothing
 
 stop_by : (o : Option Command) (es : List (ℕ × Command)) (place : Place) → o ≡ None
-    → (elim o [ None ↦ place | Some command ↦ pumped (executed_ready es (executed_one true command place)) ]) ≡ place
+    → (elim o [ None ↦ childless place | Some command ↦ ending (next_child command place.0) (executed_ready es (executed_one true command place)) ]) ≡ childless place
 stop_by None es place e = refl
 stop_by (Some command) es place e = absurd (cc)
 
 -- with nothing ready the list says nothing
-executed_ready-stop : (es : List (ℕ × Command)) (place : Place) → next_ready place.0 ≡ None → executed_ready es place ≡ place
+executed_ready-stop : (es : List (ℕ × Command)) (place : Place) → next_ready place.0 ≡ None → executed_ready es place ≡ childless place
 unfolding executed_ready
 executed_ready-stop [] place e = refl
 executed_ready-stop (f ∷ es) place e = stop_by (next_ready place.0) es place e
 
 go_by : (o : Option Command) (es : List (ℕ × Command)) (place : Place) (command : Command) → o ≡ Some command
-    → (elim o [ None ↦ place | Some command ↦ pumped (executed_ready es (executed_one true command place)) ]) ≡ pumped (executed_ready es (executed_one true command place))
+    → (elim o [ None ↦ childless place | Some command ↦ ending (next_child command place.0) (executed_ready es (executed_one true command place)) ]) ≡ ending (next_child command place.0) (executed_ready es (executed_one true command place))
 go_by None es place command e = absurd (cc)
 go_by (Some other) es place command e = let same : other ≡ command = cc in rw same
 
 executed_ready-go : (f : ℕ × Command) (es : List (ℕ × Command)) (place : Place) (command : Command) → next_ready place.0 ≡ Some command
-    → executed_ready (f ∷ es) place ≡ pumped (executed_ready es (executed_one true command place))
+    → executed_ready (f ∷ es) place ≡ ending (next_child command place.0) (executed_ready es (executed_one true command place))
 unfolding executed_ready
 executed_ready-go f es place command e = go_by (next_ready place.0) es place command e
 
@@ -240,7 +237,7 @@ both e f es fs place None is rest p q = executed_ready-stop (e ∷ es) place is 
 both e f es fs place (Some command) is rest p q =
     let less : length (executed_one true command place).0.ready < length place.0.ready = one-shorter command place is in
     executed_ready-go e es place command is
-    ∙ ap pumped (rest (executed_one true command place) (omega arith) (omega arith))
+    ∙ ap (ending (next_child command place.0)) (rest (executed_one true command place) (omega arith) (omega arith))
     ∙ sym (executed_ready-go f fs place command is)
 
 -- any two bounds that are no shorter than what is ready give the same
@@ -253,25 +250,25 @@ executed_ready-enough (e ∷ es) (f ∷ fs) place p q = both e f es fs place (ne
 
 -- one execution, and then what is ready after it
 pub executed_ready-next : (place : Place) (command : Command) → next_ready place.0 ≡ Some command
-    → pumped (executed_ready (executed_one true command place).0.ready (executed_one true command place)) ≡ executed_ready place.0.ready place
+    → ending (next_child command place.0) (executed_ready (executed_one true command place).0.ready (executed_one true command place)) ≡ executed_ready place.0.ready place
 executed_ready-next place command e =
     let after = executed_one true command place in
     let less : length after.0.ready < length place.0.ready = one-shorter command place e in
-    ap pumped (executed_ready-enough after.0.ready place.0.ready after (omega arith) (omega arith))
+    ap (ending (next_child command place.0)) (executed_ready-enough after.0.ready place.0.ready after (omega arith) (omega arith))
     ∙ sym (executed_ready-go (0, Noop) place.0.ready place command e)
     ∙ executed_ready-enough ((0, Noop) ∷ place.0.ready) place.0.ready place (omega arith) (omega arith)
 
 -- with nothing ready at the next slot, nothing is executed
-pub executed_ready-none : (place : Place) → next_ready place.0 ≡ None → executed_ready place.0.ready place ≡ place
+pub executed_ready-none : (place : Place) → next_ready place.0 ≡ None → executed_ready place.0.ready place ≡ childless place
 executed_ready-none place e = executed_ready-stop place.0.ready place e
 
 -- ---- the same for a turn of the loop
 
 -- what is ready is executed, and then what is ready after it
 pub turn-next : (r after : ReplicaState) (mails more : List Mail) (command : Command) → next_ready r ≡ Some command → (after, more) ≡ executed_one true command (r, mails)
-    → pumped (executed_ready after.ready (after, more)) ≡ executed_ready r.ready (r, mails)
+    → ending (next_child command r) (executed_ready after.ready (after, more)) ≡ executed_ready r.ready (r, mails)
 turn-next r after mails more command e is =
-    ap (λ (place : Place). pumped (executed_ready place.0.ready place)) is ∙ executed_ready-next (r, mails) command e
+    ap (λ (place : Place). ending (next_child command r) (executed_ready place.0.ready place)) is ∙ executed_ready-next (r, mails) command e
 
 -- less is ready after an execution
 pub turn-shorter : (r after : ReplicaState) (mails more : List Mail) (command : Command) → next_ready r ≡ Some command → (after, more) ≡ executed_one true command (r, mails)
@@ -279,61 +276,3 @@ pub turn-shorter : (r after : ReplicaState) (mails more : List Mail) (command : 
 turn-shorter r after mails more command e is =
     let same : length after.ready ≡ length (executed_one true command (r, mails)).0.ready = ap (λ (place : Place). length place.0.ready) is in
     omega (arith, one-shorter command (r, mails) e)
-
--- ---- and the same of the children
-
-born_by-none : (o : Option Command) (es : List (ℕ × Command)) (place : Place) (made : List Base) → o ≡ None
-    → (elim o [ None ↦ made | Some command ↦ ready_children es (executed_one true command place) (next_child command place.0 made) ]) ≡ made
-born_by-none None es place made e = refl
-born_by-none (Some command) es place made e = absurd (cc)
-
--- with nothing ready none is made
-ready_children-stop : (es : List (ℕ × Command)) (place : Place) (made : List Base) → next_ready place.0 ≡ None → ready_children es place made ≡ made
-unfolding ready_children
-ready_children-stop [] place made e = refl
-ready_children-stop (f ∷ es) place made e = born_by-none (next_ready place.0) es place made e
-
-born_by : (o : Option Command) (es : List (ℕ × Command)) (place : Place) (made : List Base) (command : Command) → o ≡ Some command
-    → (elim o [ None ↦ made | Some command ↦ ready_children es (executed_one true command place) (next_child command place.0 made) ])
-    ≡ ready_children es (executed_one true command place) (next_child command place.0 made)
-born_by None es place made command e = absurd (cc)
-born_by (Some other) es place made command e = let same : other ≡ command = cc in rw same
-
-ready_children-go : (f : ℕ × Command) (es : List (ℕ × Command)) (place : Place) (made : List Base) (command : Command) → next_ready place.0 ≡ Some command
-    → ready_children (f ∷ es) place made ≡ ready_children es (executed_one true command place) (next_child command place.0 made)
-unfolding ready_children
-ready_children-go f es place made command e = born_by (next_ready place.0) es place made command e
-
-both_children : (e f : ℕ × Command) (es fs : List (ℕ × Command)) (place : Place) (made : List Base) (o : Option Command) → next_ready place.0 ≡ o
-    → ((after : Place) (made : List Base) → length after.0.ready ≤ length es → length after.0.ready ≤ length fs → ready_children es after made ≡ ready_children fs after made)
-    → length place.0.ready ≤ length (e ∷ es) → length place.0.ready ≤ length (f ∷ fs) → ready_children (e ∷ es) place made ≡ ready_children (f ∷ fs) place made
-both_children e f es fs place made None is rest p q = ready_children-stop (e ∷ es) place made is ∙ sym (ready_children-stop (f ∷ fs) place made is)
-both_children e f es fs place made (Some command) is rest p q =
-    let less : length (executed_one true command place).0.ready < length place.0.ready = one-shorter command place is in
-    ready_children-go e es place made command is
-    ∙ rest (executed_one true command place) (next_child command place.0 made) (omega arith) (omega arith)
-    ∙ sym (ready_children-go f fs place made command is)
-
--- any two bounds that are no shorter than what is ready make the same
-ready_children-enough : (es fs : List (ℕ × Command)) (place : Place) (made : List Base) → length place.0.ready ≤ length es → length place.0.ready ≤ length fs
-    → ready_children es place made ≡ ready_children fs place made
-ready_children-enough [] [] place made p q = refl
-ready_children-enough [] (f ∷ fs) place made p q = let none = none-ready place.0 p in ready_children-stop [] place made none ∙ sym (ready_children-stop (f ∷ fs) place made none)
-ready_children-enough (e ∷ es) [] place made p q = let none = none-ready place.0 q in ready_children-stop (e ∷ es) place made none ∙ sym (ready_children-stop [] place made none)
-ready_children-enough (e ∷ es) (f ∷ fs) place made p q = both_children e f es fs place made (next_ready place.0) refl (ready_children-enough es fs) p q
-
--- with nothing ready at the next slot none is made
-pub ready_children-none : (place : Place) (made : List Base) → next_ready place.0 ≡ None → ready_children place.0.ready place made ≡ made
-ready_children-none place made e = ready_children-stop place.0.ready place made e
-
--- the children of one turn of the loop, and of those after it
-pub turn-children : (r after : ReplicaState) (mails more : List Mail) (made now : List Base) (command : Command) → next_ready r ≡ Some command → (after, more) ≡ executed_one true command (r, mails)
-    → now ≡ next_child command r made → ready_children after.ready (after, more) now ≡ ready_children r.ready (r, mails) made
-turn-children r after mails more made now command e is born =
-    let next = executed_one true command (r, mails) in
-    let less : length next.0.ready < length r.ready = one-shorter command (r, mails) e in
-    ap (λ (place : Place). ready_children place.0.ready place now) is
-    ∙ ap (ready_children next.0.ready next) born
-    ∙ ready_children-enough next.0.ready r.ready next (next_child command r made) (omega arith) (omega arith)
-    ∙ sym (ready_children-go (0, Noop) r.ready (r, mails) made command e)
-    ∙ ready_children-enough ((0, Noop) ∷ r.ready) r.ready (r, mails) made (omega arith) (omega arith)

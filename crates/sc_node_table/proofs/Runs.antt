@@ -76,7 +76,7 @@ names = record { node = 1; next = 1 }
 -- the place after these inputs
 abbrev pub run : Place → List ReplicaInput → Place
 run place [] = place
-run place (input ∷ inputs) = run (stepped false names input place) inputs
+run place (input ∷ inputs) = run (stepped false names input place).0 inputs
 
 -- a leader has four requests in flight at once, and the fifth waits
 fifth_waits :

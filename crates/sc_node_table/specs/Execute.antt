@@ -3,19 +3,21 @@ use Rattle.std.specs.Prelude.{ℕ, ◌+◌, ◌==◌, ◌&&◌, ◌||◌, not, f
 use Rattle.sc_cmd.specs.declared.links.Route.{Route}
 use Rattle.sc_cmd.specs.declared.commands.Command.{Command}
 use Rattle.sc_cmd.specs.declared.commands.Command.TheVariants.{Noop, Call, Join, Leave, Split, Begin, Prepared, RecordVote, GiveUp, Finish, Watched, RecordWatch}
+use Rattle.sc_cmd.specs.declared.cores.Base.{Base}
 use Rattle.sc_cmd.specs.declared.effects.Effect.{Effect}
 use Rattle.sc_cmd.specs.declared.effects.Effect.TheVariants as Was
 use Rattle.sc_mail.specs.declared.bodies.AnswerBody.{AnswerBody}
 use Rattle.sc_mail.specs.declared.bodies.AnswerBody.TheVariants as Says
 use Rattle.sc_mail.specs.declared.bodies.MailBody.TheVariants.{Learn}
 use Rattle.sc_cmd.specs.declared.orders.ToldResult.{ToldResult}
-use Rattle.sc_cmd.specs.declared.orders.ToldResult.TheVariants as Tells
+use Rattle.sc_cmd.specs.Effects.{result_of}
 use Rattle.sc_member.specs.Roster.{is_member, least_of}
 use Rattle.sc_paxos_words.specs.Logs.{LogState, learnt, next_of}
 use Rattle.sc_paxos_words.specs.Leaders.{without_flight_at}
+use Rattle.sc_machine_table.specs.Children.{child_by}
 use Rattle.sc_machine_table.specs.Machine.{applied}
 use Rattle.sc_node_table.specs.Slots.{rest_of, at_slot, without_slot}
-use Rattle.sc_node_table.specs.Replica.{ReplicaState, Place, name_of, next, members, flying, last_slot, forgotten, waits_in}
+use Rattle.sc_node_table.specs.Replica.{ReplicaState, Place, Executed, childless, name_of, next, members, flying, last_slot, forgotten, waits_in}
 use Rattle.sc_node_table.specs.Mails.{answer_to, sent_others, order_number, told_order}
 use Rattle.sc_node_table.specs.Queues.{put_back}
 use Rattle.sc_node_table.specs.Sameness.{same_command}
@@ -54,21 +56,7 @@ told_call (Some answer) (Call client seq op) (r, mails) = (r, answer_to r.me (na
 told_call None (Call client seq op) (r, mails) = (put_back (Call client seq op) r, mails)
 told_call answer command place = place
 
--- .. and what an order came to is told by each replica that executes it
-abbrev pub result_of : Effect → Option ToldResult
-result_of Was.Changed = Some Tells.Done
-result_of (Was.Refused why) = Some (Tells.Refused why)
-result_of (Was.Done reply) = None
-result_of (Was.Again reply) = None
-result_of (Was.Stale last) = None
-result_of (Was.NotMine arc succ) = None
-result_of (Was.Gone into) = None
-result_of (Was.NoEffect tx) = None
-result_of Was.Idle = None
-result_of (Was.Voted vote) = None
-result_of (Was.Decided outcome) = None
-
--- of a join and a leave it is told so; splits and transactions are spoken of apart
+-- .. and what a join or a leave came to is told by each replica that executes it; splits and transactions are spoken of apart
 abbrev pub order_result : Command → Effect → Option ToldResult
 order_result (Join node order) effect = result_of effect
 order_result (Leave node order) effect = result_of effect
@@ -140,7 +128,7 @@ looked_for None (r, mails) =
 unfoldable pub looked : Place → Place
 looked (r, mails) = if r.running then (r, mails) else looked_for r.group.core.gone (r, mails)
 
--- 1 to 6 but for 3, which makes children
+-- 1 to 6 but for 3
 unfoldable pub executed_one : Bool → Command → Place → Place
 executed_one counted command (r, mails) =
     let effect = (applied r.group command).1 in
@@ -151,6 +139,15 @@ executed_one counted command (r, mails) =
     let place5 = landed counted (next r) command place4 in
     looked (left place5)
 
+-- 3. a child is made where the node is one of its members
+abbrev pub child_at : ℕ → Option Base → List Base
+child_at me None = []
+child_at me (Some child) = if is_member child.core.members me then child ∷ [] else []
+
+-- .. the child of the command that is executed next
+abbrev pub next_child : Command → ReplicaState → List Base
+next_child command r = child_at r.me (child_by r.group command)
+
 -- whether a counted command may be executed at the next slot: the pump offers none above the last slot by more than the other open slots
 abbrev pub has_room : ReplicaState → Bool
 has_room r = nat_lt (next r) (last_slot + length r.sets)
@@ -159,16 +156,20 @@ has_room r = nat_lt (next r) (last_slot + length r.sets)
 abbrev pub next_ready : ReplicaState → Option Command
 next_ready r = if r.running && has_room r then at_slot r.ready (next r) else None
 
--- it is executed as counted, and so on, and 8. each execution ends with the pump. What was ready bounds how often: each execution takes one of it away and none adds one
-unfoldable pub executed_ready : List (ℕ × Command) → Place → Place
-executed_ready [] place = place
-executed_ready (e ∷ es) place =
-    elim (next_ready place.0) [ None ↦ place | Some command ↦ pumped (executed_ready es (executed_one true command place)) ]
+-- 8. each execution ends with the pump; the child that it made comes before those of what followed it
+abbrev pub ending : List Base → Executed → Executed
+ending made (place, children) = (pumped place, made ++ children)
 
--- 7, and 8. pump
-abbrev pub all_ready : Place → Place
+-- the ready command is executed as counted, and so on. What was ready bounds how often: each execution takes one of it away and none adds one
+unfoldable pub executed_ready : List (ℕ × Command) → Place → Executed
+executed_ready [] place = childless place
+executed_ready (e ∷ es) place =
+    elim (next_ready place.0) [ None ↦ childless place | Some command ↦ ending (next_child command place.0) (executed_ready es (executed_one true command place)) ]
+
+-- 7
+abbrev pub all_ready : Place → Executed
 all_ready place = executed_ready place.0.ready place
 
 -- the whole of Execute
-unfoldable pub executed : Bool → Command → Place → Place
-executed counted command place = pumped (all_ready (executed_one counted command place))
+unfoldable pub executed : Bool → Command → Place → Executed
+executed counted command place = ending (next_child command place.0) (all_ready (executed_one counted command place))

@@ -1,5 +1,4 @@
 pub mod Acts
-pub mod Births
 pub mod Election
 pub mod Execute
 pub mod Install

@@ -24,7 +24,6 @@ use Rattle.sc_node_table.specs.Mails.{sent, answer_to, told_desk}
 use Rattle.sc_node_table.specs.Rows.{mailed, tick_row, made_by}
 use Rattle.sc_node_table.specs.Ordering.{ordered_row, names_after}
 use Rattle.sc_node_table.specs.Policy.{names_after_tick}
-use Rattle.sc_node_table.specs.Births.{mailed_children}
 
 -- the node's number, the names that it draws, whether it has a policy, and its replicas in the order of their groups' names
 pub record NodeState : Type 0 where
@@ -160,7 +159,7 @@ abbrev pub taken_by : Option ReplicaState → Draw → ℕ → MailBody → Node
 taken_by None group from body node = unknown from body node
 taken_by (Some r) group from body node =
     let after = mailed from body (r, []) in
-    (with_children (mailed_children from body (r, []) []) (record node { replicas = with_replica group after.0 node.replicas }), after.1)
+    (with_children after.1 (record node { replicas = with_replica group after.0.0 node.replicas }), after.0.1)
 
 -- a mail by the group that it is for; one for no group changes nothing
 abbrev pub routed : Option Draw → ℕ → MailBody → NodeState → NodeState × List Mail

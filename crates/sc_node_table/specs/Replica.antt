@@ -35,6 +35,14 @@ pub record ReplicaState : Type 0 where
 abbrev pub Place : Type 0
 Place = ReplicaState × List Mail
 
+-- what a step that may execute entries comes to: the place, and the children that the entries make at its node, the first first
+abbrev pub Executed : Type 0
+Executed = Place × List Base
+
+-- nothing was executed, and no child was made
+abbrev pub childless : Place → Executed
+childless place = (place, [])
+
 -- the ballot in which a group's first leader runs from birth
 abbrev pub first_ballot : Core → Ballot
 first_ballot core = record { round = 1; node = core.first }

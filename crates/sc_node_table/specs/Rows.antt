@@ -19,7 +19,7 @@ use Rattle.sc_paxos_words.specs.Logs.{entry_at}
 use Rattle.sc_paxos_words.specs.Votes.{has_counted}
 use Rattle.sc_node_table.specs.declared.ReplicaInput.{ReplicaInput}
 use Rattle.sc_node_table.specs.declared.ReplicaInput.TheVariants as Given
-use Rattle.sc_node_table.specs.Replica.{ReplicaState, Place, name_of, next, members, settled, flying, is_idle, last_slot, installed_replica}
+use Rattle.sc_node_table.specs.Replica.{ReplicaState, Place, Executed, childless, name_of, next, members, settled, flying, is_idle, last_slot, installed_replica}
 use Rattle.sc_node_table.specs.Mails.{sent, sent_all, sent_others, answer_to}
 use Rattle.sc_node_table.specs.Queues.{call_of, without_call}
 use Rattle.sc_node_table.specs.Election.{elected, stopped}
@@ -61,12 +61,12 @@ unfoldable pub request_row : ℕ → ℕ → Op → Place → Place
 request_row client seq op (r, mails) = requested (refused_at r.group.core.gone op r) client seq op (r, mails)
 
 -- Learn: the next slot's command is executed; for a later one the slots from the next on are asked for
-unfoldable pub learn_row : ℕ → ℕ → Command → Place → Place
+unfoldable pub learn_row : ℕ → ℕ → Command → Place → Executed
 learn_row from slot command (r, mails) =
-    if nat_lt last_slot slot then (r, mails)
+    if nat_lt last_slot slot then childless (r, mails)
     else if slot == next r then executed false command (r, mails)
-    else if nat_lt (next r) slot then (r, sent r.me from (Ask (name_of r) (next r)) mails)
-    else (r, mails)
+    else if nat_lt (next r) slot then childless (r, sent r.me from (Ask (name_of r) (next r)) mails)
+    else childless (r, mails)
 
 -- the most entries that an Ask is answered with
 abbrev pub most_taught : ℕ
@@ -133,31 +133,31 @@ tick_row on drawer (r, mails) =
     else if is_idle r then pumped (wishing on drawer (reminded (r, told_last (entry_at (next r - 1) r.log) r mails)))
     else pumped (wishing on drawer (reminded (r, asked_again r (next r) r.sets mails)))
 
--- a mail from an actor; those of no row change nothing
-unfoldable pub mailed : ℕ → MailBody → Place → Place
-mailed from (Request group client seq op) place = request_row client seq op place
-mailed from (Prepare group ballot from_slot) place = prepare_row from ballot from_slot place
-mailed from (Promise group ballot reports) place = promise_row from ballot reports place
-mailed from (Accept group ballot slot command) place = accept_row from ballot slot command place
+-- a mail from an actor; those of no row change nothing. Only a vote and a learnt command execute
+unfoldable pub mailed : ℕ → MailBody → Place → Executed
+mailed from (Request group client seq op) place = childless (request_row client seq op place)
+mailed from (Prepare group ballot from_slot) place = childless (prepare_row from ballot from_slot place)
+mailed from (Promise group ballot reports) place = childless (promise_row from ballot reports place)
+mailed from (Accept group ballot slot command) place = childless (accept_row from ballot slot command place)
 mailed from (Accepted group ballot slot) place = accepted_row from ballot slot place
-mailed from (Nack group promised) place = nack_row promised place
+mailed from (Nack group promised) place = childless (nack_row promised place)
 mailed from (Learn group slot command) place = learn_row from slot command place
-mailed from (Ask group from_slot) place = ask_row from from_slot place
-mailed from (Install group slot base sets) place = install_row from slot base sets place
-mailed from (Answer group seq answer) place = place
-mailed from (TxPrepare tx offer) place = offer_row from tx offer place
-mailed from (TxVote tx coord part vote) place = vote_row from tx part vote place
-mailed from (TxOutcome tx part outcome) place = outcome_row tx outcome place
-mailed from (TxElsewhere tx coord hint) place = elsewhere_row from tx hint place
-mailed from (TxWatch tx watch) place = watch_row from tx watch place
-mailed from (TxWatched tx coord part vote) place = watched_row from tx part vote place
-mailed from (Told order result) place = place
+mailed from (Ask group from_slot) place = childless (ask_row from from_slot place)
+mailed from (Install group slot base sets) place = childless (install_row from slot base sets place)
+mailed from (Answer group seq answer) place = childless place
+mailed from (TxPrepare tx offer) place = childless (offer_row from tx offer place)
+mailed from (TxVote tx coord part vote) place = childless (vote_row from tx part vote place)
+mailed from (TxOutcome tx part outcome) place = childless (outcome_row tx outcome place)
+mailed from (TxElsewhere tx coord hint) place = childless (elsewhere_row from tx hint place)
+mailed from (TxWatch tx watch) place = childless (watch_row from tx watch place)
+mailed from (TxWatched tx coord part vote) place = childless (watched_row from tx part vote place)
+mailed from (Told order result) place = childless place
 
 -- a replica's table, with whether its node has a policy, and the names that its node draws
-unfoldable pub stepped : Bool → Drawer → ReplicaInput → Place → Place
+unfoldable pub stepped : Bool → Drawer → ReplicaInput → Place → Executed
 stepped on drawer (Given.Got mail) place = mailed mail.from mail.body place
-stepped on drawer Given.Tick place = tick_row on drawer place
-stepped on drawer (Given.Told line) place = ordered_row drawer line place
+stepped on drawer Given.Tick place = childless (tick_row on drawer place)
+stepped on drawer (Given.Told line) place = childless (ordered_row drawer line place)
 
 -- the names that are left after a step
 abbrev pub names_left : Bool → Drawer → ReplicaInput → ReplicaState → Drawer

@@ -1,5 +1,6 @@
 -- Execute, 1: what is told of splits, transactions and their decisions, and the mails by which a transaction goes on. All by the effect, and by the group before and after the entry.
 use Rattle.std.specs.Prelude.{ℕ, Bool, true, false, List, if◌then◌else◌, Option, Some, None}
+use Rattle.std.specs.Option.{option_map}
 use Rattle.sc_base.specs.declared.names.Draw.{Draw}
 use Rattle.sc_cmd.specs.declared.bodies.Body.{Body}
 use Rattle.sc_cmd.specs.declared.bodies.Body.TheVariants as At
@@ -11,7 +12,7 @@ use Rattle.sc_cmd.specs.declared.cores.Core.{Core}
 use Rattle.sc_cmd.specs.declared.cores.Lock.{Lock}
 use Rattle.sc_cmd.specs.declared.cores.Lock.TheVariants.{Free, Coordinating, Promised, Watching}
 use Rattle.sc_cmd.specs.declared.effects.Effect.{Effect}
-use Rattle.sc_cmd.specs.declared.effects.Effect.TheVariants as Was
+use Rattle.sc_cmd.specs.Effects.{result_of, refused_result, decided_in, cast_in, is_changed}
 use Rattle.sc_cmd.specs.declared.links.Link.{Link}
 use Rattle.sc_cmd.specs.declared.orders.ToldResult.{ToldResult}
 use Rattle.sc_cmd.specs.declared.orders.ToldResult.TheVariants as Tells
@@ -22,10 +23,10 @@ use Rattle.sc_cmd.specs.declared.votes.Past.{Past}
 use Rattle.sc_cmd.specs.declared.votes.Past.TheVariants as Cast
 use Rattle.sc_cmd.specs.declared.votes.Vote.{Vote}
 use Rattle.sc_cmd.specs.declared.votes.Vote.TheVariants as Says
+use Rattle.sc_cmd.specs.Cores.{is_alone}
 use Rattle.sc_mail.specs.declared.bodies.Mail.{Mail}
 use Rattle.sc_mail.specs.declared.bodies.MailBody.TheVariants.{TxOutcome}
 use Rattle.sc_machine_table.specs.Group.{Group}
-use Rattle.sc_machine_table.specs.Orders.{is_alone}
 use Rattle.sc_node_table.specs.Replica.{Place}
 use Rattle.sc_node_table.specs.Mails.{sent_all, told_order}
 use Rattle.sc_node_table.specs.declared.Before.{Before}
@@ -63,34 +64,6 @@ before_of core = before_in core.lock core
 
 -- ---- what the desk is told
 
--- why an order was refused when it was executed
-abbrev pub refused_result : Effect → Option ToldResult
-refused_result (Was.Refused why) = Some (Tells.Refused why)
-refused_result (Was.Done reply) = None
-refused_result (Was.Again reply) = None
-refused_result (Was.Stale last) = None
-refused_result (Was.NotMine arc succ) = None
-refused_result (Was.Gone into) = None
-refused_result (Was.NoEffect tx) = None
-refused_result Was.Idle = None
-refused_result Was.Changed = None
-refused_result (Was.Voted vote) = None
-refused_result (Was.Decided outcome) = None
-
--- of a split at once, that it is done
-abbrev pub split_result : Effect → Option ToldResult
-split_result Was.Changed = Some Tells.Done
-split_result (Was.Refused why) = Some (Tells.Refused why)
-split_result (Was.Done reply) = None
-split_result (Was.Again reply) = None
-split_result (Was.Stale last) = None
-split_result (Was.NotMine arc succ) = None
-split_result (Was.Gone into) = None
-split_result (Was.NoEffect tx) = None
-split_result Was.Idle = None
-split_result (Was.Voted vote) = None
-split_result (Was.Decided outcome) = None
-
 -- what a transaction came to
 abbrev pub outcome_result : Outcome → ToldResult
 outcome_result Is.Abort = Tells.Aborted
@@ -101,21 +74,11 @@ outcome_result Is.Divided = Tells.Committed
 
 -- .. where the entry decided it
 abbrev pub decided_result : Effect → Option ToldResult
-decided_result (Was.Decided outcome) = Some (outcome_result outcome)
-decided_result (Was.Done reply) = None
-decided_result (Was.Again reply) = None
-decided_result (Was.Stale last) = None
-decided_result (Was.NotMine arc succ) = None
-decided_result (Was.Gone into) = None
-decided_result (Was.NoEffect tx) = None
-decided_result Was.Idle = None
-decided_result Was.Changed = None
-decided_result (Was.Voted vote) = None
-decided_result (Was.Refused why) = None
+decided_result effect = option_map outcome_result (decided_in effect)
 
 -- what is told of a split or a transaction, by whether the group stood alone: of one that only begins nothing, but why it is refused; of its decision, what it came to
 abbrev pub begun_result : Bool → Effect → Command → Option ToldResult
-begun_result alone effect (Split at child order) = if alone then split_result effect else refused_result effect
+begun_result alone effect (Split at child order) = if alone then result_of effect else refused_result effect
 begun_result alone effect (Begin tx body order) = refused_result effect
 begun_result alone effect (RecordVote tx vote by) = decided_result effect
 begun_result alone effect (GiveUp tx) = decided_result effect
@@ -154,47 +117,9 @@ told_begun me before effect command mails = told_result me (begun_result before.
 
 -- ---- how a transaction goes on
 
--- the outcome that an entry decided
-abbrev pub decided_in : Effect → Option Outcome
-decided_in (Was.Decided outcome) = Some outcome
-decided_in (Was.Done reply) = None
-decided_in (Was.Again reply) = None
-decided_in (Was.Stale last) = None
-decided_in (Was.NotMine arc succ) = None
-decided_in (Was.Gone into) = None
-decided_in (Was.NoEffect tx) = None
-decided_in Was.Idle = None
-decided_in Was.Changed = None
-decided_in (Was.Voted vote) = None
-decided_in (Was.Refused why) = None
-
--- the vote that an entry cast
-abbrev pub cast_in : Effect → Option Past
-cast_in (Was.Voted vote) = Some vote
-cast_in (Was.Done reply) = None
-cast_in (Was.Again reply) = None
-cast_in (Was.Stale last) = None
-cast_in (Was.NotMine arc succ) = None
-cast_in (Was.Gone into) = None
-cast_in (Was.NoEffect tx) = None
-cast_in Was.Idle = None
-cast_in Was.Changed = None
-cast_in (Was.Decided outcome) = None
-cast_in (Was.Refused why) = None
-
 -- a group that has begun, or has heard its participant, asks
 abbrev pub asked_on : Effect → ℕ → Core → List Mail → List Mail
-asked_on Was.Changed me core mails = asked_first core.lock me core mails
-asked_on (Was.Done reply) me core mails = mails
-asked_on (Was.Again reply) me core mails = mails
-asked_on (Was.Stale last) me core mails = mails
-asked_on (Was.NotMine arc succ) me core mails = mails
-asked_on (Was.Gone into) me core mails = mails
-asked_on (Was.NoEffect tx) me core mails = mails
-asked_on Was.Idle me core mails = mails
-asked_on (Was.Voted vote) me core mails = mails
-asked_on (Was.Decided outcome) me core mails = mails
-asked_on (Was.Refused why) me core mails = mails
+asked_on effect me core mails = if is_changed effect then asked_first core.lock me core mails else mails
 
 -- the vote goes to the node that asked
 abbrev pub vote_sent : Option Past → ℕ → Group → Draw → Offer → List Mail → List Mail

@@ -17,7 +17,7 @@ use Rattle.sc_paxos_words.specs.Acceptors.{AcceptorState}
 use Rattle.sc_paxos_words.specs.Leaders.{LeaderState, promise_counted}
 use Rattle.sc_paxos_words.specs.Votes.{counted}
 use Rattle.sc_node_table.specs.Slots.{with_slot}
-use Rattle.sc_node_table.specs.Replica.{ReplicaState, Place, name_of, next, set_at}
+use Rattle.sc_node_table.specs.Replica.{ReplicaState, Place, Executed, childless, name_of, next, set_at}
 use Rattle.sc_node_table.specs.Mails.{sent}
 use Rattle.sc_node_table.specs.Election.{saw}
 use Rattle.sc_node_table.specs.Execute.{executed, has_room}
@@ -72,24 +72,24 @@ promise_row from ballot reports (r, mails) =
     if leads ballot r then pumped (record r { leader = (promise_counted from ballot reports r.leader).1 }, mails) else (r, mails)
 
 -- a command that became ready is executed where its slot is the next one
-unfoldable pub readied : ℕ → Command → Place → Place
+unfoldable pub readied : ℕ → Command → Place → Executed
 readied slot command (r, mails) =
     let after : ReplicaState = record r { ready = with_slot r.ready slot command } in
-    if (slot == next r) && has_room r then executed true command (after, mails) else (after, mails)
+    if (slot == next r) && has_room r then executed true command (after, mails) else childless (after, mails)
 
 -- the count after a vote
-abbrev pub vote_tallied : ℕ → Counted Command × LeaderState Command → Place → Place
+abbrev pub vote_tallied : ℕ → Counted Command × LeaderState Command → Place → Executed
 vote_tallied slot (Chosen command, leader) (r, mails) = readied slot command (record r { leader = leader }, mails)
-vote_tallied slot (NotYet count, leader) (r, mails) = (record r { leader = leader }, mails)
+vote_tallied slot (NotYet count, leader) (r, mails) = childless (record r { leader = leader }, mails)
 
 -- a vote at an open slot is counted among that slot's members
-abbrev pub voted : ℕ → Ballot → ℕ → Option (List ℕ) → Place → Place
-voted from ballot slot None place = place
+abbrev pub voted : ℕ → Ballot → ℕ → Option (List ℕ) → Place → Executed
+voted from ballot slot None place = childless place
 voted from ballot slot (Some set) (r, mails) = vote_tallied slot (counted from ballot slot set r.leader) (r, mails)
 
 -- Accepted
-unfoldable pub accepted_row : ℕ → Ballot → ℕ → Place → Place
-accepted_row from ballot slot (r, mails) = if leads ballot r then voted from ballot slot (set_at slot r) (r, mails) else (r, mails)
+unfoldable pub accepted_row : ℕ → Ballot → ℕ → Place → Executed
+accepted_row from ballot slot (r, mails) = if leads ballot r then voted from ballot slot (set_at slot r) (r, mails) else childless (r, mails)
 
 -- Nack
 unfoldable pub nack_row : Ballot → Place → Place

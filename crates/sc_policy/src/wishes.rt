@@ -4,7 +4,7 @@ ghost use Rattle.sc_policy.specs.Wishes.{has_neighbour, middle_of, positions, mi
 
 use crate::bodies::Body0;
 use sc_base::{Key, Pairs, RingArc, Value};
-use sc_cmd::{Core, Order, same_draw};
+use sc_cmd::{Core, Order};
 
 /// More members are too many.
 const MOST_MEMBERS: u8 = 7;
@@ -53,7 +53,7 @@ fn wants_split(core: &Core) -> bool
 fn has_neighbour(core: &Core) -> bool
     ensures { result ≡ has_neighbour core.now }
 {
-    !same_draw(core.succ.group, core.id)
+    !core.is_alone()
 }
 
 // The position in the middle.

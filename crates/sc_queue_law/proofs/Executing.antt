@@ -87,6 +87,6 @@ one_keeps counted command (r, mails) k =
     let place5 : Place = landed counted (next r) command place4 in
     looked_keeps (left place5) (left_keeps place5 (landed_keeps counted (next r) command place4 k4))
 
-pub executed_keeps : (counted : Bool) (command : Command) (place : Place) → Keeps place → Keeps (executed counted command place)
+pub executed_keeps : (counted : Bool) (command : Command) (place : Place) → Keeps place → Keeps (executed counted command place).0
 executed_keeps counted command place k =
     executed_place Keeps (λ _. Unit {0}) (λ p q. tt) (λ x p d q. one_keeps true x p q) pumped_keeps counted command place (one_keeps counted command place k)

@@ -15,15 +15,14 @@ use Rattle.sc_mail.specs.declared.bodies.Mail.{Mail}
 use Rattle.sc_mail.specs.declared.bodies.MailBody.{MailBody}
 use Rattle.sc_mail.specs.declared.bodies.MailBody.TheVariants.{Install}
 use Rattle.sc_member.specs.Roster.{is_member}
-use Rattle.sc_node_table.specs.Births.{mailed_children}
 use Rattle.sc_node_table.specs.Node.{NodeState, born_replicas, born_node, replica_of, with_replica, is_before, with_new, group_of_mail, with_made, unknown, may_come, with_born, with_children, taken_by, routed, on_mail, group_of_order, ordered_of, ticked}
 use Rattle.sc_node_table.specs.Ordering.{ordered_row}
 use Rattle.sc_node_table.specs.Policy.{names_after_tick}
-use Rattle.sc_node_table.specs.Replica.{ReplicaState, Place, name_of, born_replica, last_slot}
+use Rattle.sc_node_table.specs.Replica.{ReplicaState, Place, Executed, name_of, born_replica, last_slot}
 use Rattle.sc_node_table.specs.Rows.{tick_row, made_by, mailed}
 use Rattle.sc_node_table.specs.Slots.{slots_ahead}
 use Rattle.sc_sound.specs.Players.{Player, player_table}
-use Rattle.sc_sound.specs.declared.roles.Role.TheVariants.{Node, Client}
+use Rattle.sc_mail.specs.declared.roles.Role.TheVariants.{Node, Client}
 use Rattle.sc_queue_law.specs.OneCall.{KeepsOneCall, EachKeepsOneCall, StepsKeepOneCall, QueuesKeepOneCall}
 use Rattle.sc_queue_law.proofs.Lists.{one_none}
 use Rattle.sc_law_lemmas.proofs.Ways.{either_way}
@@ -78,8 +77,8 @@ children_keep (child ∷ children) node k = children_keep children (with_born ch
 taken_keeps : (o : Option ReplicaState) (group : Draw) (from : ℕ) (body : MailBody) (node : NodeState) → Found o → EachKeepsOneCall node → Step (taken_by o group from body node)
 taken_keeps None group from body node f k = unknown_keeps from body node k
 taken_keeps (Some r) group from body node f k =
-    let after : Place = mailed from body (r, []) in
-    children_keep (mailed_children from body (r, []) []) (record node { replicas = with_replica group after.0 node.replicas }) (put_keeps group after.0 node.replicas (mailed_keeps from body (r, []) f) k)
+    let after : Executed = mailed from body (r, []) in
+    children_keep after.1 (record node { replicas = with_replica group after.0.0 node.replicas }) (put_keeps group after.0.0 node.replicas (mailed_keeps from body (r, []) f) k)
 
 routed_keeps : (o : Option Draw) (from : ℕ) (body : MailBody) (node : NodeState) → EachKeepsOneCall node → Step (routed o from body node)
 routed_keeps None from body node k = k

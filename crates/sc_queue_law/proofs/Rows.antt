@@ -48,7 +48,7 @@ use Rattle.sc_node_table.specs.Policy.{wished_line, with_command, with_line, wis
 use Rattle.sc_node_table.specs.Pump.{pumped}
 use Rattle.sc_node_table.specs.Queues.{call_of, without_call}
 use Rattle.sc_node_table.specs.Reminders.{patience, one_tick_more, waited_in, reminded}
-use Rattle.sc_node_table.specs.Replica.{ReplicaState, Place, next, members, settled, is_idle, set_at, last_slot, forgotten, installed_replica}
+use Rattle.sc_node_table.specs.Replica.{ReplicaState, Place, Executed, childless, next, members, settled, is_idle, set_at, last_slot, forgotten, installed_replica}
 use Rattle.sc_node_table.specs.Rows.{refused_at, queued, requested, request_row, learn_row, ask_row, looked_up, took_over, install_row, made_by, asked_again, told_last, tick_row, mailed}
 use Rattle.sc_node_table.specs.Slots.{with_slot}
 use Rattle.sc_node_table.specs.Transactions.{noted_outcome, standing_vote, sent_elsewhere, offered_by, offer_row, watched_by, watch_row, awaits_vote, awaits_watch, vote_queued, vote_met, vote_row, watch_queued, watch_met, watched_row, elsewhere_row, is_bound, outcome_row}
@@ -115,23 +115,27 @@ unfolding promise_row
 promise_row_keeps from ballot reports (r, mails) k =
     either_way Keeps (leads ballot r) _ _ (pumped_keeps (record r { leader = (promise_counted from ballot reports r.leader).1 }, mails) k) k
 
-readied_keeps : (slot : ℕ) (command : Command) (place : Place) → Keeps place → Keeps (readied slot command place)
+-- .. with the children that a row made
+abbrev KeepsAfter : Executed → Type 0
+KeepsAfter step = Keeps step.0
+
+readied_keeps : (slot : ℕ) (command : Command) (place : Place) → Keeps place → Keeps (readied slot command place).0
 unfolding readied
 readied_keeps slot command (r, mails) k =
     let after : ReplicaState = record r { ready = with_slot r.ready slot command } in
-    either_way Keeps (eqb slot (next r) && has_room r) (executed true command (after, mails)) (after, mails) (executed_keeps true command (after, mails) k) k
+    either_way KeepsAfter (eqb slot (next r) && has_room r) (executed true command (after, mails)) (childless (after, mails)) (executed_keeps true command (after, mails) k) k
 
-tallied_keeps : (slot : ℕ) (p : Counted Command × LeaderState Command) (place : Place) → Keeps place → Keeps (vote_tallied slot p place)
+tallied_keeps : (slot : ℕ) (p : Counted Command × LeaderState Command) (place : Place) → Keeps place → Keeps (vote_tallied slot p place).0
 tallied_keeps slot (Chosen command, leader) (r, mails) k = readied_keeps slot command (record r { leader = leader }, mails) k
 tallied_keeps slot (NotYet count, leader) (r, mails) k = k
 
-voted_keeps : (from : ℕ) (ballot : Ballot) (slot : ℕ) (set : Option (List ℕ)) (place : Place) → Keeps place → Keeps (voted from ballot slot set place)
+voted_keeps : (from : ℕ) (ballot : Ballot) (slot : ℕ) (set : Option (List ℕ)) (place : Place) → Keeps place → Keeps (voted from ballot slot set place).0
 voted_keeps from ballot slot None place k = k
 voted_keeps from ballot slot (Some set) (r, mails) k = tallied_keeps slot (counted from ballot slot set r.leader) (r, mails) k
 
-accepted_keeps : (from : ℕ) (ballot : Ballot) (slot : ℕ) (place : Place) → Keeps place → Keeps (accepted_row from ballot slot place)
+accepted_keeps : (from : ℕ) (ballot : Ballot) (slot : ℕ) (place : Place) → Keeps place → Keeps (accepted_row from ballot slot place).0
 unfolding accepted_row
-accepted_keeps from ballot slot (r, mails) k = either_way Keeps (leads ballot r) _ _ (voted_keeps from ballot slot (set_at slot r) (r, mails) k) k
+accepted_keeps from ballot slot (r, mails) k = either_way KeepsAfter (leads ballot r) _ _ (voted_keeps from ballot slot (set_at slot r) (r, mails) k) k
 
 nack_keeps : (ballot : Ballot) (place : Place) → Keeps place → Keeps (nack_row ballot place)
 unfolding nack_row
@@ -139,10 +143,10 @@ nack_keeps ballot place k = saw_keeps ballot place k
 
 -- ---- Learn, Ask and Install
 
-learn_keeps : (from slot : ℕ) (command : Command) (place : Place) → Keeps place → Keeps (learn_row from slot command place)
+learn_keeps : (from slot : ℕ) (command : Command) (place : Place) → Keeps place → Keeps (learn_row from slot command place).0
 unfolding learn_row
 learn_keeps from slot command (r, mails) k =
-    either_way Keeps (nat_lt last_slot slot) _ _ k (either_way Keeps (eqb slot (next r)) _ _ (executed_keeps false command (r, mails) k) (either_way Keeps (nat_lt (next r) slot) _ _ k k))
+    either_way KeepsAfter (nat_lt last_slot slot) _ _ k (either_way KeepsAfter (eqb slot (next r)) _ _ (executed_keeps false command (r, mails) k) (either_way KeepsAfter (nat_lt (next r) slot) _ _ k k))
 
 ask_keeps : (from slot : ℕ) (place : Place) → Keeps place → Keeps (ask_row from slot place)
 ask_keeps from slot (r, mails) k = asked_place Keeps from slot (r, mails) k (sent_keeps from (r, mails) k) k
@@ -277,7 +281,7 @@ tick_keeps on drawer (r, mails) k =
 
 -- ---- all mail
 
-pub mailed_keeps : (from : ℕ) (body : MailBody) (place : Place) → Keeps place → Keeps (mailed from body place)
+pub mailed_keeps : (from : ℕ) (body : MailBody) (place : Place) → Keeps place → Keeps (mailed from body place).0
 unfolding mailed
 mailed_keeps from (Request group client seq op) place k = request_keeps client seq op place k
 mailed_keeps from (Prepare group ballot from_slot) place k = prepare_keeps from ballot from_slot place k

@@ -12,7 +12,7 @@ use Rattle.sc_node_table.specs.Queues.{is_call_of}
 use Rattle.sc_node_table.specs.Replica.{ReplicaState}
 use Rattle.sc_scenario.specs.declared.scenarios.Scenario.{Scenario}
 use Rattle.sc_sound.specs.Players.{Ahead, node_seat, player_table}
-use Rattle.sc_sound.specs.declared.roles.Role.TheVariants.{Node}
+use Rattle.sc_mail.specs.declared.roles.Role.TheVariants.{Node}
 
 -- how many of these commands are calls of a client
 abbrev pub calls_of : ℕ → List Command → ℕ

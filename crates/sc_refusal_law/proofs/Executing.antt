@@ -33,14 +33,14 @@ use Rattle.sc_machine_table.proofs.LogLemmas.{state_push}
 use Rattle.sc_paxos_words.specs.Logs.{LogState}
 use Rattle.sc_node_table.specs.declared.Before.{Before}
 use Rattle.sc_node_table.specs.Election.{elected, ended, stopped}
-use Rattle.sc_node_table.specs.Execute.{entered, answer_of, told_call, order_result, told_effect, announced, learnt_to, welcomed, slot_lost, landed, left_gone, left, is_among, looked_for, looked, executed_one, has_room, next_ready, executed_ready, all_ready, executed}
+use Rattle.sc_node_table.specs.Execute.{entered, answer_of, told_call, order_result, told_effect, announced, learnt_to, welcomed, slot_lost, landed, left_gone, left, is_among, looked_for, looked, executed_one, next_child, has_room, next_ready, ending, executed_ready, all_ready, executed}
 use Rattle.sc_node_table.specs.Mails.{sent_others, order_number}
-use Rattle.sc_node_table.specs.Pump.{serves_calls, pumped}
+use Rattle.sc_node_table.specs.Pump.{serves_calls}
 use Rattle.sc_node_table.specs.Queues.{put_back}
-use Rattle.sc_node_table.specs.Replica.{ReplicaState, Place, name_of, next, members, flying, forgotten}
+use Rattle.sc_node_table.specs.Replica.{ReplicaState, Place, Executed, childless, name_of, next, members, flying, forgotten}
 use Rattle.sc_node_table.specs.Slots.{at_slot}
 use Rattle.sc_node_table.specs.Spoken.{before_of, spoken}
-use Rattle.sc_draws_law.proofs.Lists.{opt_slot, slot_without, flight_without}
+use Rattle.sc_names_law.proofs.Lists.{opt_slot, slot_without, flight_without}
 use Rattle.sc_law_lemmas.proofs.Places.{welcomed_place, cleared}
 use Rattle.sc_law_lemmas.proofs.Ways.{either_way}
 use Rattle.sc_refusal_law.specs.Causes.{IsRefusedAtEntry, RefusesCall, log_with, log_after}
@@ -337,23 +337,27 @@ module _ (start : ReplicaState) (A : Command → Type 0) (G : Draw → Type 0) (
   next_by true o command e = (refl, e)
   next_by false o command e = cc
 
-  ready_one : (es : List (ℕ × Command)) (place : Place) (o : Option Command) → next_ready place.0 ≡ o → Past place → ((p : Place) → Past p → Fine start A G W Q (executed_ready es p))
-      → Fine start A G W Q (elim o [ None ↦ place | Some command ↦ pumped (executed_ready es (executed_one true command place)) ])
+  -- .. with the children that are made
+  abbrev FineAfter : Executed → Type 0
+  FineAfter step = Fine start A G W Q step.0
+
+  ready_one : (es : List (ℕ × Command)) (place : Place) (o : Option Command) → next_ready place.0 ≡ o → Past place → ((p : Place) → Past p → Fine start A G W Q (executed_ready es p).0)
+      → FineAfter (elim o [ None ↦ childless place | Some command ↦ ending (next_child command place.0) (executed_ready es (executed_one true command place)) ])
   ready_one es place None e p more = past_fine place p
   ready_one es place (Some command) e p more =
       let found = next_by (place.0.running && has_room place.0) (at_slot place.0.ready (next place.0)) command e in
       let f : F place = goes_on place p (and_parts place.0.running (has_room place.0) found.0).0 in
       let kept : Kept A G command = subst (KeptOne A G) found.1 (opt_slot (Kept A G) place.0.ready (next place.0) f.0.ready) in
-      pumped_still start A G W Q (executed_ready es (executed_one true command place)) (more (executed_one true command place) (one_fine true command place (λ _. kept) (λ other flies counted. cc) f))
+      pumped_still start A G W Q (executed_ready es (executed_one true command place)).0 (more (executed_one true command place) (one_fine true command place (λ _. kept) (λ other flies counted. cc) f))
 
-  ready_fine : (es : List (ℕ × Command)) (place : Place) → Past place → Fine start A G W Q (executed_ready es place)
+  ready_fine : (es : List (ℕ × Command)) (place : Place) → Past place → Fine start A G W Q (executed_ready es place).0
   unfolding executed_ready
   ready_fine [] place p = past_fine place p
   ready_fine (e ∷ es) place p = ready_one es place (next_ready place.0) refl p (λ q past. ready_fine es q past)
 
   -- the whole of an execution
-  pub executed_fine : (counted : Bool) (command : Command) (place : Place) → (counted ≡ true → Kept A G command) → MayLose counted command place.0 → F place → Fine start A G W Q (executed counted command place)
+  pub executed_fine : (counted : Bool) (command : Command) (place : Place) → (counted ≡ true → Kept A G command) → MayLose counted command place.0 → F place → Fine start A G W Q (executed counted command place).0
   unfolding executed
   executed_fine counted command place k d f =
       let after : Place = executed_one counted command place in
-      pumped_still start A G W Q (all_ready after) (ready_fine after.0.ready after (one_fine counted command place k d f))
+      pumped_still start A G W Q (all_ready after).0 (ready_fine after.0.ready after (one_fine counted command place k d f))

@@ -65,7 +65,7 @@ module _ (r : ReplicaState) (W : Ballot → Draw → ℕ) (Q : Type 0) (numbered
     loses group slot command e is (Watched tx watch) flies apart = tt
     loses group slot command e is (RecordWatch tx vote by) flies apart = tt
 
-    mailed_shown : (body : MailBody) → body ≡ mail.body → S got (mailed mail.from body (r, []))
+    mailed_shown : (body : MailBody) → body ≡ mail.body → S got (mailed mail.from body (r, [])).0
     unfolding mailed
     mailed_shown (Request group client seq op) e =
         show (request_row client seq op (r, [])) (request_fine r A1 G1 W Q client seq op r [] (inr (subst (λ b. IsBroughtBy b (Call client seq op)) e refl)) begin)
@@ -92,7 +92,7 @@ module _ (r : ReplicaState) (W : Ballot → Draw → ℕ) (Q : Type 0) (numbered
   abbrev pub Counts : ReplicaInput → Type 0
   Counts input = input ≡ Given.Tick → settled r ≡ true → TicksOn r (A r Tick W Q within) (G r Tick W Q within) W Q r
 
-  pub step_shown : (on : Bool) (drawer : Drawer) (input : ReplicaInput) → Counts input → S (at_node input) (stepped on drawer input (r, []))
+  pub step_shown : (on : Bool) (drawer : Drawer) (input : ReplicaInput) → Counts input → S (at_node input) (stepped on drawer input (r, [])).0
   unfolding stepped
   step_shown on drawer (Given.Got mail) counts = mailed_shown mail mail.body refl
   step_shown on drawer Given.Tick counts =

@@ -32,7 +32,7 @@ use Rattle.sc_paxos_words.proofs.ListLemmas.{Each-among, Each-append, Each-weake
 use Rattle.sc_scenario.specs.declared.scenarios.Asks.{Asks}
 use Rattle.sc_scenario.specs.declared.scenarios.Scenario.{Scenario}
 use Rattle.sc_sound.specs.Players.{Ahead, Lawful, Player, births, client_seat, client_seats, node_seat, player_table, route_of, schedule, system_of}
-use Rattle.sc_sound.specs.declared.roles.Role.TheVariants.{Node, Client}
+use Rattle.sc_mail.specs.declared.roles.Role.TheVariants.{Node, Client}
 use Rattle.sc_queue_law.specs.OneCall.{QueuesKeepOneCall}
 use Rattle.sc_refusal_law.specs.Causes.{MayGiveUp, IsImpatient}
 use Rattle.sc_refusal_law.specs.ClientTurns.{KeepsTurn}

@@ -14,8 +14,8 @@ use Rattle.sc_paxos_words.specs.Leaders.{flight_at, must, must_without}
 use Rattle.sc_node_table.specs.Queues.{call_of, is_call_of, without_call, call_before, put_back}
 use Rattle.sc_node_table.specs.Replica.{ReplicaState, flying, taken_at, listed, taken_from, open_slots, under_way}
 use Rattle.sc_node_table.specs.Slots.{at_slot}
-use Rattle.sc_draws_law.specs.Names.{Opt}
-use Rattle.sc_draws_law.proofs.Lists.{opt_find, opt_map, opt_either, opt_slot, opt_choice}
+use Rattle.sc_names_law.specs.Names.{Opt}
+use Rattle.sc_names_law.proofs.Lists.{opt_find, opt_map, opt_either, opt_slot, opt_choice}
 use Rattle.sc_law_lemmas.proofs.Ways.{either_way}
 
 module _ (A : Command → Type 0) (G : Draw → Type 0) where

@@ -30,7 +30,8 @@ use Rattle.sc_cmd.specs.declared.votes.Vote.{Vote}
 use Rattle.sc_cmd.specs.declared.votes.Vote.TheVariants as Vows
 use Rattle.sc_machine_table.specs.Group.{Group}
 use Rattle.sc_machine_table.specs.Machine.{served_by_note, served, called, ordered_by, split_group, applied}
-use Rattle.sc_machine_table.specs.Orders.{locked_in, is_alone, refusal_of, ordered}
+use Rattle.sc_cmd.specs.Cores.{is_alone}
+use Rattle.sc_machine_table.specs.Orders.{locked_in, refusal_of, ordered}
 use Rattle.sc_machine_table.specs.Plans.{Plan, may_merge, closing_group, closing_plan, merged_route, merged_group, giving_plan, taking_plan, can_repart, giving_group, taking_group, part_gift, has_key_of, taken, can_migrate, migrated_group, can_split}
 use Rattle.sc_machine_table.specs.Splits.{left_group}
 use Rattle.sc_base.specs.Arc.{holds}

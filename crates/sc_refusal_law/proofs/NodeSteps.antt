@@ -25,7 +25,6 @@ use Rattle.sc_member.specs.Roster.{is_member, least_of}
 use Rattle.sc_paxos_words.proofs.ListLemmas.{Each-append, Each-among, Each-from, Each-weaker, find_found}
 use Rattle.sc_node_table.specs.declared.ReplicaInput.{ReplicaInput}
 use Rattle.sc_node_table.specs.declared.ReplicaInput.TheVariants as Given
-use Rattle.sc_node_table.specs.Births.{mailed_children}
 use Rattle.sc_node_table.specs.Election.{elected}
 use Rattle.sc_node_table.specs.Execute.{is_among, looked_for, looked}
 use Rattle.sc_node_table.specs.Install.{named}
@@ -176,14 +175,14 @@ module _ (me : ℕ) (W W' : Draw → Ballot → Draw → ℕ) (grows : (name : D
   still_keeps r k = record { me_is = k.me_is; patient = λ runs. (let few = k.patient runs in let more = more_allowed (name_of r) r.leader.ballot r.group.core.lock in omega (arith, few, more)) }
 
   -- a replica's own step keeps it
-  step_keeps : (on : Bool) (drawer : Drawer) (r : ReplicaState) (input : ReplicaInput) → 1 ≤ me → (input ≡ Given.Tick → CountsTick W W' r) → Keeps me W r → Keeps me W' (stepped on drawer input (r, [])).0
+  step_keeps : (on : Bool) (drawer : Drawer) (r : ReplicaState) (input : ReplicaInput) → 1 ≤ me → (input ≡ Given.Tick → CountsTick W W' r) → Keeps me W r → Keeps me W' (stepped on drawer input (r, [])).0.0
   step_keeps on drawer r input some counts k =
       let is = k.me_is in
       let now = still_keeps r k in
       let shown = step_shown r (W' (name_of r)) ⊤ (omega (arith, some, is)) (λ q runs. now.patient runs) on drawer input (λ tick leads q tx body order heard lock. (
       let few : r.waits ≤ W (name_of r) r.leader.ballot tx = subst (λ (l : Lock). r.waits ≤ allowed (W (name_of r)) r.leader.ballot l) lock (k.patient (running_of r leads)) in
       let more = counts tick leads tx body order heard lock in omega (arith, few, more))) in
-      let after : ReplicaState = (stepped on drawer input (r, [])).0 in
+      let after : ReplicaState = (stepped on drawer input (r, [])).0.0 in
       record { me_is = shown.me_is ∙ is; patient = λ runs. subst (λ (name : Draw). after.waits ≤ allowed (W' name) after.leader.ballot after.group.core.lock) (sym shown.name_is) (shown.patient tt runs) }
 
   -- so is one that is made
@@ -210,9 +209,9 @@ module _ (me : ℕ) (W W' : Draw → Ballot → Draw → ℕ) (grows : (name : D
     taken_keep mail None group e = unknown_keep mail.from mail.body
     taken_keep mail (Some r) group e =
         let stood : Among r node.replicas = (find_found (λ (other : ReplicaState). same_draw (name_of other) group) node.replicas r e).0 in
-        let new : Place = mailed mail.from mail.body (r, []) in
+        let new : Place = (mailed mail.from mail.body (r, [])).0 in
         let kept : Keeps me W' new.0 = step_keeps node.policy node.draws r (Given.Got mail) some (λ tick. cc) (Each-among (Keeps me W) node.replicas r keep stood) in
-        let children : List Base = mailed_children mail.from mail.body (r, []) [] in
+        let children : List Base = (mailed mail.from mail.body (r, [])).1 in
         let put : NodeState = record node { replicas = with_replica group new.0 node.replicas } in
         children_each (Keeps me W') node.me (λ child. new_keeps (born_replica slots_ahead node.me child) own refl) children put refl (put_each (Keeps me W') group new.0 node.replicas kept (still_all node.replicas keep))
 
@@ -243,7 +242,7 @@ module _ (me : ℕ) (W W' : Draw → Ballot → Draw → ℕ) (grows : (name : D
 module _ (node : NodeState) (numbered : Each (λ (r : ReplicaState). 1 ≤ r.me) node.replicas) (after : NodeState) where
   -- a replica's own step
   abbrev own_step : Drawer → ReplicaInput → ReplicaState → Place
-  own_step drawer input r = stepped node.policy drawer input (r, [])
+  own_step drawer input r = (stepped node.policy drawer input (r, [])).0
 
   abbrev May : Input Mail OrderLine → ReplicaState → Type 0
   May input later = (tx : Draw) → Among (GiveUp tx) later.acts → MayGiveUpAt counted_ticks node after input later tx
@@ -313,8 +312,8 @@ module _ (node : NodeState) (numbered : Each (λ (r : ReplicaState). 1 ≤ r.me)
       }
   taken_causes mail (Some r) group named e =
       let input = Given.Got mail in
-      let new : Place = mailed mail.from mail.body (r, []) in
-      let children : List Base = mailed_children mail.from mail.body (r, []) [] in
+      let new : Place = (mailed mail.from mail.body (r, [])).0 in
+      let children : List Base = (mailed mail.from mail.body (r, [])).1 in
       let put : NodeState = record node { replicas = with_replica group new.0 node.replicas } in
       let after : NodeState = with_children children put in
       let stood : Among r node.replicas = (find_found (λ (other : ReplicaState). same_draw (name_of other) group) node.replicas r e).0 in

@@ -30,14 +30,13 @@ use Rattle.sc_member.specs.Roster.{is_member}
 use Rattle.sc_mail.specs.declared.bodies.MailBody.{MailBody}
 use Rattle.sc_mail.specs.declared.bodies.MailBody.TheVariants.{Install}
 use Rattle.sc_client_table.specs.Client.{Client as ClientState}
-use Rattle.sc_node_table.specs.Births.{mailed_children}
 use Rattle.sc_node_table.specs.Rows.{made_by, mailed}
 use Rattle.sc_node_table.specs.Slots.{slots_ahead}
 use Rattle.sc_node_table.specs.Node.{NodeState, born_replicas, node_table, replica_of, with_replica, with_new, with_born, with_children, with_made, unknown, taken_by, routed, may_come, group_of_mail, ordered_of, group_of_order}
 use Rattle.sc_node_table.specs.Replica.{ReplicaState, born_replica, name_of, settled, last_slot}
 use Rattle.sc_scenario.specs.declared.scenarios.Scenario.{Scenario}
 use Rattle.sc_sound.specs.Players.{Ahead, Player, node_seat, player_table}
-use Rattle.sc_sound.specs.declared.roles.Role.TheVariants.{Node, Client}
+use Rattle.sc_mail.specs.declared.roles.Role.TheVariants.{Node, Client}
 use Rattle.sc_law_lemmas.proofs.Ways.{either_way}
 use Rattle.sc_refusal_law.specs.Journals.{Rows, coordinates, node_coordinates, is_tick, is_counted, ticks_from}
 use Rattle.sc_refusal_law.proofs.NodeSteps.{Keeps, still_all, node_keeps}
@@ -125,7 +124,7 @@ me_unknown from _ node = refl
 
 me_taken : (mail : Mail) (o : Option ReplicaState) (group : Draw) (node : NodeState) → Own node (taken_by o group mail.from mail.body node)
 me_taken mail None group node = me_unknown mail.from mail.body node
-me_taken mail (Some r) group node = me_children (mailed_children mail.from mail.body (r, []) []) (record node { replicas = with_replica group (mailed mail.from mail.body (r, [])).0 node.replicas })
+me_taken mail (Some r) group node = me_children (mailed mail.from mail.body (r, [])).1 (record node { replicas = with_replica group (mailed mail.from mail.body (r, [])).0.0 node.replicas })
 
 me_routed : (mail : Mail) (o : Option Draw) (node : NodeState) → Own node (routed o mail.from mail.body node)
 me_routed mail None node = refl

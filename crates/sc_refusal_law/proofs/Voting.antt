@@ -25,7 +25,7 @@ use Rattle.sc_paxos_words.specs.Acceptors.{AcceptorState}
 use Rattle.sc_paxos_words.specs.Leaders.{LeaderState, flight_at, promise_counted}
 use Rattle.sc_paxos_words.specs.Votes.{kept_voters, voters_after, tallied, vote_at, counted}
 use Rattle.sc_node_table.specs.Slots.{with_slot}
-use Rattle.sc_node_table.specs.Replica.{ReplicaState, Place, name_of, next, set_at, last_slot}
+use Rattle.sc_node_table.specs.Replica.{ReplicaState, Place, Executed, childless, name_of, next, set_at, last_slot}
 use Rattle.sc_node_table.specs.Mails.{sent}
 use Rattle.sc_node_table.specs.Election.{saw}
 use Rattle.sc_node_table.specs.Execute.{executed, has_room}
@@ -33,8 +33,8 @@ use Rattle.sc_node_table.specs.Install.{install_to}
 use Rattle.sc_node_table.specs.Pump.{pumped}
 use Rattle.sc_node_table.specs.Rows.{learn_row, most_taught, ask_row}
 use Rattle.sc_node_table.specs.Voting.{hinted, promise_to, prepare_row, accepted_to, took, accept_row, leads, promise_row, readied, vote_tallied, voted, accepted_row, nack_row}
-use Rattle.sc_draws_law.specs.Names.{Opt}
-use Rattle.sc_draws_law.proofs.Lists.{opt_find, slot_with, flight_without, voters_with}
+use Rattle.sc_names_law.specs.Names.{Opt}
+use Rattle.sc_names_law.proofs.Lists.{opt_find, slot_with, flight_without, voters_with}
 use Rattle.sc_law_lemmas.proofs.Places.{promised_place, asked_place}
 use Rattle.sc_law_lemmas.proofs.Ways.{either_way}
 use Rattle.sc_refusal_law.proofs.Keeping.{Kept, Flying, Reported, Holds}
@@ -151,24 +151,28 @@ module _ (start : ReplicaState) (A : Command → Type 0) (G : Draw → Type 0) (
   still : (place : Place) → E place → After place
   still place f = (false, turned_fine start A G W Q false false place f)
 
-  readied_fine : (slot : ℕ) (command : Command) (place : Place) → Kept A G command → E place → After (readied slot command place)
+  -- .. with the children that a row made
+  abbrev AfterAll : Executed → Type 0
+  AfterAll step = After step.0
+
+  readied_fine : (slot : ℕ) (command : Command) (place : Place) → Kept A G command → E place → After (readied slot command place).0
   unfolding readied
   readied_fine slot command (r, mails) k f =
       let after : ReplicaState = record r { ready = with_slot r.ready slot command } in
       let g : E (after, mails) = (record { calls = f.0.calls; acts = f.0.acts; due = f.0.due; flights = f.0.flights; ready = slot_with (Kept A G) r.ready slot command k f.0.ready; reports = f.0.reports }, f.1) in
-      either_way After (eqb slot (next r) && has_room r) (executed true command (after, mails)) (after, mails) (executed_fine start A G W Q numbered true command (after, mails) (λ _. k) (λ other flies counted. cc) g) (still (after, mails) g)
+      either_way AfterAll (eqb slot (next r) && has_room r) (executed true command (after, mails)) (childless (after, mails)) (executed_fine start A G W Q numbered true command (after, mails) (λ _. k) (λ other flies counted. cc) g) (still (after, mails) g)
 
-  tallied_fine : (slot : ℕ) (p : Counted Command × LeaderState Command) (r : ReplicaState) (mails : List Mail) → Counts r p → E (r, mails) → After (vote_tallied slot p (r, mails))
+  tallied_fine : (slot : ℕ) (p : Counted Command × LeaderState Command) (r : ReplicaState) (mails : List Mail) → Counts r p → E (r, mails) → After (vote_tallied slot p (r, mails)).0
   tallied_fine slot (Chosen command, leader) r mails c f = readied_fine slot command (record r { leader = leader }, mails) c.0 (with_leader false r leader mails c.1 f)
   tallied_fine slot (NotYet count, leader) r mails c f = still (record r { leader = leader }, mails) (with_leader false r leader mails c.1 f)
 
-  voted_fine : (from : ℕ) (ballot : Ballot) (slot : ℕ) (set : Option (List ℕ)) (r : ReplicaState) (mails : List Mail) → E (r, mails) → After (voted from ballot slot set (r, mails))
+  voted_fine : (from : ℕ) (ballot : Ballot) (slot : ℕ) (set : Option (List ℕ)) (r : ReplicaState) (mails : List Mail) → E (r, mails) → After (voted from ballot slot set (r, mails)).0
   voted_fine from ballot slot None r mails f = still (r, mails) f
   voted_fine from ballot slot (Some set) r mails f = tallied_fine slot (counted from ballot slot set r.leader) r mails (counted_counts from ballot slot set r f.0) f
 
-  pub accepted_fine : (from : ℕ) (ballot : Ballot) (slot : ℕ) (r : ReplicaState) (mails : List Mail) → E (r, mails) → After (accepted_row from ballot slot (r, mails))
+  pub accepted_fine : (from : ℕ) (ballot : Ballot) (slot : ℕ) (r : ReplicaState) (mails : List Mail) → E (r, mails) → After (accepted_row from ballot slot (r, mails)).0
   unfolding accepted_row
-  accepted_fine from ballot slot r mails f = either_way After (leads ballot r) (voted from ballot slot (set_at slot r) (r, mails)) (r, mails) (voted_fine from ballot slot (set_at slot r) r mails f) (still (r, mails) f)
+  accepted_fine from ballot slot r mails f = either_way AfterAll (leads ballot r) (voted from ballot slot (set_at slot r) (r, mails)) (childless (r, mails)) (voted_fine from ballot slot (set_at slot r) r mails f) (still (r, mails) f)
 
   -- ---- Nack, Learn and Ask
 
@@ -176,12 +180,12 @@ module _ (start : ReplicaState) (A : Command → Type 0) (G : Draw → Type 0) (
   unfolding nack_row
   nack_fine ballot r mails f = saw_fine start A G W Q ballot r mails f
 
-  pub learn_fine : (from slot : ℕ) (command : Command) (r : ReplicaState) (mails : List Mail) → (slot ≡ next r → MayLose start A G W Q numbered false command r) → E (r, mails) → After (learn_row from slot command (r, mails))
+  pub learn_fine : (from slot : ℕ) (command : Command) (r : ReplicaState) (mails : List Mail) → (slot ≡ next r → MayLose start A G W Q numbered false command r) → E (r, mails) → After (learn_row from slot command (r, mails)).0
   unfolding learn_row
   learn_fine from slot command r mails d f =
-      either_way After (nat_lt last_slot slot) _ _ (still (r, mails) f)
-      (cond_both (eqb slot (next r)) _ _ After (λ e. executed_fine start A G W Q numbered false command (r, mails) (λ counted. cc) (d (eqb-true slot (next r) e)) f)
-      (λ _. either_way After (nat_lt (next r) slot) (r, sent r.me from (Ask (name_of r) (next r)) mails) (r, mails)
+      either_way AfterAll (nat_lt last_slot slot) _ _ (still (r, mails) f)
+      (cond_both (eqb slot (next r)) _ _ AfterAll (λ e. executed_fine start A G W Q numbered false command (r, mails) (λ counted. cc) (d (eqb-true slot (next r) e)) f)
+      (λ _. either_way AfterAll (nat_lt (next r) slot) (childless (r, sent r.me from (Ask (name_of r) (next r)) mails)) (childless (r, mails))
       (false, turned_fine start A G W Q false false (r, sent r.me from (Ask (name_of r) (next r)) mails) (f.0, with_plain start A G W Q false false r mails r.me from (Ask (name_of r) (next r)) tt f.1)) (still (r, mails) f)))
 
   pub ask_fine : (from slot : ℕ) (r : ReplicaState) (mails : List Mail) → F false (r, mails) → F false (ask_row from slot (r, mails))

@@ -211,7 +211,7 @@ at_node (Given.Told line) = Tells line
 
 -- every step of a replica of a node is so; nodes are numbered from 1
 abbrev pub StepsHaveCauses : Type 0
-StepsHaveCauses = (on : Bool) (drawer : Drawer) (r : ReplicaState) (input : ReplicaInput) → 1 ≤ r.me → StepHasCauses r (at_node input) (stepped on drawer input (r, []))
+StepsHaveCauses = (on : Bool) (drawer : Drawer) (r : ReplicaState) (input : ReplicaInput) → 1 ≤ r.me → StepHasCauses r (at_node input) (stepped on drawer input (r, [])).0
 
 -- an answer that names another leader, or none
 abbrev pub IsNotLeader : MailBody → Type 0
@@ -220,4 +220,4 @@ IsNotLeader body = (group : Draw) × (seq : ℕ) × (hint : Option ℕ) × (body
 -- a replica that runs never answers so in the step that brings it a request
 abbrev pub RunningReplicasTakeRequests : Type 0
 RunningReplicasTakeRequests = (on : Bool) (drawer : Drawer) (r : ReplicaState) (from : ℕ) (to : ℕ) (group : Draw) (client seq : ℕ) (op : Op) → r.running ≡ true
-    → Each (λ (mail : Mail). IsNotLeader mail.body → ⊥) (stepped on drawer (Given.Got (record { from = from; to = to; body = Request group client seq op })) (r, [])).1
+    → Each (λ (mail : Mail). IsNotLeader mail.body → ⊥) (stepped on drawer (Given.Got (record { from = from; to = to; body = Request group client seq op })) (r, [])).0.1

@@ -22,7 +22,7 @@ use Rattle.sc_node_table.specs.Slots.{slots_ahead}
 use Rattle.sc_scenario.specs.Valid.{IsValid}
 use Rattle.sc_scenario.specs.declared.scenarios.Scenario.{Scenario}
 use Rattle.sc_sound.specs.Players.{Ahead, Lawful, Player, births, player_table}
-use Rattle.sc_sound.specs.declared.roles.Role.TheVariants.{Node, Client}
+use Rattle.sc_mail.specs.declared.roles.Role.TheVariants.{Node, Client}
 use Rattle.sc_queue_law.specs.OneCall.{EachKeepsOneCall}
 use Rattle.sc_refusal_law.specs.ClientTurns.{KeepsTurn}
 use Rattle.sc_refusal_law.specs.NodeCauses.{AnswersHaveCauses, ActsHaveCauses}

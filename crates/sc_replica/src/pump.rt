@@ -10,8 +10,8 @@ ghost use Rattle.sc_node_table.specs.Pump.{is_act, next_call, from_calls, from_a
 use crate::replica::{LAST_SLOT, Replica};
 use sc_base::{Dup, OutOfMemory, Sequence};
 use sc_cmd::{Command, Core, Lock};
-use sc_leader::Must;
 use sc_mail::Mail;
+use sc_paxos::Must;
 use sc_replica_choices::{is_act, turned_down, waits};
 use sc_replica_parts::{answer_command, head, is_empty, take_head};
 use std::alloc::Global;

@@ -5,12 +5,11 @@ ghost use Rattle.sc_node_table.specs.Slots.{slots_ahead};
 ghost use Rattle.sc_node_table.specs.Replica.{born_replica, installed_replica, members, name_of, next, last_slot};
 ghost use Rattle.sc_replica.specs.Bare.{bare_replica, with_hint, with_waits};
 
-use sc_acceptor::Acceptor;
 use sc_base::{Ballot, Draw, OutOfMemory, Sequence};
 use sc_cmd::{Base, Command};
-use sc_leader::Leader;
 use sc_machine::Machine;
 use sc_mail::Mail;
+use sc_paxos::{Acceptor, Leader};
 use sc_replica_choices::Sets;
 use sc_replica_parts::Entries;
 use std::alloc::Global;

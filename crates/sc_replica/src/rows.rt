@@ -158,7 +158,8 @@ impl Replica {
         out: &mut Sequence<Mail>,
     ) -> Result<(), OutOfMemory>
         requires { is_of_round body.now ≡ true }
-        ensures { OnOk result ((self.new, out.new) ≡ mailed from body.now (self.old, out.old)) }
+        ensures { OnOk result
+            ((self.new, out.new) ≡ (mailed from body.now (self.old, out.old)).0) }
     {
         match body {
             MailBody::Prepare {

@@ -3,8 +3,8 @@ ghost use Rattle.std.specs.Prelude.{◌≡◌};
 ghost use Rattle.std.specs.List.{list_any};
 ghost use Rattle.sc_node_table.specs.Acts.{is_prepared, is_vote_record, is_giving_up, is_finish, is_watched, is_watch_record, is_of_kind};
 
-use sc_base::Draw;
-use sc_cmd::{Command, same_draw};
+use sc_base::{Draw, same_draw};
+use sc_cmd::Command;
 use std::collections::VecDeque;
 
 fn is_prepared(tx: Draw, command: &Command) -> bool

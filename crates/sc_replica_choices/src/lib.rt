@@ -6,7 +6,7 @@
 mod acts;
 mod choices;
 mod commands;
-mod effects;
+mod heard;
 mod nodes;
 mod noted;
 mod open_sets;
@@ -14,7 +14,7 @@ mod open_sets;
 pub use acts::{has_kind, is_of_kind};
 pub use choices::{call_refusal, floor_of, is_at_rest, turned_down, waits, waits_in};
 pub use commands::{is_act, same_command};
-pub use effects::{decided_in, has_outcome};
+pub use heard::record_of;
 pub use nodes::{nodes_to, not_among, uncounted};
 pub use noted::{awaits_vote, awaits_watch, is_bound, noted_outcome, standing_vote};
 pub use open_sets::Sets;

@@ -7,8 +7,8 @@ ghost use Rattle.sc_node_table.specs.Election.{nodes_to};
 
 use crate::open_sets::Sets;
 use sc_base::OutOfMemory;
-use sc_leader::Leader;
 use sc_member::Members;
+use sc_paxos::Leader;
 use std::alloc::Global;
 
 /// The nodes that are not in a set.

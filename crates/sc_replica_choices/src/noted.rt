@@ -7,8 +7,8 @@ ghost use Rattle.sc_machine_table.specs.Splits.{is_locked_in};
 ghost use Rattle.sc_machine_table.specs.Transactions.{asks_watcher};
 ghost use Rattle.sc_node_table.specs.Transactions.{noted_vote, noted_outcome, gone_vote, standing_by, standing_vote, awaits_vote, awaits_watch, is_bound};
 
-use sc_base::Draw;
-use sc_cmd::{Body, Core, Heard, Lock, No, Outcome, Past, Route, same_draw};
+use sc_base::{Draw, same_draw};
+use sc_cmd::{Body, Core, Heard, Lock, No, Outcome, Past, Route};
 
 fn noted_vote(core: &Core, tx: Draw) -> Option<Past>
     ensures { result ≡ noted_vote core.now tx }

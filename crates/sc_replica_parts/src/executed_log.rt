@@ -8,7 +8,7 @@ ghost use Rattle.sc_node_table.specs.Execute.{with_entry};
 
 use sc_base::OutOfMemory;
 use sc_cmd::Command;
-use sc_glog::Glog;
+use sc_paxos::Glog;
 use std::alloc::Global;
 use std::marker::Model;
 

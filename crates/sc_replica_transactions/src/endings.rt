@@ -1,16 +1,16 @@
 //! What a coordinator tells of its decision.
 ghost use Rattle.std.specs.Prelude.{◌≡◌, OnOk, Option, Some};
 ghost use Rattle.sc_cmd.specs.declared.votes.Outcome.TheVariants.{Abort};
+ghost use Rattle.sc_cmd.specs.Effects.{decided_in};
 ghost use Rattle.sc_mail.specs.declared.bodies.MailBody.TheVariants.{TxOutcome};
 ghost use Rattle.sc_node_table.specs.Mails.{sent_all};
-ghost use Rattle.sc_node_table.specs.Spoken.{decided_in, aborted_to, aborted_watcher, given_up_by, vote_answered, released_to, watch_answered_by};
+ghost use Rattle.sc_node_table.specs.Spoken.{aborted_to, aborted_watcher, given_up_by, vote_answered, released_to, watch_answered_by};
 
 use crate::tellings::tell_outcome;
 use sc_base::{Draw, OutOfMemory, Sequence};
 use sc_cmd::{Effect, Link, Outcome, Past, Vote};
 use sc_mail::{Mail, MailBody};
 use sc_node_table::Before;
-use sc_replica_choices::{decided_in, has_outcome};
 use sc_replica_parts::send;
 use std::alloc::Global;
 
@@ -70,7 +70,7 @@ pub(crate) fn give_up(
     ensures { OnOk result
         (out.new ≡ given_up_by (decided_in effect.now) me before.now tx out.old) }
 {
-    if !has_outcome(effect) {
+    if !effect.has_outcome() {
         return Ok(());
     }
     abort_to(me, tx, &before.succ, out)?;
@@ -91,7 +91,7 @@ pub(crate) fn answer_vote(
     ensures { OnOk result
         (out.new ≡ vote_answered (decided_in effect.now) vote.now me before.now tx by out.old) }
 {
-    let Some(outcome) = decided_in(effect) else {
+    let Some(outcome) = effect.outcome() else {
         return Ok(());
     };
     match vote {
@@ -138,7 +138,7 @@ pub(crate) fn answer_watch(
     ensures { OnOk result
         (out.new ≡ watch_answered_by (decided_in effect.now) vote.now me before.now tx by out.old) }
 {
-    let Some(outcome) = decided_in(effect) else {
+    let Some(outcome) = effect.outcome() else {
         return Ok(());
     };
     match vote {

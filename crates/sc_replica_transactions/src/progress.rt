@@ -1,13 +1,13 @@
 //! How a transaction goes on when an entry of it was executed.
 ghost use Rattle.std.specs.Prelude.{◌≡◌, OnOk};
-ghost use Rattle.sc_node_table.specs.Spoken.{heard_from, is_merge, before_in, before_of, cast_in, asked_on, vote_sent, watch_sent, went_on, spoken_mails};
+ghost use Rattle.sc_node_table.specs.Spoken.{heard_from, is_merge, before_in, before_of, asked_on, vote_sent, watch_sent, went_on, spoken_mails};
 
 use crate::endings::{answer_vote, answer_watch, give_up};
 use crate::questions::ask_first;
 use crate::tellings::tell_begun;
 use crate::votes::{tell_vote, tell_watch};
 use sc_base::{Draw, OutOfMemory, Sequence};
-use sc_cmd::{Body, Command, Core, Effect, Heard, Link, Lock, Offer, Past, Watch, same_draw};
+use sc_cmd::{Body, Command, Core, Effect, Heard, Link, Lock, Offer, Past, Watch};
 use sc_machine::Machine;
 use sc_mail::Mail;
 use sc_node_table::Before;
@@ -35,7 +35,7 @@ fn is_merge(body: &Body) -> bool
 pub fn before_of(core: &Core) -> Before
     ensures { result ≡ before_of core.now }
 {
-    let alone = same_draw(core.succ.group, core.id);
+    let alone = core.is_alone();
     let succ = core.succ;
     match &core.lock {
         Lock::Coordinating {
@@ -60,25 +60,6 @@ pub fn before_of(core: &Core) -> Before
     }
 }
 
-/// The vote that an entry cast.
-fn cast_in(effect: &Effect) -> Option<Past>
-    ensures { result ≡ cast_in effect.now }
-{
-    match effect {
-        Effect::Voted(vote) => Some(*vote),
-        Effect::Done(_)
-        | Effect::Again(_)
-        | Effect::Stale { .. }
-        | Effect::NotMine { .. }
-        | Effect::Gone { .. }
-        | Effect::NoEffect { .. }
-        | Effect::Idle
-        | Effect::Changed
-        | Effect::Decided(_)
-        | Effect::Refused(_) => None,
-    }
-}
-
 /// A group that has begun, or has heard its participant, asks.
 fn ask_by(
     alloc: Global,
@@ -89,18 +70,10 @@ fn ask_by(
 ) -> Result<(), OutOfMemory>
     ensures { OnOk result (out.new ≡ asked_on effect.now me core.now out.old) }
 {
-    match effect {
-        Effect::Changed => ask_first(alloc, me, core, out),
-        Effect::Done(_)
-        | Effect::Again(_)
-        | Effect::Stale { .. }
-        | Effect::NotMine { .. }
-        | Effect::Gone { .. }
-        | Effect::NoEffect { .. }
-        | Effect::Idle
-        | Effect::Voted(_)
-        | Effect::Decided(_)
-        | Effect::Refused(_) => Ok(()),
+    if effect.is_changed() {
+        ask_first(alloc, me, core, out)
+    } else {
+        Ok(())
     }
 }
 
@@ -160,14 +133,14 @@ fn go_on(
             out,
         ),
         Command::Prepared { tx, offer } => {
-            send_vote(alloc, cast_in(effect), machine, me, *tx, offer.get(), out)
+            send_vote(alloc, effect.vote(), machine, me, *tx, offer.get(), out)
         }
         Command::RecordVote { tx, vote, by } => {
             ask_by(alloc, effect, me, machine.core(), out)?;
             answer_vote(alloc, effect, vote, me, before, *tx, *by, out)
         }
         Command::GiveUp { tx } => give_up(effect, me, before, *tx, out),
-        Command::Watched { tx, watch } => send_watch(cast_in(effect), me, *tx, watch.get(), out),
+        Command::Watched { tx, watch } => send_watch(effect.vote(), me, *tx, watch.get(), out),
         Command::RecordWatch { tx, vote, by } => {
             answer_watch(alloc, effect, vote, me, before, *tx, *by, out)
         }

@@ -5,11 +5,11 @@ ghost use Rattle.sc_node_table.specs.Mails.{sent, sent_all};
 ghost use Rattle.sc_node_table.specs.Questions.{offer_of, heard_link, watcher_link, or_successor, asked_link, watch_of, child_link, both_link, split_watch, union_watch, heard_question, question, asked_node, asked_least, asked_all, asked_first};
 ghost use Rattle.sc_node_table.specs.Transactions.{next_asked, asked_next};
 
-use sc_base::{Boxed, Draw, OutOfMemory, Sequence};
-use sc_cmd::{Body, Core, Frozen, Heard, Link, Lock, Offer, Watch, same_draw};
+use sc_base::{Boxed, Draw, OutOfMemory, Sequence, same_draw};
+use sc_cmd::{Body, Core, Frozen, Heard, Link, Lock, Offer, Watch};
 use sc_mail::{Mail, MailBody};
 use sc_replica_parts::send;
-use sc_split_merge::{can_split, plan_split};
+use sc_txn::{can_split, plan_split};
 use std::alloc::Global;
 
 fn offer_of(me: u16, core: &Core, body: &Body) -> Offer

@@ -3,7 +3,7 @@ ghost use Rattle.std.specs.Prelude.{◌≡◌, OnOk};
 ghost use Rattle.sc_mail.specs.declared.bodies.MailBody.TheVariants.{TxElsewhere};
 ghost use Rattle.sc_node_table.specs.Mails.{sent};
 ghost use Rattle.sc_node_table.specs.Transactions.{told_outcome};
-ghost use Rattle.sc_node_table.specs.Spoken.{refused_result, split_result, outcome_result, decided_result, begun_result, spoken_number, told_result, told_begun};
+ghost use Rattle.sc_node_table.specs.Spoken.{outcome_result, decided_result, begun_result, spoken_number, told_result, told_begun};
 
 use sc_base::{Draw, Dup, OutOfMemory, Sequence};
 use sc_cmd::{Command, Effect, Outcome, ToldResult};
@@ -11,42 +11,6 @@ use sc_mail::{Mail, MailBody};
 use sc_node_table::Before;
 use sc_replica_parts::{send, tell_order};
 use std::alloc::Global;
-
-fn refused_result(effect: &Effect) -> Option<ToldResult>
-    ensures { result ≡ refused_result effect.now }
-{
-    match effect {
-        Effect::Refused(why) => Some(ToldResult::Refused(*why)),
-        Effect::Done(_)
-        | Effect::Again(_)
-        | Effect::Stale { .. }
-        | Effect::NotMine { .. }
-        | Effect::Gone { .. }
-        | Effect::NoEffect { .. }
-        | Effect::Idle
-        | Effect::Changed
-        | Effect::Voted(_)
-        | Effect::Decided(_) => None,
-    }
-}
-
-fn split_result(effect: &Effect) -> Option<ToldResult>
-    ensures { result ≡ split_result effect.now }
-{
-    match effect {
-        Effect::Changed => Some(ToldResult::Done),
-        Effect::Refused(why) => Some(ToldResult::Refused(*why)),
-        Effect::Done(_)
-        | Effect::Again(_)
-        | Effect::Stale { .. }
-        | Effect::NotMine { .. }
-        | Effect::Gone { .. }
-        | Effect::NoEffect { .. }
-        | Effect::Idle
-        | Effect::Voted(_)
-        | Effect::Decided(_) => None,
-    }
-}
 
 fn outcome_result(outcome: &Outcome) -> ToldResult
     ensures { result ≡ outcome_result outcome.now }
@@ -63,19 +27,7 @@ fn outcome_result(outcome: &Outcome) -> ToldResult
 fn decided_result(effect: &Effect) -> Option<ToldResult>
     ensures { result ≡ decided_result effect.now }
 {
-    match effect {
-        Effect::Decided(outcome) => Some(outcome_result(outcome)),
-        Effect::Done(_)
-        | Effect::Again(_)
-        | Effect::Stale { .. }
-        | Effect::NotMine { .. }
-        | Effect::Gone { .. }
-        | Effect::NoEffect { .. }
-        | Effect::Idle
-        | Effect::Changed
-        | Effect::Voted(_)
-        | Effect::Refused(_) => None,
-    }
+    Some(outcome_result(effect.outcome()?))
 }
 
 /// What is told of a split or a transaction, by whether the group was its own successor.
@@ -85,12 +37,12 @@ fn begun_result(alone: bool, effect: &Effect, command: &Command) -> Option<ToldR
     match command {
         Command::Split { .. } => {
             if alone {
-                split_result(effect)
+                effect.told()
             } else {
-                refused_result(effect)
+                effect.refused()
             }
         }
-        Command::Begin { .. } => refused_result(effect),
+        Command::Begin { .. } => effect.refused(),
         Command::RecordVote { .. } | Command::GiveUp { .. } | Command::RecordWatch { .. } => {
             decided_result(effect)
         }

@@ -23,13 +23,13 @@ use Rattle.sc_cmd.specs.declared.votes.Outcome.TheVariants.{Abort, Merged, Moved
 use Rattle.sc_machine_table.specs.Group.{Group}
 use Rattle.sc_machine_table.specs.Finishes.{participant_after, settled_in, finished, party_freed, watcher_after}
 use Rattle.sc_machine_table.specs.Machine.{applied}
-use Rattle.sc_entries.specs.Births.{division_of}
-use Rattle.sc_entries.specs.Effective.{after_outcome, is_commit}
-use Rattle.sc_entries.specs.Rings.{both_arcs, decided_by}
-use Rattle.sc_entries.specs.declared.Division.{Division}
+use Rattle.sc_log_entries.specs.Births.{division_of}
+use Rattle.sc_log_entries.specs.Effective.{after_outcome, is_commit}
+use Rattle.sc_log_entries.specs.Rings.{both_arcs, decided_by}
+use Rattle.sc_log_entries.specs.declared.Division.{Division}
 use Rattle.sc_ring_law.specs.Stories.{Story, Stories, put, unsigned, unsigned_watch, offer_for, watch_for}
 use Rattle.sc_ring_law.specs.Invariant.{Groups, LockOk, IsOwnBody, IsFrozen, IsAgreed, Facts}
-use Rattle.sc_entries.proofs.Names.{draw_cases}
+use Rattle.sc_log_entries.proofs.Names.{draw_cases}
 use Rattle.sc_ring_law.proofs.View.{Ring, HeldBy, Holds, merge_view, move_view, split_view, IsOnRing}
 use Rattle.sc_ring_law.proofs.Cover.{at-same, at-is, at-other}
 use Rattle.sc_ring_law.proofs.Links.{IsPair, pair_meets}

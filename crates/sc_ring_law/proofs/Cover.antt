@@ -5,7 +5,7 @@ use Rattle.sc_base.specs.Same.{same_draw}
 use Rattle.sc_base.specs.declared.names.Draw.{Draw}
 use Rattle.sc_base.proofs.NameLemmas.{same_name}
 use Rattle.sc_ring_law.specs.Stories.{put}
-use Rattle.sc_entries.proofs.Names.{draw_cases, other_name}
+use Rattle.sc_log_entries.proofs.Names.{draw_cases, other_name}
 use Rattle.sc_base.specs.Arc.{Arc}
 use Rattle.sc_ring_law.proofs.View.{IsOnRing, HeldBy, Ring, CoversBy}
 

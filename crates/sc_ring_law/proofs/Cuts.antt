@@ -8,11 +8,11 @@ use Rattle.sc_base.specs.Among.{Among, Each}
 use Rattle.sc_base.specs.Arc.{Arc, before, from}
 use Rattle.sc_base.specs.declared.names.Draw.{Draw}
 use Rattle.sc_base.proofs.NameLemmas.{draw_is, same_name}
-use Rattle.sc_entries.specs.declared.Cut.{Cut}
-use Rattle.sc_entries.specs.declared.Division.{Division}
-use Rattle.sc_entries.specs.Rings.{is_cut_of, arc_in, recut, parts_of}
+use Rattle.sc_log_entries.specs.declared.Cut.{Cut}
+use Rattle.sc_log_entries.specs.declared.Division.{Division}
+use Rattle.sc_log_entries.specs.Rings.{is_cut_of, arc_in, recut, parts_of}
 use Rattle.sc_ring_law.specs.Stories.{put}
-use Rattle.sc_entries.proofs.Names.{draw_cases, other_name}
+use Rattle.sc_log_entries.proofs.Names.{draw_cases, other_name}
 use Rattle.sc_ring_law.proofs.Cover.{at-is, at-other}
 use Rattle.sc_ring_law.proofs.View.{Ring}
 use Rattle.sc_paxos_words.proofs.ListLemmas.{Each-among, find_found}

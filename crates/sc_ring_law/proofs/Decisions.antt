@@ -24,17 +24,17 @@ use Rattle.sc_cmd.specs.declared.votes.Past.{Past}
 use Rattle.sc_cmd.specs.declared.votes.Past.TheVariants as Cast
 use Rattle.sc_cmd.specs.declared.votes.Vote.{Vote}
 use Rattle.sc_cmd.specs.declared.votes.Vote.TheVariants as Ballot
+use Rattle.sc_cmd.specs.Effects.{is_divided, decided_in}
 use Rattle.sc_machine_table.specs.Group.{Group, group_of}
 use Rattle.sc_machine_table.specs.Plans.{Plan, can_cut, can_join, can_split, can_repart, can_migrate, has_key_of, may_merge, merged_route, merged_group, closing_group, part_gift, giving_group, giving_plan, repart_plan, split_plan, taken, taking_group, taking_plan, migrated_group}
 use Rattle.sc_machine_table.specs.Splits.{left_group, child_of}
 use Rattle.sc_machine_table.specs.Transactions.{decided_group, aborted, committed, heard_group, granted, participant_answered, asks_watcher, vote_recorded, released, watch_answered, watch_recorded, is_coordinating}
-use Rattle.sc_entries.specs.Births.{is_divided, division_in}
-use Rattle.sc_entries.specs.Decisions.{outcome_in}
-use Rattle.sc_entries.specs.declared.Division.{Division}
+use Rattle.sc_log_entries.specs.Births.{division_in}
+use Rattle.sc_log_entries.specs.declared.Division.{Division}
 use Rattle.sc_ring_law.specs.Allowed.{IsVoteCast, IsWatchVoteCast}
 use Rattle.sc_ring_law.specs.Stories.{Story, Stories, put, retold, merge_watch, with_decision, with_answer}
 use Rattle.sc_ring_law.specs.Invariant.{Groups, IsEarned, Facts}
-use Rattle.sc_entries.proofs.Names.{names_differ}
+use Rattle.sc_log_entries.proofs.Names.{names_differ}
 use Rattle.sc_ring_law.proofs.Notes.{any_keeps, any_drops, any_new, is_vote_on}
 use Rattle.sc_ring_law.proofs.View.{Ring}
 use Rattle.sc_ring_law.proofs.Cover.{at-same, at-other}
@@ -111,7 +111,7 @@ module _ (owner : Draw → Option Draw) (ring : Ring) (gs : Groups) (ys : Storie
   -- ---- the participant's vote is recorded
 
   abbrev Lands : Draw → Vote → Group × Effect → Type 0
-  Lands tx vote r = Kept owner (ring_out (outcome_in r.1) ring s.core.id s.core.succ.group) (put gs g (Some r.0)) (retold ys tx (with_answer s.core vote r.1))
+  Lands tx vote r = Kept owner (ring_out (decided_in r.1) ring s.core.id s.core.succ.group) (put gs g (Some r.0)) (retold ys tx (with_answer s.core vote r.1))
 
   lands_idle : (tx : Draw) (vote : Vote) → Lands tx vote (s, Was.NoEffect tx)
   lands_idle tx vote = idle_told owner ring gs ys g s tx (with_answer s.core vote (Was.NoEffect tx)) (λ y. refl) k is
@@ -225,10 +225,10 @@ module _ (owner : Draw → Option Draw) (ring : Ring) (gs : Groups) (ys : Storie
   -- ---- giving up
 
   pub give_up_kept : (tx : Draw) (l : Lock) → s.core.lock ≡ l
-      → (let r = cond (is_coordinating l tx) (aborted s tx) (s, Was.NoEffect tx) in Kept owner ring (put gs g (Some r.0)) (retold ys tx (with_decision (outcome_in r.1))))
+      → (let r = cond (is_coordinating l tx) (aborted s tx) (s, Was.NoEffect tx) in Kept owner ring (put gs g (Some r.0)) (retold ys tx (with_decision (decided_in r.1))))
   give_up_kept tx Free e = idle_told owner ring gs ys g s tx (with_decision None) (λ y. refl) k is
   give_up_kept tx (Coordinating t body order heard) e =
-      cond_both (same_draw t tx) _ _ (λ (r : Group × Effect). Kept owner ring (put gs g (Some r.0)) (retold ys tx (with_decision (outcome_in r.1))))
+      cond_both (same_draw t tx) _ _ (λ (r : Group × Effect). Kept owner ring (put gs g (Some r.0)) (retold ys tx (with_decision (decided_in r.1))))
       (λ q. (let o = mine_open tx body order heard (same_lock s.core.lock t tx body order heard e q) in
       subst (λ z. Kept owner ring (put gs g (Some (decided_group s tx Abort))) z) (sym (told_at ys tx (with_decision (Some Abort)) o.story o.deciding.there)) (abort_kept tx body heard o)))
       (λ q. idle_told owner ring gs ys g s tx (with_decision None) (λ y. refl) k is)
@@ -238,7 +238,7 @@ module _ (owner : Draw → Option Draw) (ring : Ring) (gs : Groups) (ys : Storie
   -- ---- the watcher's vote is recorded
 
   abbrev WLands : Draw → Group × Effect → Type 0
-  WLands tx r = Kept owner (ring_cut (watch_division s r.1) (ring_out (outcome_in r.1) ring s.core.id s.core.succ.group) s.core.id) (born_too s (put gs g (Some r.0)) (watch_division s r.1)) (retold ys tx (with_decision (outcome_in r.1)))
+  WLands tx r = Kept owner (ring_cut (watch_division s r.1) (ring_out (decided_in r.1) ring s.core.id s.core.succ.group) s.core.id) (born_too s (put gs g (Some r.0)) (watch_division s r.1)) (retold ys tx (with_decision (decided_in r.1)))
 
   w_idle : (tx : Draw) → WLands tx (s, Was.NoEffect tx)
   w_idle tx = idle_told owner ring gs ys g s tx (with_decision None) (λ y. refl) k is

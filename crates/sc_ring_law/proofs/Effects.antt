@@ -12,11 +12,11 @@ use Rattle.sc_cmd.specs.declared.links.Route.{Route}
 use Rattle.sc_cmd.specs.declared.votes.Outcome.{Outcome}
 use Rattle.sc_cmd.specs.declared.votes.Outcome.TheVariants.{Abort, Merged, Moved, Migrated, Divided}
 use Rattle.sc_machine_table.specs.Group.{Group}
-use Rattle.sc_entries.specs.Effective.{after_outcome}
+use Rattle.sc_log_entries.specs.Effective.{after_outcome}
 use Rattle.sc_ring_law.specs.Stories.{Story, Stories, put, unsigned, unsigned_watch}
 use Rattle.sc_ring_law.specs.Invariant.{Groups, LockOk}
 use Rattle.sc_ring_law.proofs.View.{View, Ring, HeldBy}
-use Rattle.sc_entries.proofs.Names.{draw_cases}
+use Rattle.sc_log_entries.proofs.Names.{draw_cases}
 use Rattle.sc_ring_law.proofs.Cover.{at-is, at-other}
 use Rattle.sc_ring_law.proofs.Facts.{IsOf}
 use Rattle.sc_ring_law.proofs.Recut.{IsWhole}

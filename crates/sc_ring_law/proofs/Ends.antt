@@ -18,7 +18,7 @@ use Rattle.sc_machine_table.specs.Group.{Group}
 use Rattle.sc_machine_table.specs.Transactions.{heard_group}
 use Rattle.sc_ring_law.specs.Stories.{Story, Stories, put, merge_watch, unsigned_watch}
 use Rattle.sc_ring_law.specs.Invariant.{Groups, has_decided, has_born, IsCoordinating, LockOk, IsEarned, Origin, Facts}
-use Rattle.sc_entries.proofs.Names.{draw_cases}
+use Rattle.sc_log_entries.proofs.Names.{draw_cases}
 use Rattle.sc_ring_law.proofs.Cover.{at-same, at-is, at-other, from_at}
 use Rattle.sc_ring_law.proofs.Facts.{IsOf, keep_known, keep_there, keep_voter, keep_watcher, keep_frozen, keep_none, facts_quiet, facts_told, StayBorn, StayVoted, SameDecided}
 use Rattle.sc_ring_law.proofs.Rows.{other_calm, no_coord}

@@ -19,10 +19,10 @@ use Rattle.sc_machine_table.specs.Machine.{served_by_note}
 use Rattle.sc_machine_table.specs.Plans.{has_key_of, merged_group}
 use Rattle.sc_machine_table.specs.Transactions.{begun_group, heard_group, committed}
 use Rattle.sc_machine_table.specs.Votes.{watched}
-use Rattle.sc_entries.specs.declared.Cut.{Cut}
-use Rattle.sc_entries.specs.declared.LogEntry.{LogEntry}
-use Rattle.sc_entries.specs.Rings.{Covers, first_cut}
-use Rattle.sc_entries.specs.Worlds.{with_result, first_world, world_of, world_after}
+use Rattle.sc_log_entries.specs.declared.Cut.{Cut}
+use Rattle.sc_log_entries.specs.declared.LogEntry.{LogEntry}
+use Rattle.sc_log_entries.specs.Rings.{Covers, first_cut}
+use Rattle.sc_log_entries.specs.Worlds.{with_result, first_world, world_of, world_after}
 use Rattle.sc_ring_law.specs.Allowed.{AreAllowed, ToldWorld, first_told, told_on, told_after}
 use Rattle.sc_ring_law.specs.Stories.{no_stories, stories_after}
 use Rattle.sc_ring_law.specs.Laws.{BeginInPlace, BeginsInPlace}

@@ -24,20 +24,19 @@ use Rattle.sc_cmd.specs.declared.votes.Past.{Past}
 use Rattle.sc_cmd.specs.declared.votes.Past.TheVariants as Cast
 use Rattle.sc_cmd.specs.declared.votes.Vote.{Vote}
 use Rattle.sc_cmd.specs.declared.votes.Vote.TheVariants as Ballot
+use Rattle.sc_cmd.specs.Effects.{is_changed, decided_in}
+use Rattle.sc_cmd.specs.Cores.{is_alone}
 use Rattle.sc_machine_table.specs.Group.{Group}
 use Rattle.sc_machine_table.specs.Machine.{applied, split_group}
-use Rattle.sc_machine_table.specs.Orders.{is_alone}
 use Rattle.sc_machine_table.specs.Transactions.{begun_group, asks_watcher, participant_answered, vote_recorded, watch_answered, watch_recorded, is_coordinating, aborted}
 use Rattle.sc_machine_table.specs.Votes.{has_voted, vote_of, watch_vote_of, past_of}
-use Rattle.sc_entries.specs.Births.{is_changed}
-use Rattle.sc_entries.specs.Decisions.{outcome_in}
-use Rattle.sc_entries.specs.Worlds.{named_group}
-use Rattle.sc_entries.specs.declared.LogEntry.{LogEntry}
+use Rattle.sc_log_entries.specs.Worlds.{named_group}
+use Rattle.sc_log_entries.specs.declared.LogEntry.{LogEntry}
 use Rattle.sc_ring_law.specs.Allowed.{Sources, IsVoteCast, IsWatchVoteCast, IsAllowed, AreAllowed, ToldWorld, first_told, stories_told, told_on, told_after}
 use Rattle.sc_ring_law.specs.Stories.{Story, Stories, put, retold, new_story, unsigned, unsigned_watch, watch_for, vote_in, watch_vote_in, with_vote, with_watch_vote, with_decision, with_asked, with_answer, stories_after}
 use Rattle.sc_ring_law.specs.Invariant.{Groups}
 use Rattle.sc_ring_law.specs.Laws.{AllowedEntriesStayAllowed}
-use Rattle.sc_entries.proofs.Names.{draw_cases}
+use Rattle.sc_log_entries.proofs.Names.{draw_cases}
 use Rattle.sc_ring_law.proofs.View.{Ring}
 use Rattle.sc_ring_law.proofs.Cover.{at-is, at-other}
 use Rattle.sc_ring_law.proofs.Rows.{unheard, not_passed}
@@ -162,9 +161,9 @@ module _ (sources : Sources) (ring : Ring) (gs : Groups) (ys : Stories) (g : Dra
 
   answer_first : (y : Story) (v : Vote) (effect : Effect) → y.watch ≡ None → y.outcome ≡ None → TellsOn y (with_answer s.core v effect y)
   answer_first y v effect unwatched open_yet =
-      elim (is_changed effect) as (λ b. TellsOn y (cond b (with_asked s.core v y) (with_decision (outcome_in effect) y))) [
+      elim (is_changed effect) as (λ b. TellsOn y (cond b (with_asked s.core v y) (with_decision (decided_in effect) y))) [
         | true ↦ asked_first y v unwatched
-        | false ↦ outcome_first y (outcome_in effect) open_yet
+        | false ↦ outcome_first y (decided_in effect) open_yet
       ]
 
   vote_quiet : (tx : Draw) (vote : Vote) → Grows ys (retold ys tx (with_answer s.core vote (Was.NoEffect tx)))
@@ -186,21 +185,21 @@ module _ (sources : Sources) (ring : Ring) (gs : Groups) (ys : Stories) (g : Dra
   outcome_quiet : (tx : Draw) → Grows ys (retold ys tx (with_decision None))
   outcome_quiet tx = grows_told ys tx (with_decision None) (λ y w. tells_same y)
 
-  watch_grows : (tx : Draw) (past : Past) (l : Lock) → s.core.lock ≡ l → Grows ys (retold ys tx (with_decision (outcome_in (watch_recorded l s tx past).1)))
+  watch_grows : (tx : Draw) (past : Past) (l : Lock) → s.core.lock ≡ l → Grows ys (retold ys tx (with_decision (decided_in (watch_recorded l s tx past).1)))
   watch_grows tx past Free e = outcome_quiet tx
   watch_grows tx past (Coordinating t body order heard) e =
-      cond_both (same_draw t tx) (cond (asks_watcher body heard) (watch_answered past body heard s tx) (s, Was.NoEffect tx)) (s, Was.NoEffect tx) (λ (r : Group × Effect). Grows ys (retold ys tx (with_decision (outcome_in r.1))))
+      cond_both (same_draw t tx) (cond (asks_watcher body heard) (watch_answered past body heard s tx) (s, Was.NoEffect tx)) (s, Was.NoEffect tx) (λ (r : Group × Effect). Grows ys (retold ys tx (with_decision (decided_in r.1))))
       (λ q. (let r = cond (asks_watcher body heard) (watch_answered past body heard s tx) (s, Was.NoEffect tx) in
-      grows_told ys tx (with_decision (outcome_in r.1)) (λ y w. outcome_first y (outcome_in r.1) (undecided tx body order heard (same_lock s.core.lock t tx body order heard e q) y w).0)))
+      grows_told ys tx (with_decision (decided_in r.1)) (λ y w. outcome_first y (decided_in r.1) (undecided tx body order heard (same_lock s.core.lock t tx body order heard e q) y w).0)))
       (λ q. outcome_quiet tx)
   watch_grows tx past (Promised t offer) e = outcome_quiet tx
   watch_grows tx past (Watching t watch) e = outcome_quiet tx
 
-  give_up_grows : (tx : Draw) (l : Lock) → s.core.lock ≡ l → Grows ys (retold ys tx (with_decision (outcome_in (cond (is_coordinating l tx) (aborted s tx) (s, Was.NoEffect tx)).1)))
+  give_up_grows : (tx : Draw) (l : Lock) → s.core.lock ≡ l → Grows ys (retold ys tx (with_decision (decided_in (cond (is_coordinating l tx) (aborted s tx) (s, Was.NoEffect tx)).1)))
   give_up_grows tx Free e = outcome_quiet tx
   give_up_grows tx (Coordinating t body order heard) e =
-      cond_both (same_draw t tx) (aborted s tx) (s, Was.NoEffect tx) (λ (r : Group × Effect). Grows ys (retold ys tx (with_decision (outcome_in r.1))))
-      (λ q. grows_told ys tx (with_decision (outcome_in (aborted s tx).1)) (λ y w. outcome_first y (outcome_in (aborted s tx).1) (undecided tx body order heard (same_lock s.core.lock t tx body order heard e q) y w).0))
+      cond_both (same_draw t tx) (aborted s tx) (s, Was.NoEffect tx) (λ (r : Group × Effect). Grows ys (retold ys tx (with_decision (decided_in r.1))))
+      (λ q. grows_told ys tx (with_decision (decided_in (aborted s tx).1)) (λ y w. outcome_first y (decided_in (aborted s tx).1) (undecided tx body order heard (same_lock s.core.lock t tx body order heard e q) y w).0))
       (λ q. outcome_quiet tx)
   give_up_grows tx (Promised t offer) e = outcome_quiet tx
   give_up_grows tx (Watching t watch) e = outcome_quiet tx

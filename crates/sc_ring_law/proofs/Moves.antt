@@ -18,7 +18,7 @@ use Rattle.sc_machine_table.specs.Plans.{can_cut, can_join, has_key_of, part_gif
 use Rattle.sc_machine_table.specs.Transactions.{decided_group}
 use Rattle.sc_ring_law.specs.Stories.{Story, Stories, put}
 use Rattle.sc_ring_law.specs.Invariant.{Groups}
-use Rattle.sc_entries.proofs.Names.{draw_cases}
+use Rattle.sc_log_entries.proofs.Names.{draw_cases}
 use Rattle.sc_ring_law.proofs.View.{Ring, Holds, move_view}
 use Rattle.sc_ring_law.proofs.Arcs.{end_right, right_is, left_is}
 use Rattle.sc_ring_law.proofs.Links.{IsPair, pair_meets}

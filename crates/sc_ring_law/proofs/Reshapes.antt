@@ -20,11 +20,11 @@ use Rattle.sc_machine_table.specs.Finishes.{participant_after, settled_in, party
 use Rattle.sc_machine_table.specs.Plans.{merged_link, merged_route, merged_group, closing_group}
 use Rattle.sc_machine_table.specs.Transactions.{decided_group}
 use Rattle.sc_cmd.specs.declared.cores.Lock.TheVariants.{Free}
-use Rattle.sc_entries.specs.Effective.{is_commit}
+use Rattle.sc_log_entries.specs.Effective.{is_commit}
 use Rattle.sc_base.proofs.NameLemmas.{draw_is}
 use Rattle.sc_ring_law.specs.Stories.{Story, Stories, unsigned, unsigned_watch, offer_for, offer_with, watch_for, watch_with}
 use Rattle.sc_ring_law.specs.Invariant.{Groups, IsFrozen}
-use Rattle.sc_entries.proofs.Names.{other_name}
+use Rattle.sc_log_entries.proofs.Names.{other_name}
 use Rattle.sc_ring_law.proofs.View.{Ring}
 use Rattle.sc_ring_law.proofs.Links.{not_back}
 use Rattle.sc_ring_law.proofs.Effects.{living, arc_of, succ_of, view_of, Good, Old, living_is}

@@ -11,11 +11,11 @@ use Rattle.sc_cmd.specs.declared.effects.Effect.{Effect}
 use Rattle.sc_cmd.specs.declared.effects.Effect.TheVariants as Was
 use Rattle.sc_cmd.specs.declared.votes.Outcome.{Outcome}
 use Rattle.sc_cmd.specs.declared.votes.Outcome.TheVariants.{Abort, Merged, Moved, Migrated, Divided}
-use Rattle.sc_entries.specs.Births.{is_divided, division_in, division_of}
-use Rattle.sc_entries.specs.Decisions.{outcome_in}
-use Rattle.sc_entries.specs.declared.Cut.{Cut}
-use Rattle.sc_entries.specs.declared.Division.{Division}
-use Rattle.sc_entries.specs.Rings.{is_cut_of, arc_in, recut, parts_of, ring_divided, both_arcs, ring_merged, ring_moved, ring_decided, decided_by, ring_after}
+use Rattle.sc_cmd.specs.Effects.{is_divided, decided_in}
+use Rattle.sc_log_entries.specs.Births.{division_in, division_of}
+use Rattle.sc_log_entries.specs.declared.Cut.{Cut}
+use Rattle.sc_log_entries.specs.declared.Division.{Division}
+use Rattle.sc_log_entries.specs.Rings.{is_cut_of, arc_in, recut, parts_of, ring_divided, both_arcs, ring_merged, ring_moved, ring_decided, decided_by, ring_after}
 use Rattle.sc_ring_law.specs.Stories.{put}
 use Rattle.sc_ring_law.proofs.View.{Ring}
 use Rattle.sc_ring_law.proofs.Cover.{at-other}
@@ -77,7 +77,7 @@ pub no_division : {X : Type 0} (d : Division) → None ≡ Some d → X
 no_division d e = absurd (let f : None ≡ Some d = e in cc)
 
 -- what divides moves no other cut
-watch_alone : (effect : Effect) (x : Option Division) (d : Division) (ring : List Cut) (g p : Draw) → cond (is_divided effect) x None ≡ Some d → ring_decided (outcome_in effect) g p ring ≡ ring
+watch_alone : (effect : Effect) (x : Option Division) (d : Division) (ring : List Cut) (g p : Draw) → cond (is_divided effect) x None ≡ Some d → ring_decided (decided_in effect) g p ring ≡ ring
 watch_alone (Was.Done reply) x d ring g p e = refl
 watch_alone (Was.Again reply) x d ring g p e = refl
 watch_alone (Was.Stale last) x d ring g p e = refl

@@ -13,16 +13,16 @@ use Rattle.sc_cmd.specs.declared.cores.Lock.{Lock}
 use Rattle.sc_cmd.specs.declared.cores.Lock.TheVariants.{Free, Coordinating, Promised, Watching}
 use Rattle.sc_cmd.specs.declared.links.Route.{Route}
 use Rattle.sc_machine_table.specs.Group.{Group}
-use Rattle.sc_entries.specs.declared.Cut.{Cut}
-use Rattle.sc_entries.specs.declared.LogEntry.{LogEntry}
-use Rattle.sc_entries.specs.declared.Transaction.{Transaction}
-use Rattle.sc_entries.specs.Effective.{after_outcome, effective_by, effective, is_open, serves}
-use Rattle.sc_entries.specs.Rings.{Covers, arc_in}
-use Rattle.sc_entries.specs.Worlds.{StoreWorld, named_group, world_after}
+use Rattle.sc_log_entries.specs.declared.Cut.{Cut}
+use Rattle.sc_log_entries.specs.declared.LogEntry.{LogEntry}
+use Rattle.sc_log_entries.specs.declared.Transaction.{Transaction}
+use Rattle.sc_log_entries.specs.Effective.{after_outcome, effective_by, effective, is_open, serves}
+use Rattle.sc_log_entries.specs.Rings.{Covers, arc_in}
+use Rattle.sc_log_entries.specs.Worlds.{StoreWorld, named_group, world_after}
 use Rattle.sc_ring_law.specs.Allowed.{Sources, IsAllowed, AreAllowed, ToldWorld, first_told, told_on, told_after}
 use Rattle.sc_ring_law.specs.Stories.{Stories}
 use Rattle.sc_ring_law.specs.Invariant.{Facts}
-use Rattle.sc_entries.specs.Parts.{IsPlaced}
+use Rattle.sc_log_entries.specs.Parts.{IsPlaced}
 use Rattle.sc_ring_law.specs.Laws.{IsRingSound, EntriesKeepTheRing, EntriesKeepThePromises, DrawsAreOfOneLog, draw_of, AllowedListsAppend}
 use Rattle.sc_ring_law.proofs.View.{Holds, HeldBy, CoversBy}
 use Rattle.sc_ring_law.proofs.Finds.{all_pairs}

@@ -4,6 +4,7 @@ use Rattle.std.proofs.lemmas.Option.{same_Some}
 use Rattle.sc_base.specs.Arc.{before, from}
 use Rattle.sc_base.specs.declared.names.Draw.{Draw}
 use Rattle.sc_base.proofs.NameLemmas.{draw_is}
+use Rattle.sc_cmd.specs.Cores.{is_alone}
 use Rattle.sc_ideal.specs.IdealStore.{part_of}
 use Rattle.sc_cmd.specs.declared.bodies.Body.TheVariants as At
 use Rattle.sc_cmd.specs.declared.bodies.Watch.{Watch}
@@ -14,12 +15,11 @@ use Rattle.sc_cmd.specs.declared.votes.Outcome.TheVariants.{Divided}
 use Rattle.sc_cmd.specs.declared.votes.Past.TheVariants as Cast
 use Rattle.sc_machine_table.specs.Group.{Group, group_of}
 use Rattle.sc_machine_table.specs.Finishes.{party_freed, watcher_after}
-use Rattle.sc_machine_table.specs.Orders.{is_alone}
 use Rattle.sc_machine_table.specs.Splits.{left_group, child_of, left_link, right_link}
 use Rattle.sc_machine_table.specs.Transactions.{decided_group}
 use Rattle.sc_ring_law.specs.Stories.{Story, Stories, put, unsigned, unsigned_watch, watch_with}
 use Rattle.sc_ring_law.specs.Invariant.{Groups}
-use Rattle.sc_entries.proofs.Names.{draw_cases, other_name}
+use Rattle.sc_log_entries.proofs.Names.{draw_cases, other_name}
 use Rattle.sc_ring_law.proofs.View.{Ring, Holds, split_view}
 use Rattle.sc_ring_law.proofs.Cover.{at-same, at-other}
 use Rattle.sc_ring_law.proofs.Recut.{split_whole}

@@ -14,14 +14,14 @@ use Rattle.sc_base.proofs.NameLemmas.{same_name}
 use Rattle.sc_ideal.specs.IdealStore.{with_pairs}
 use Rattle.sc_cmd.specs.declared.cores.Base.{Base}
 use Rattle.sc_machine_table.specs.Group.{Group, group_of}
-use Rattle.sc_entries.specs.declared.Cut.{Cut}
-use Rattle.sc_entries.specs.Rings.{Covers, is_cut_of, arc_in, first_cut}
-use Rattle.sc_entries.specs.Worlds.{is_named, named_group}
+use Rattle.sc_log_entries.specs.declared.Cut.{Cut}
+use Rattle.sc_log_entries.specs.Rings.{Covers, is_cut_of, arc_in, first_cut}
+use Rattle.sc_log_entries.specs.Worlds.{is_named, named_group}
 use Rattle.sc_ring_law.specs.Allowed.{Sources, first_told}
 use Rattle.sc_ring_law.specs.Stories.{no_stories}
 use Rattle.sc_ring_law.specs.Invariant.{Groups, LockOk, Facts}
 use Rattle.sc_ring_law.specs.Laws.{BeginInPlace, BeginsInPlace}
-use Rattle.sc_entries.proofs.Names.{other_name, found_name}
+use Rattle.sc_log_entries.proofs.Names.{other_name, found_name}
 use Rattle.sc_ring_law.proofs.View.{IsOnRing, Holds, HeldBy, Ring, CoversBy, View, IsLinked}
 use Rattle.sc_paxos_law.proofs.Among.{from_map}
 use Rattle.sc_paxos_words.proofs.ListLemmas.{Each-among, Each-from, find_found}

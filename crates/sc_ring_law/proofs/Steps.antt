@@ -10,6 +10,8 @@ use Rattle.sc_base.specs.Arc.{Arc}
 use Rattle.sc_base.specs.declared.names.Draw.{Draw}
 use Rattle.sc_base.specs.declared.ops.Op.{Op}
 use Rattle.sc_base.specs.declared.ops.Noted.{Noted}
+use Rattle.sc_cmd.specs.Effects.{is_changed}
+use Rattle.sc_cmd.specs.Cores.{is_alone}
 use Rattle.sc_ideal.specs.IdealStore.{Contents, key_of, after, holds_key}
 use Rattle.sc_ideal.proofs.Apart.{apart, get-part}
 use Rattle.sc_member.specs.Union.{united}
@@ -38,17 +40,16 @@ use Rattle.sc_cmd.specs.declared.votes.Vote.TheVariants as Ballot
 use Rattle.sc_machine_table.specs.Group.{Group}
 use Rattle.sc_machine_table.specs.Finishes.{can_gain, gained_group, lost_group, welcomed_group, participant_after, settled_in, finished, party_freed, pred_after, watcher_after, watch_ended}
 use Rattle.sc_machine_table.specs.Machine.{done, served_by_note, served, called, applied, ordered_by}
-use Rattle.sc_machine_table.specs.Orders.{locked_in, is_alone, refused_free, refused_in, refusal_of, begin_refused, body_refused, ordered, with_node, without_node}
+use Rattle.sc_machine_table.specs.Orders.{locked_in, refused_free, refused_in, refusal_of, begin_refused, body_refused, ordered, with_node, without_node}
 use Rattle.sc_machine_table.specs.Plans.{frozen_of, can_cut, has_key_of}
 use Rattle.sc_machine_table.specs.Splits.{has_named, is_locked_in}
 use Rattle.sc_machine_table.specs.Transactions.{begun_group}
 use Rattle.sc_machine_table.specs.Votes.{has_voted, no_of, vote_of, offer_no, watch_no, watch_vote_of, past_of, bound_by, offer_voted, watched}
-use Rattle.sc_entries.specs.Births.{is_changed}
-use Rattle.sc_entries.specs.Effective.{after_outcome, is_commit}
+use Rattle.sc_log_entries.specs.Effective.{after_outcome, is_commit}
 use Rattle.sc_ring_law.specs.Allowed.{IsShared}
 use Rattle.sc_ring_law.specs.Stories.{Story, Stories, put, retold, new_story, unsigned, unsigned_watch, vote_in, watch_vote_in, with_vote, with_watch_vote, stories_after}
 use Rattle.sc_ring_law.specs.Invariant.{Groups, has_decided, has_born, IsOwnBody, Facts}
-use Rattle.sc_entries.proofs.Names.{draw_cases, names_differ}
+use Rattle.sc_log_entries.proofs.Names.{draw_cases, names_differ}
 use Rattle.sc_ring_law.proofs.View.{Ring}
 use Rattle.sc_ring_law.proofs.Cover.{at-same, at-is, at-other}
 use Rattle.sc_base.proofs.NameLemmas.{same_name}

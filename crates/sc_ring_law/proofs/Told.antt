@@ -11,12 +11,12 @@ use Rattle.sc_base.proofs.NameLemmas.{draw_is, same_name}
 use Rattle.sc_cmd.specs.declared.cores.Base.{Base}
 use Rattle.sc_cmd.specs.declared.votes.Outcome.{Outcome}
 use Rattle.sc_machine_table.specs.Group.{Group, group_of}
-use Rattle.sc_entries.specs.declared.Transaction.{Transaction}
-use Rattle.sc_entries.specs.Decisions.{is_of, amended, concluded, with_outcome as concludes, with_watcher, transaction_in, decision}
-use Rattle.sc_entries.specs.Worlds.{is_named, named_group, with_group, groups_after}
+use Rattle.sc_log_entries.specs.declared.Transaction.{Transaction}
+use Rattle.sc_log_entries.specs.Decisions.{is_of, amended, concluded, with_outcome as concludes, with_watcher, transaction_in, decision}
+use Rattle.sc_log_entries.specs.Worlds.{is_named, named_group, with_group, groups_after}
 use Rattle.sc_ring_law.specs.Stories.{Story, Stories, put, retold, with_decision}
 use Rattle.sc_ring_law.specs.Invariant.{Groups}
-use Rattle.sc_entries.proofs.Names.{draw_cases, other_name, found_name}
+use Rattle.sc_log_entries.proofs.Names.{draw_cases, other_name, found_name}
 use Rattle.sc_ring_law.proofs.Cover.{at-same, at-is, at-other}
 use Rattle.sc_ring_law.proofs.Effects.{outcome_of}
 use Rattle.sc_paxos_law.proofs.Among.{Among-either, from_map}

@@ -20,18 +20,19 @@ use Rattle.sc_cmd.specs.declared.votes.Outcome.{Outcome}
 use Rattle.sc_cmd.specs.declared.votes.Past.{Past}
 use Rattle.sc_cmd.specs.declared.votes.Vote.{Vote}
 use Rattle.sc_cmd.specs.declared.votes.Vote.TheVariants as Ballot
+use Rattle.sc_cmd.specs.Effects.{is_changed, is_divided, decided_in}
+use Rattle.sc_cmd.specs.Cores.{is_alone}
 use Rattle.sc_machine_table.specs.Group.{Group, group_of}
 use Rattle.sc_machine_table.specs.Machine.{applied, split_group}
-use Rattle.sc_machine_table.specs.Orders.{is_alone}
 use Rattle.sc_machine_table.specs.Splits.{child_of}
 use Rattle.sc_machine_table.specs.Transactions.{begun_group, asks_watcher, participant_answered, vote_recorded, watch_answered, watch_recorded, is_coordinating, aborted}
-use Rattle.sc_entries.specs.Births.{is_changed, is_divided, division_by, division_in, division_of, birth_of}
-use Rattle.sc_entries.specs.Decisions.{outcome_in, begun_transaction, begun_split, named_watcher, with_watcher, amended, concluded, transactions_after}
-use Rattle.sc_entries.specs.Rings.{decided_by, arc_in}
-use Rattle.sc_entries.specs.Worlds.{named_group, groups_after, after_command}
-use Rattle.sc_entries.specs.declared.Division.{Division}
-use Rattle.sc_entries.specs.declared.LogEntry.{LogEntry}
-use Rattle.sc_entries.specs.declared.Transaction.{Transaction}
+use Rattle.sc_log_entries.specs.Births.{division_by, division_in, division_of, birth_of}
+use Rattle.sc_log_entries.specs.Decisions.{begun_transaction, begun_split, named_watcher, with_watcher, amended, concluded, transactions_after}
+use Rattle.sc_log_entries.specs.Rings.{decided_by, arc_in}
+use Rattle.sc_log_entries.specs.Worlds.{named_group, groups_after, after_command}
+use Rattle.sc_log_entries.specs.declared.Division.{Division}
+use Rattle.sc_log_entries.specs.declared.LogEntry.{LogEntry}
+use Rattle.sc_log_entries.specs.declared.Transaction.{Transaction}
 use Rattle.sc_ring_law.specs.Allowed.{Sources, IsAllowed, AreAllowed, ToldWorld, stories_told, told_on, told_after}
 use Rattle.sc_ring_law.specs.Stories.{Story, Stories, put, retold, new_story, vote_in, watch_vote_in, with_vote, with_watch_vote, with_decision, with_asked, with_answer, stories_after}
 use Rattle.sc_ring_law.specs.Invariant.{Groups}
@@ -41,7 +42,7 @@ use Rattle.sc_ring_law.proofs.Ends.{draw_new, group_none, own_story, same_lock}
 use Rattle.sc_ring_law.proofs.Effects.{decisions, eff, arc_of}
 use Rattle.sc_ring_law.proofs.Steps.{Kept, same_fun, idle, call_kept, join_kept, leave_kept, begin_kept, prepared_kept, watched_kept, named_cases}
 use Rattle.sc_ring_law.proofs.Cuts.{arcs_in}
-use Rattle.sc_entries.proofs.Names.{found_name}
+use Rattle.sc_log_entries.proofs.Names.{found_name}
 use Rattle.sc_ring_law.proofs.Told.{groups_in, with_child, groups_are, AreFound, found_after, Agree, story_brief, agree_begun, agree_retold, agree_watcher, agree_concluded}
 use Rattle.sc_ring_law.proofs.Commits.{ring_told}
 use Rattle.sc_ring_law.proofs.Decisions.{born_too, record_kept, give_up_kept, watch_record_kept}
@@ -147,12 +148,12 @@ module _ (sources : Sources) (ring : Ring) (gs : Groups) (ys : Stories) (g : Dra
   own_apart tx body order heard lock q = (own_story gs ys sources.owner g s tx body order heard k.0 is lock).apart (sym q ∙ named)
 
   vote_told : (tx : Draw) (vote : Vote) (effect : Effect) → ((y : Story) → ys tx ≡ Some y → y.coordinator ≡ s.core.id) → (ts : List Transaction) → Agree ts ys
-      → Agree (cond (is_changed effect) (amended tx s.core.id (with_watcher (named_watcher vote)) ts) (concluded (outcome_in effect) tx s.core.id ts)) (retold ys tx (with_answer s.core vote effect))
+      → Agree (cond (is_changed effect) (amended tx s.core.id (with_watcher (named_watcher vote)) ts) (concluded (decided_in effect) tx s.core.id ts)) (retold ys tx (with_answer s.core vote effect))
   vote_told tx vote effect coord ts a =
       elim (is_changed effect)
-      as (λ b. Agree (cond b (amended tx s.core.id (with_watcher (named_watcher vote)) ts) (concluded (outcome_in effect) tx s.core.id ts)) (retold ys tx (λ y. cond b (with_asked s.core vote y) (with_decision (outcome_in effect) y)))) [
+      as (λ b. Agree (cond b (amended tx s.core.id (with_watcher (named_watcher vote)) ts) (concluded (decided_in effect) tx s.core.id ts)) (retold ys tx (λ y. cond b (with_asked s.core vote y) (with_decision (decided_in effect) y)))) [
         | true ↦ agree_watcher ts ys tx s.core.id (named_watcher vote) (with_asked s.core vote) a (asked_brief s vote)
-        | false ↦ agree_concluded ts ys tx s.core.id (outcome_in effect) a (λ x e. coord)
+        | false ↦ agree_concluded ts ys tx s.core.id (decided_in effect) a (λ x e. coord)
       ]
 
   vote_quiet : (tx : Draw) (vote : Vote) (by : ℕ) → Fits gs ys s (RecordVote tx vote by) (Was.NoEffect tx)
@@ -180,7 +181,7 @@ module _ (sources : Sources) (ring : Ring) (gs : Groups) (ys : Stories) (g : Dra
       cond_both (same_draw t tx) (aborted s tx) (s, Was.NoEffect tx) (λ (r : Group × Effect). Fits gs ys s (GiveUp tx) r.1)
       (λ q. record {
         births = λ d w. no_division d w;
-        told = λ ts a. agree_concluded ts ys tx s.core.id (outcome_in (aborted s tx).1) a (λ x w. own_coordinator tx body order heard (same_lock s.core.lock t tx body order heard e q));
+        told = λ ts a. agree_concluded ts ys tx s.core.id (decided_in (aborted s tx).1) a (λ x w. own_coordinator tx body order heard (same_lock s.core.lock t tx body order heard e q));
         apart = λ x w. none_decided x w;
       })
       (λ q. give_up_quiet tx)
@@ -212,7 +213,7 @@ module _ (sources : Sources) (ring : Ring) (gs : Groups) (ys : Stories) (g : Dra
       (λ q. (let lock = same_lock s.core.lock t tx body order heard e q in
       let r = cond (asks_watcher body heard) (watch_answered vote body heard s tx) (s, Was.NoEffect tx) in record {
         births = λ d w. cond_both (is_divided r.1) (division_in s.core.lock) None (λ (x : Option Division). x ≡ Some d → gs d.child ≡ None) (λ b z. lock_new s.core.lock refl d z) (λ b z. no_division d z) w;
-        told = λ ts a. agree_concluded ts ys tx s.core.id (outcome_in r.1) a (λ x w. own_coordinator tx body order heard lock);
+        told = λ ts a. agree_concluded ts ys tx s.core.id (decided_in r.1) a (λ x w. own_coordinator tx body order heard lock);
         apart = λ x w. own_apart tx body order heard lock;
       }))
       (λ q. watch_quiet tx vote by)

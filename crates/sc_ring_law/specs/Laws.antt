@@ -8,11 +8,11 @@ use Rattle.sc_cmd.specs.declared.commands.Command.TheVariants.{Noop, Call, Join,
 use Rattle.sc_cmd.specs.declared.cores.Base.{Base}
 use Rattle.sc_cmd.specs.declared.cores.Core.{Core}
 use Rattle.sc_cmd.specs.declared.cores.Lock.TheVariants.{Free}
-use Rattle.sc_entries.specs.declared.Cut.{Cut}
-use Rattle.sc_entries.specs.declared.LogEntry.{LogEntry}
-use Rattle.sc_entries.specs.Parts.{IsPlaced, ServesItsCut}
-use Rattle.sc_entries.specs.Rings.{Covers, first_cut}
-use Rattle.sc_entries.specs.Worlds.{StoreWorld, named_group, world_of}
+use Rattle.sc_log_entries.specs.declared.Cut.{Cut}
+use Rattle.sc_log_entries.specs.declared.LogEntry.{LogEntry}
+use Rattle.sc_log_entries.specs.Parts.{IsPlaced, ServesItsCut}
+use Rattle.sc_log_entries.specs.Rings.{Covers, first_cut}
+use Rattle.sc_log_entries.specs.Worlds.{StoreWorld, named_group, world_of}
 use Rattle.sc_ring_law.specs.Allowed.{Sources, IsAllowed, AreAllowed, ToldWorld, first_told, told_after}
 use Rattle.sc_ring_law.specs.Invariant.{Facts}
 use Rattle.sc_ring_law.specs.Stories.{Stories}

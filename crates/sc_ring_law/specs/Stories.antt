@@ -20,12 +20,11 @@ use Rattle.sc_cmd.specs.declared.votes.Past.{Past}
 use Rattle.sc_cmd.specs.declared.votes.Past.TheVariants as Cast
 use Rattle.sc_cmd.specs.declared.votes.Vote.{Vote}
 use Rattle.sc_cmd.specs.declared.votes.Vote.TheVariants as Ballot
+use Rattle.sc_cmd.specs.Effects.{is_changed, decided_in}
+use Rattle.sc_cmd.specs.Cores.{is_alone}
 use Rattle.sc_machine_table.specs.Group.{Group}
-use Rattle.sc_machine_table.specs.Orders.{is_alone}
 use Rattle.sc_machine_table.specs.Plans.{frozen_of, merged_link}
 use Rattle.sc_machine_table.specs.Splits.{right_link}
-use Rattle.sc_entries.specs.Births.{is_changed}
-use Rattle.sc_entries.specs.Decisions.{outcome_in}
 
 -- what was told of a transaction
 pub record Story : Type 0 where
@@ -151,7 +150,7 @@ with_asked core (Ballot.No why) story = story
 
 -- what a participant's vote adds, where it is recorded: it decides, or the watcher is asked
 abbrev pub with_answer : Core → Vote → Effect → Story → Story
-with_answer core vote effect story = if is_changed effect then with_asked core vote story else with_decision (outcome_in effect) story
+with_answer core vote effect story = if is_changed effect then with_asked core vote story else with_decision (decided_in effect) story
 
 -- the stories after an entry of the log of a group, as it was before
 abbrev pub stories_after : Group → Command → Effect → Stories → Stories
@@ -161,8 +160,8 @@ stories_after group (Begin tx body order) effect stories = if is_changed effect 
 stories_after group (Prepared tx offer) effect stories = retold stories tx (with_vote (vote_in group effect))
 stories_after group (Watched tx watch) effect stories = retold stories tx (with_watch_vote (watch_vote_in effect))
 stories_after group (RecordVote tx vote by) effect stories = retold stories tx (with_answer group.core vote effect)
-stories_after group (RecordWatch tx vote by) effect stories = retold stories tx (with_decision (outcome_in effect))
-stories_after group (GiveUp tx) effect stories = retold stories tx (with_decision (outcome_in effect))
+stories_after group (RecordWatch tx vote by) effect stories = retold stories tx (with_decision (decided_in effect))
+stories_after group (GiveUp tx) effect stories = retold stories tx (with_decision (decided_in effect))
 stories_after group Noop effect stories = stories
 stories_after group (Call client seq op) effect stories = stories
 stories_after group (Join node order) effect stories = stories

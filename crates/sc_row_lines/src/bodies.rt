@@ -1,4 +1,4 @@
-//! What mails say: requests, answers with a value, and the mail of Paxos.
+//! What mails say: requests, answers to clients, and the mail of Paxos.
 ghost use Rattle.std.specs.Prelude.{IfSome};
 ghost use Rattle.sc_row_text.specs.Answers.{answer_body_json, FitsAnswerBody};
 ghost use Rattle.sc_row_text.specs.Mails.{mail_body_json, FitsMailBody};
@@ -17,13 +17,35 @@ fn answer_value(alloc: Global, bytes: &[u8]) -> Option<(AnswerBody, &[u8])>
     Some((AnswerBody::Value(content), rest))
 }
 
+fn answer_not_leader(alloc: Global, bytes: &[u8]) -> Option<(AnswerBody, &[u8])>
+    ensures { IfSome result
+        (λ found. TextBegins answer_body_json FitsAnswerBody bytes.now found.0 found.1.now) }
+{
+    let (hint, rest) = one_of(alloc, bytes, br#"{"NotLeader":{"hint":"#, b"}}")?;
+    Some((AnswerBody::NotLeader { hint }, rest))
+}
+
+fn answer_stale(alloc: Global, bytes: &[u8]) -> Option<(AnswerBody, &[u8])>
+    ensures { IfSome result
+        (λ found. TextBegins answer_body_json FitsAnswerBody bytes.now found.0 found.1.now) }
+{
+    let (last, rest) = one_of(alloc, bytes, br#"{"Stale":{"last":"#, b"}}")?;
+    Some((AnswerBody::Stale { last }, rest))
+}
+
 impl FromText for AnswerBody {
     ghost json_of = { answer_body_json };
 
     ghost Fits = { FitsAnswerBody };
 
     fn take(alloc: Global, bytes: &[u8]) -> Option<(AnswerBody, &[u8])> {
-        answer_value(alloc, bytes)
+        if let Some(found) = answer_value(alloc, bytes) {
+            return Some(found);
+        }
+        if let Some(found) = answer_not_leader(alloc, bytes) {
+            return Some(found);
+        }
+        answer_stale(alloc, bytes)
     }
 }
 

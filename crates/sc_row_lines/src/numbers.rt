@@ -1,9 +1,10 @@
 //! Numbers.
 ghost use Rattle.std.specs.Prelude.{◌≡◌, ◌<◌, ◌≤◌, ◌^◌, ◌++◌, decimal, length, IfSome};
-ghost use Rattle.sc_row_text.specs.Shapes.{number_json};
-ghost use Rattle.sc_row_text.specs.Held.{FitsU16, FitsU32};
+ghost use Rattle.sc_row_text.specs.Shapes.{number_json, option_json};
+ghost use Rattle.sc_row_text.specs.Held.{FitsU16, FitsU32, OptionFits};
 
 use crate::from_text::FromText;
+use crate::words::behind;
 use sc_base::read_number;
 use std::alloc::Global;
 
@@ -47,5 +48,19 @@ impl FromText for u32 {
     fn take(_alloc: Global, bytes: &[u8]) -> Option<(u32, &[u8])> {
         let (number, rest) = number_at(bytes, u32::MAX as u64)?;
         Some((number as u32, rest))
+    }
+}
+
+impl FromText for Option<u16> {
+    ghost json_of = { option_json number_json };
+
+    ghost Fits = { OptionFits FitsU16 };
+
+    fn take(alloc: Global, bytes: &[u8]) -> Option<(Option<u16>, &[u8])> {
+        if let Some(rest) = behind(bytes, b"null") {
+            return Some((None, rest));
+        }
+        let (number, rest) = u16::take(alloc, bytes)?;
+        Some((Some(number), rest))
     }
 }

@@ -20,8 +20,8 @@ use Rattle.sc_scenario.specs.declared.scenarios.Scenario.{Scenario}
 use Rattle.sc_sound.specs.Players.{schedule, system_of, Lawful, parties, Player, as_nodes}
 use Rattle.sc_refusal_law.specs.Journals.{ValidJournalsRefuseWithCause}
 use Rattle.sc_whole_law.specs.Valid.{ValidJournalsAreSound}
-use Rattle.sc_statuses.specs.Causes.{said_of}
-use Rattle.sc_statuses.specs.declared.said.Said.TheVariants.{Filled}
+use Rattle.sc_command_line.specs.Causes.{said_of}
+use Rattle.sc_command_line.specs.declared.said.Said.TheVariants.{Filled}
 use Rattle.sc_run.specs.declared.done.Text.{Text}
 use Rattle.sc_run.specs.Played.{mail_weight, HasPlayedToEnd, HasFilled}
 use Rattle.sc_run.specs.Run.{journal_limit, Comes, TellsFull}

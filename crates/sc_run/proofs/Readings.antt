@@ -7,16 +7,16 @@ use Rattle.sc_journal_file.specs.Stored.{IsBadFile}
 use Rattle.sc_lines.specs.declared.reasons.Reason.{Reason}
 use Rattle.sc_mail.specs.declared.bodies.Mail.{Mail}
 use Rattle.sc_scenario.specs.declared.scenarios.Scenario.{Scenario}
-use Rattle.sc_statuses.specs.declared.said.Said.{Said}
-use Rattle.sc_wants.specs.Faults.{HasFault, IsBadText}
-use Rattle.sc_wants.specs.Inputs.{ReadsFile, ReadsScenario, ReadsText}
-use Rattle.sc_wants.specs.declared.faults.InputFault.{InputFault}
-use Rattle.sc_wants.specs.declared.faults.InputFault.TheVariants.{Failed, Bad, OutOfMemory}
+use Rattle.sc_command_line.specs.declared.said.Said.{Said}
+use Rattle.sc_command_line.specs.Faults.{HasFault, IsBadText}
+use Rattle.sc_command_line.specs.Inputs.{ReadsFile, ReadsScenario, ReadsText}
+use Rattle.sc_command_line.specs.declared.faults.InputFault.{InputFault}
+use Rattle.sc_command_line.specs.declared.faults.InputFault.TheVariants.{Failed, Bad, OutOfMemory}
 use Rattle.sc_run.specs.declared.done.Text.{Text}
 use Rattle.sc_run.specs.Refusals.{TellsFault}
 use Rattle.sc_run.specs.Run.{AuditsAs, Audits, Comes, Keeps, Reads, Refuses, Scans, ShowsFile, ShowsReport}
 use Rattle.sc_run.specs.Shown.{ShowsScan}
-use Rattle.sc_words.specs.declared.subcommands.Sight.{Sight}
+use Rattle.sc_command_line.specs.declared.subcommands.Sight.{Sight}
 
 -- a text about the fault that an input has refuses the input
 refuses : (IsBad : List ℕ → ℕ → Reason → Type 0) (source : SourceUse) (fault : InputFault) (said : Said) (text : Text) → HasFault IsBad source fault → TellsFault fault said text → Refuses IsBad source said text

@@ -16,7 +16,7 @@ use Rattle.sc_sound.specs.GroupsOf.{entries_at, world_at}
 use Rattle.sc_sound.specs.Players.{system_of, schedule, Lawful, as_nodes}
 use Rattle.sc_sound.specs.Soundness.{IsSoundThroughout}
 use Rattle.sc_whole_law.specs.Valid.{ValidEntriesAreLogs}
-use Rattle.sc_words.specs.declared.subcommands.Sight.{Sight}
+use Rattle.sc_command_line.specs.declared.subcommands.Sight.{Sight}
 use Rattle.sc_run.specs.Shown.{ShowsScan}
 
 module _ (tell : ScansTell) (count : EntriesCountLogs) (logs : ValidEntriesAreLogs) (scenario : Scenario) (valid : IsValid scenario) (journal : List (Row Mail OrderLine)) (lawful : Lawful as_nodes two_words scenario journal) (sound : IsSoundThroughout as_nodes scenario journal) where

@@ -13,10 +13,10 @@ use Rattle.sc_journal_file.specs.Laws.{FilesHaveOneVerdict, PrintedFilesAreFiles
 use Rattle.sc_edges.specs.Uses.{SourceUse}
 use Rattle.sc_journal_file.specs.Stored.{most_file_bytes, file_text, IsFile, IsBadFile}
 use Rattle.sc_sound.specs.Players.{system_of, schedule, Lawful, as_nodes}
-use Rattle.sc_statuses.specs.declared.said.Said.{Said}
+use Rattle.sc_command_line.specs.declared.said.Said.{Said}
 use Rattle.sc_run.specs.declared.done.Text.{Text}
 use Rattle.sc_run.specs.Audited.{SaysYes, LawfulFilesAreTold, PrintedJournalsAreTold}
-use Rattle.sc_wants.specs.Inputs.{ReadsFile}
+use Rattle.sc_command_line.specs.Inputs.{ReadsFile}
 use Rattle.sc_run.specs.Run.{HoldsUnlawful, NamesBadLine}
 
 -- a first part of a lawful journal is lawful

@@ -13,14 +13,14 @@ use Rattle.sc_scenario.specs.Made.{made_scenario}
 use Rattle.sc_scenario.specs.Valid.{IsValid}
 use Rattle.sc_scenario.specs.declared.scenarios.Scenario.{Scenario}
 use Rattle.sc_sound.specs.Players.{system_of, schedule, as_nodes}
-use Rattle.sc_statuses.specs.Causes.{said_of, status_of}
-use Rattle.sc_statuses.specs.declared.said.Said.{Said}
-use Rattle.sc_wants.specs.Faults.{IsBadText}
+use Rattle.sc_command_line.specs.Causes.{said_of, status_of}
+use Rattle.sc_command_line.specs.declared.said.Said.{Said}
+use Rattle.sc_command_line.specs.Faults.{IsBadText}
 use Rattle.sc_budget_law.specs.Budget.{IsAtBudget, AreAnswered}
 use Rattle.sc_budget_law.specs.Laws.{PlainLinesEndQuiet, PlainRequestsAreAnswered, PlainJournalsAreLight}
-use Rattle.sc_words.specs.Subcommands.{subcommand_by}
-use Rattle.sc_words.specs.declared.subcommands.Subcommand.{Subcommand}
-use Rattle.sc_words.specs.declared.subcommands.Subcommand.TheVariants as ask
+use Rattle.sc_command_line.specs.Subcommands.{subcommand_by}
+use Rattle.sc_command_line.specs.declared.subcommands.Subcommand.{Subcommand}
+use Rattle.sc_command_line.specs.declared.subcommands.Subcommand.TheVariants as ask
 use Rattle.sc_run.specs.declared.done.Text.{Text}
 use Rattle.sc_run.specs.Answers.{IsText, IsAskedFor, RunsAnswerWithinBudget}
 use Rattle.sc_run.specs.Run.{Comes, Refuses, SaysFor}

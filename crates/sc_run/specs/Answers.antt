@@ -9,9 +9,9 @@ use Rattle.sc_scenario.specs.Grammar.{verdict_of}
 use Rattle.sc_scenario.specs.Made.{made_scenario}
 use Rattle.sc_scenario.specs.declared.scenarios.Scenario.{Scenario}
 use Rattle.sc_budget_law.specs.Budget.{IsAtBudget, AreAnswered}
-use Rattle.sc_words.specs.Subcommands.{subcommand_by}
-use Rattle.sc_words.specs.declared.subcommands.Subcommand.{Subcommand}
-use Rattle.sc_words.specs.declared.subcommands.Subcommand.TheVariants as ask
+use Rattle.sc_command_line.specs.Subcommands.{subcommand_by}
+use Rattle.sc_command_line.specs.declared.subcommands.Subcommand.{Subcommand}
+use Rattle.sc_command_line.specs.declared.subcommands.Subcommand.TheVariants as ask
 use Rattle.sc_run.specs.declared.done.Done.{Done}
 use Rattle.sc_run.specs.Run.{Runs}
 

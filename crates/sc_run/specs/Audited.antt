@@ -10,8 +10,8 @@ use Rattle.sc_scenario.specs.Grammar.{verdict_of}
 use Rattle.sc_scenario.specs.declared.scenarios.Scenario.{Scenario}
 use Rattle.sc_journal_file.specs.Stored.{most_file_bytes, IsFile}
 use Rattle.sc_sound.specs.Players.{Lawful, as_nodes}
-use Rattle.sc_statuses.specs.declared.said.Said.{Said}
-use Rattle.sc_statuses.specs.declared.said.Said.TheVariants as said
+use Rattle.sc_command_line.specs.declared.said.Said.{Said}
+use Rattle.sc_command_line.specs.declared.said.Said.TheVariants as said
 use Rattle.sc_run.specs.declared.done.Text.{Text}
 use Rattle.sc_run.specs.Run.{Audits, ReportsJournal, ShowsFile}
 

@@ -1,10 +1,10 @@
 -- What is told of an input that is not what was asked for.
 use Rattle.std.specs.Prelude.{◌≡◌, codes}
-use Rattle.sc_statuses.specs.declared.said.Said.{Said}
-use Rattle.sc_statuses.specs.declared.said.Said.TheVariants.{BadScenario, ReadFault}
-use Rattle.sc_wants.specs.Faults.{fault_text}
-use Rattle.sc_wants.specs.declared.faults.InputFault.{InputFault}
-use Rattle.sc_wants.specs.declared.faults.InputFault.TheVariants.{Failed, Bad, OutOfMemory}
+use Rattle.sc_command_line.specs.declared.said.Said.{Said}
+use Rattle.sc_command_line.specs.declared.said.Said.TheVariants.{BadScenario, ReadFault}
+use Rattle.sc_command_line.specs.Faults.{fault_text}
+use Rattle.sc_command_line.specs.declared.faults.InputFault.{InputFault}
+use Rattle.sc_command_line.specs.declared.faults.InputFault.TheVariants.{Failed, Bad, OutOfMemory}
 use Rattle.sc_run.specs.declared.done.Text.{Text}
 use Rattle.sc_run.specs.Run.{TellsLine}
 

@@ -24,15 +24,15 @@ use Rattle.sc_run.specs.Played.{mail_weight, HasFilled}
 use Rattle.sc_run.specs.Shown.{ShowsScan}
 use Rattle.sc_run.specs.declared.done.Text.{Text}
 use Rattle.sc_run.specs.declared.done.Done.{Done}
-use Rattle.sc_statuses.specs.Causes.{Prints, said_of}
-use Rattle.sc_words.specs.Subcommands.{subcommand_by}
-use Rattle.sc_words.specs.declared.subcommands.Sight.{Sight}
-use Rattle.sc_words.specs.declared.subcommands.Subcommand.{Subcommand}
-use Rattle.sc_words.specs.declared.subcommands.Subcommand.TheVariants as ask
-use Rattle.sc_wants.specs.Faults.{fault_text, IsBadText}
-use Rattle.sc_wants.specs.Inputs.{ReadsFile, ReadsScenario, ReadsText}
-use Rattle.sc_statuses.specs.declared.said.Said.{Said}
-use Rattle.sc_statuses.specs.declared.said.Said.TheVariants.{Filled, Usage, BadScenario, ReadFault, Lawful as Yes, Unlawful as No}
+use Rattle.sc_command_line.specs.Causes.{Prints, said_of}
+use Rattle.sc_command_line.specs.Subcommands.{subcommand_by}
+use Rattle.sc_command_line.specs.declared.subcommands.Sight.{Sight}
+use Rattle.sc_command_line.specs.declared.subcommands.Subcommand.{Subcommand}
+use Rattle.sc_command_line.specs.declared.subcommands.Subcommand.TheVariants as ask
+use Rattle.sc_command_line.specs.Faults.{fault_text, IsBadText}
+use Rattle.sc_command_line.specs.Inputs.{ReadsFile, ReadsScenario, ReadsText}
+use Rattle.sc_command_line.specs.declared.said.Said.{Said}
+use Rattle.sc_command_line.specs.declared.said.Said.TheVariants.{Filled, Usage, BadScenario, ReadFault, Lawful as Yes, Unlawful as No}
 use Rattle.sc_chance.specs.Words.{two_words}
 use Rattle.sc_lines.specs.declared.reasons.Reason.{Reason}
 

@@ -8,7 +8,7 @@ use Rattle.sc_scan.specs.Scan.{scan_at}
 use Rattle.sc_scan.specs.Text.{scan_lines}
 use Rattle.sc_scenario.specs.declared.scenarios.Scenario.{Scenario}
 use Rattle.sc_sound.specs.Players.{as_nodes}
-use Rattle.sc_words.specs.declared.subcommands.Sight.{Sight}
+use Rattle.sc_command_line.specs.declared.subcommands.Sight.{Sight}
 
 -- The lines are the text of a scan of so many first rows of a journal, or of all where there are fewer; and the scan tells what the arc holds after them.
 pub record ShowsScan (scenario : Scenario) (sight : Sight) (journal : List (Row Mail OrderLine)) (lines : List (List ℕ)) : Type 0 where

@@ -15,10 +15,10 @@ use crate::telling::{lawful_line, tells_of_rows, unlawful_line};
 use sc_actor::Journal;
 use sc_base::OutOfMemory;
 use sc_cmd::OrderLine;
+use sc_command_line::Said;
 use sc_journal_file::{files_have_one_verdict, printed_files_are_files};
 use sc_mail::Mail;
 use sc_scenario::Scenario;
-use sc_statuses::Said;
 use sc_world::{ReplayFault, replay_rows};
 use std::alloc::Global;
 

@@ -1,7 +1,7 @@
 //! From the words and bytes that come in to the bytes that go out.
 ghost use Rattle.std.specs.Prelude.{◌≡◌, ◌≤◌, ◌+◌, map, false, string_bytes};
-ghost use Rattle.sc_words.specs.Subcommands.{reads_input};
-ghost use Rattle.sc_wants.specs.Inputs.{most_takes};
+ghost use Rattle.sc_command_line.specs.Subcommands.{reads_input};
+ghost use Rattle.sc_command_line.specs.Inputs.{most_takes};
 ghost use Rattle.sc_run.specs.Answers.{AnswersWithinBudget};
 ghost use Rattle.sc_run.specs.Run.{Runs};
 
@@ -10,8 +10,8 @@ use crate::done::{Done, Text};
 use crate::saying::say;
 use sc_actor::Gate;
 use sc_base::{OutOfMemory, Sequence};
+use sc_command_line::print;
 use sc_edges::{Sink, Source};
-use sc_statuses::print;
 use std::alloc::Global;
 use std::sync::Wait;
 use std::thread::Threads;

@@ -3,9 +3,9 @@ ghost use Rattle.std.specs.Prelude.{◌≡◌, ◌≤◌, ◌+◌, false, map, s
 ghost use Rattle.sc_journal_file.specs.Stored.{most_file_bytes};
 ghost use Rattle.sc_lines.specs.Lines.{most_bytes};
 ghost use Rattle.sc_scenario.specs.Made.{made_scenario};
-ghost use Rattle.sc_wants.specs.Inputs.{most_takes};
-ghost use Rattle.sc_words.specs.Subcommands.{reads_input};
-ghost use Rattle.sc_statuses.specs.declared.said.Said.TheVariants.{Usage};
+ghost use Rattle.sc_command_line.specs.Inputs.{most_takes};
+ghost use Rattle.sc_command_line.specs.Subcommands.{reads_input};
+ghost use Rattle.sc_command_line.specs.declared.said.Said.TheVariants.{Usage};
 ghost use Rattle.sc_run.specs.Run.{usage, Audits, Keeps, PlaysMade, Reads, Says, Scans, TellsLine};
 ghost use Rattle.sc_run.specs.Refusals.{TellsFault};
 
@@ -16,11 +16,11 @@ use crate::showing::show;
 use crate::telling::tells;
 use sc_actor::Gate;
 use sc_base::OutOfMemory;
+use sc_command_line::{
+    InputFault, Said, Sight, Subcommand, fault_text, file_in, scenario_in, subcommand_by, text_in,
+};
 use sc_edges::Source;
 use sc_make::made_scenario;
-use sc_statuses::Said;
-use sc_wants::{InputFault, fault_text, file_in, scenario_in, text_in};
-use sc_words::{Sight, Subcommand, subcommand_by};
 use sc_workers::Way;
 use std::alloc::Global;
 use std::sync::Wait;

@@ -4,7 +4,7 @@
 use crate::replay_tests::{Question, tells};
 use sc_base::Draw;
 use sc_cmd::Base;
-use sc_entries::Cut;
+use sc_log_entries::Cut;
 use sc_map_checks::{covers, legal};
 use sc_world::{World, decided_ring, effective, history};
 use std::alloc::Global;

@@ -6,8 +6,8 @@ use Rattle.sc_base.specs.Among.{Among}
 use Rattle.sc_base.specs.Arc.{Arc, IsArc, holds, offset, end_of}
 use Rattle.sc_paxos_words.proofs.ListLemmas.{Each-from, find_found}
 use Rattle.sc_ring_law.proofs.Finds.{Pairwise, all_pairs}
-use Rattle.sc_entries.specs.declared.Cut.{Cut}
-use Rattle.sc_entries.specs.Rings.{Covers}
+use Rattle.sc_log_entries.specs.declared.Cut.{Cut}
+use Rattle.sc_log_entries.specs.Rings.{Covers}
 use Rattle.sc_scan.specs.declared.walking.Part.{Part}
 use Rattle.sc_scan.specs.Laws.{ShareNothing, IsWithinCut, WalksShareArcs}
 use Rattle.sc_scan.specs.Walk.{first_part, holds_start, left_behind, parts_from, parts_in, reach, walk}

@@ -11,15 +11,15 @@ use Rattle.sc_mail.specs.declared.bodies.Mail.{Mail}
 use Rattle.sc_ideal.specs.History.{contents_after}
 use Rattle.sc_ideal.specs.IdealStore.{holds_key}
 use Rattle.sc_machine_table.specs.Group.{Group}
-use Rattle.sc_entries.specs.declared.Cut.{Cut}
-use Rattle.sc_entries.specs.Effective.{effective_by}
-use Rattle.sc_entries.specs.Rings.{Covers}
-use Rattle.sc_entries.specs.Worlds.{StoreWorld}
+use Rattle.sc_log_entries.specs.declared.Cut.{Cut}
+use Rattle.sc_log_entries.specs.Effective.{effective_by}
+use Rattle.sc_log_entries.specs.Rings.{Covers}
+use Rattle.sc_log_entries.specs.Worlds.{StoreWorld}
 use Rattle.sc_sound.specs.Players.{Ahead}
 use Rattle.sc_sound.specs.GroupsOf.{entries_at, groups_at, world_at}
 use Rattle.sc_sound.specs.Logs.{decided_log, decided_state}
 use Rattle.sc_sound.specs.Soundness.{IsOneMap}
-use Rattle.sc_journal_law.specs.Findings.{AreItsLogs}
+use Rattle.sc_log_law.specs.Findings.{AreItsLogs}
 use Rattle.sc_scan.specs.declared.walking.Part.{Part}
 use Rattle.sc_scan.specs.declared.scans.Shown.{Shown}
 use Rattle.sc_scan.specs.Order.{HaveKeysOnce, Pair, ordered}

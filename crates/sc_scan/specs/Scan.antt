@@ -10,9 +10,9 @@ use Rattle.sc_cmd.specs.declared.cores.Base.{Base}
 use Rattle.sc_cmd.specs.declared.orders.OrderLine.{OrderLine}
 use Rattle.sc_mail.specs.declared.bodies.Mail.{Mail}
 use Rattle.sc_machine_table.specs.Group.{Group}
-use Rattle.sc_entries.specs.declared.LogEntry.{LogEntry}
-use Rattle.sc_entries.specs.Effective.{effective}
-use Rattle.sc_entries.specs.Worlds.{StoreWorld}
+use Rattle.sc_log_entries.specs.declared.LogEntry.{LogEntry}
+use Rattle.sc_log_entries.specs.Effective.{effective}
+use Rattle.sc_log_entries.specs.Worlds.{StoreWorld}
 use Rattle.sc_sound.specs.Players.{Ahead}
 use Rattle.sc_sound.specs.GroupsOf.{log_at, world_at}
 use Rattle.sc_scan.specs.declared.walking.Part.{Part}

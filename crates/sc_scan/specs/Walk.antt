@@ -1,7 +1,7 @@
 -- An arc that is walked from its start through the cuts of a ring: each part starts where the last ended, lies in the cut that holds its start, and ends with that cut or with the arc.
 use Rattle.std.specs.Prelude.{ℕ, zero, suc, ◌-◌, ◌==◌, min, Bool, List, [], ◌∷◌, find, if◌then◌else◌, Option, Some, None}
 use Rattle.sc_base.specs.Arc.{Arc, holds, offset, end_of}
-use Rattle.sc_entries.specs.declared.Cut.{Cut}
+use Rattle.sc_log_entries.specs.declared.Cut.{Cut}
 use Rattle.sc_scan.specs.declared.walking.Part.{Part}
 
 -- how far a cut reaches from a position that it holds

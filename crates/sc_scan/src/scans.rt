@@ -1,7 +1,7 @@
 //! What an arc holds after some rows.
 ghost use Rattle.std.specs.Prelude.{◌≡◌, ◌<◌, ◌^◌, map, IfOk};
 ghost use Rattle.sc_base.specs.Arc.{IsArc};
-ghost use Rattle.sc_entries.specs.Effective.{effective};
+ghost use Rattle.sc_log_entries.specs.Effective.{effective};
 ghost use Rattle.sc_sound.specs.Players.{as_nodes};
 ghost use Rattle.sc_sound.specs.GroupsOf.{entries_at, world_at};
 ghost use Rattle.sc_scan.specs.Scan.{entries_in, pairs_in, scan_of, shown};
@@ -9,10 +9,10 @@ ghost use Rattle.sc_scan.specs.Scan.{entries_in, pairs_in, scan_of, shown};
 use crate::orders::ordered;
 use crate::walking::{Part, parts};
 use sc_actor::Row;
-use sc_base::{Draw, Key, OutOfMemory, Pairs, RingArc, Sequence, Value};
-use sc_cmd::{Base, OrderLine, same_draw};
+use sc_base::{Draw, Key, OutOfMemory, Pairs, RingArc, Sequence, Value, same_draw};
+use sc_cmd::{Base, OrderLine};
 use sc_decided::entries_of;
-use sc_entries::LogEntry;
+use sc_log_entries::LogEntry;
 use sc_mail::Mail;
 use sc_store_world::{StoreWorld, world_of};
 use std::alloc::Global;

@@ -5,7 +5,7 @@ ghost use Rattle.sc_base.specs.Arc.{holds, IsArc};
 ghost use Rattle.sc_scan.specs.Walk.{first_part, parts_in, reach};
 
 use sc_base::{Draw, OutOfMemory, RingArc};
-use sc_entries::Cut;
+use sc_log_entries::Cut;
 use std::alloc::Global;
 
 /// A part of an arc, and the group in whose cut it lies.

@@ -5,8 +5,8 @@ use Rattle.sc_cmd.specs.declared.orders.OrderLine.{OrderLine}
 use Rattle.sc_mail.specs.declared.bodies.Mail.{Mail}
 use Rattle.sc_actor.specs.declared.rows.Row.{Row}
 use Rattle.sc_sound.specs.Players.{Ahead}
-use Rattle.sc_entries.specs.Worlds.{first_world, world_after, world_of}
-use Rattle.sc_entries.proofs.Pushes.{world_append}
+use Rattle.sc_log_entries.specs.Worlds.{first_world, world_after, world_of}
+use Rattle.sc_log_entries.proofs.Pushes.{world_append}
 use Rattle.sc_sound.specs.GroupsOf.{entries_at, entries_by_row, entries_by_rows, world_at}
 
 entries_by_rows-push : (ahead : Ahead) (bases : List Base) (before rows : List (Row Mail OrderLine)) (row : Row Mail OrderLine)

@@ -10,7 +10,7 @@ use Rattle.sc_mail.specs.declared.bodies.Mail.{Mail}
 use Rattle.sc_mail.specs.declared.bodies.MailBody.TheVariants.{Request, Accept, Accepted}
 use Rattle.sc_actor.specs.declared.rows.Row.{Row}
 use Rattle.sc_actor.specs.declared.rows.Event.TheVariants.{Deliver, Go}
-use Rattle.sc_entries.proofs.Worked.{draw, born, entry}
+use Rattle.sc_log_entries.proofs.Worked.{draw, born, entry}
 use Rattle.sc_sound.specs.Example.{four, mail, row}
 use Rattle.sc_sound.specs.GroupsOf.{entries_at}
 

@@ -10,7 +10,7 @@ use Rattle.sc_mail.specs.declared.bodies.MailBody.{MailBody}
 use Rattle.sc_mail.specs.declared.bodies.MailBody.TheVariants.{Accept, Accepted}
 use Rattle.sc_actor.specs.declared.rows.Row.{Row}
 use Rattle.sc_actor.specs.declared.rows.Event.TheVariants.{Deliver, Told}
-use Rattle.sc_entries.proofs.Worked.{draw, born, entry, cut}
+use Rattle.sc_log_entries.proofs.Worked.{draw, born, entry, cut}
 use Rattle.sc_sound.specs.Example.{four, ballot, row}
 use Rattle.sc_sound.specs.GroupsOf.{groups_at, entries_at, ring_at}
 

@@ -14,10 +14,10 @@ use Rattle.sc_ideal.specs.declared.Entry.{Entry}
 use Rattle.sc_machine_table.specs.Group.{Group, group_of}
 use Rattle.sc_machine_table.specs.Machine.{applied}
 use Rattle.sc_sound.specs.Players.{Ahead}
-use Rattle.sc_entries.specs.declared.Cut.{Cut}
-use Rattle.sc_entries.specs.declared.LogEntry.{LogEntry}
-use Rattle.sc_entries.specs.Births.{birth_of}
-use Rattle.sc_entries.specs.Worlds.{StoreWorld, world_of}
+use Rattle.sc_log_entries.specs.declared.Cut.{Cut}
+use Rattle.sc_log_entries.specs.declared.LogEntry.{LogEntry}
+use Rattle.sc_log_entries.specs.Births.{birth_of}
+use Rattle.sc_log_entries.specs.Worlds.{StoreWorld, world_of}
 use Rattle.sc_sound.specs.Logs.{decided_log, decided_state}
 
 -- ---- the groups

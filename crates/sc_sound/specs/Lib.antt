@@ -5,6 +5,5 @@ pub mod Histories
 pub mod Logs
 pub mod Players
 pub mod Requests
-pub mod Roles
 pub mod Soundness
 pub mod Summary

@@ -22,9 +22,9 @@ use Rattle.sc_node_table.specs.Slots.{slots_ahead, numbers_from}
 use Rattle.sc_node_table.specs.Node.{NodeState, node_table, born_node}
 use Rattle.sc_client_table.specs.Client.{Client as ClientState, born_client}
 use Rattle.sc_client_table.specs.Table.{table}
-use Rattle.sc_sound.specs.Roles.{role_table}
-use Rattle.sc_sound.specs.declared.roles.Role.{Role}
-use Rattle.sc_sound.specs.declared.roles.Role.TheVariants.{Node, Client}
+use Rattle.sc_mail.specs.Roles.{role_table}
+use Rattle.sc_mail.specs.declared.roles.Role.{Role}
+use Rattle.sc_mail.specs.declared.roles.Role.TheVariants.{Node, Client}
 
 -- a node or a client, as the value of its table
 abbrev pub Player : Type 0

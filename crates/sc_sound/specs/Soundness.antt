@@ -16,13 +16,13 @@ use Rattle.sc_node_table.specs.Node.{NodeState}
 use Rattle.sc_node_table.specs.Replica.{ReplicaState, name_of, next}
 use Rattle.sc_paxos_law.specs.Chosen.{IsLog}
 use Rattle.sc_sound.specs.Players.{Ahead, node_seat, player_table, route_of}
-use Rattle.sc_sound.specs.declared.roles.Role.TheVariants.{Node as ANode}
+use Rattle.sc_mail.specs.declared.roles.Role.TheVariants.{Node as ANode}
 use Rattle.sc_scenario.specs.declared.scenarios.Asks.{Asks}
 use Rattle.sc_scenario.specs.declared.scenarios.Scenario.{Scenario}
-use Rattle.sc_entries.specs.declared.Cut.{Cut}
-use Rattle.sc_entries.specs.Rings.{Covers}
-use Rattle.sc_entries.specs.Parts.{IsPlaced, ServesItsCut, HoldsItsPart}
-use Rattle.sc_entries.specs.Worlds.{StoreWorld, named_group}
+use Rattle.sc_log_entries.specs.declared.Cut.{Cut}
+use Rattle.sc_log_entries.specs.Rings.{Covers}
+use Rattle.sc_log_entries.specs.Parts.{IsPlaced, ServesItsCut, HoldsItsPart}
+use Rattle.sc_log_entries.specs.Worlds.{StoreWorld, named_group}
 use Rattle.sc_sound.specs.Accepts.{accepts}
 use Rattle.sc_sound.specs.GroupsOf.{groups_at, log_at, state_at, world_at, history_at}
 use Rattle.sc_sound.specs.Logs.{rule_of, IsChosenIn, decided_log}

@@ -8,7 +8,7 @@ use Rattle.sc_report.specs.declared.summaries.Asked.{Asked}
 use Rattle.sc_client_table.specs.Client.{Client as ClientState}
 use Rattle.sc_client_table.specs.Table.{waits_for}
 use Rattle.sc_sound.specs.Players.{Player}
-use Rattle.sc_sound.specs.declared.roles.Role.TheVariants.{Node, Client}
+use Rattle.sc_mail.specs.declared.roles.Role.TheVariants.{Node, Client}
 
 -- how far a request came, by its reply and whether its client waits for it
 abbrev pub got_by : Option Reply → Bool → Progress

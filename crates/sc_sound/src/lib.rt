@@ -1,7 +1,6 @@
 //! The players of a scenario, which journals it allows, and what a journal says: chosen commands,
 //! decided logs, its history, and where requests are issued and answered. Players are nodes and
-//! clients as their tables' values. Definitions, no logic but the choice of the one who acts, and
-//! that of what is told of a request.
+//! clients as their tables' values. Definitions, no logic but what is told of a request.
 #![tactic(auto)]
 
 ghost use Rattle.std.specs.Prelude.{◌≡◌, [], ◌∷◌, Some, None};
@@ -11,10 +10,8 @@ ghost use Rattle.sc_sound.specs.Histories.{history, decided_row};
 ghost use Rattle.sc_sound.specs.Requests.{issue_row};
 ghost use Rattle.sc_sound.specs.Example.{four, alone, example_rows, example_history, put_it, get_it};
 
-mod roles;
 mod summaries;
 
-pub use roles::Role;
 pub use summaries::got_by;
 
 /// The definitions on a small journal: the log and the history of a put and a get, the rows that

@@ -3,7 +3,7 @@ use sc_base::{Draw, Key, Op, Pairs, RingArc, SeenList, Sequence, Value};
 use sc_cmd::{Base, Command, Core, Link, Lock};
 use sc_machine::Machine;
 use sc_member::Members;
-use sc_split_merge::can_split;
+use sc_txn::can_split;
 use std::alloc::Global;
 use std::mem::forget;
 use std::process::Abort;

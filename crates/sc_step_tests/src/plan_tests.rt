@@ -1,11 +1,11 @@
 use crate::starts::nodes;
-use sc_base::{Draw, Pairs, RingArc, SeenList, Sequence};
-use sc_cmd::{Body, Command, Core, Frozen, Link, Lock, No, Offer, same_draw};
+use sc_base::{Draw, Pairs, RingArc, SeenList, Sequence, same_draw};
+use sc_cmd::{Body, Command, Core, Frozen, Link, Lock, No, Offer};
 use sc_member::Members;
-use sc_migrate::{can_migrate, plan_migrate, welcomed_members};
-use sc_repart::{can_repart, gained_arc, lost_arc, plan_repart};
-use sc_split_merge::{can_merge, plan_merge};
-use sc_txn::{Decision, check, decide, vote};
+use sc_txn::{
+    Decision, can_merge, can_migrate, can_repart, check, decide, gained_arc, lost_arc, plan_merge,
+    plan_migrate, plan_repart, vote, welcomed_members,
+};
 use std::alloc::Global;
 use std::mem::forget;
 use std::process::Abort;

@@ -1,6 +1,12 @@
-//! The pairs of a group: one ordered map from keys to values.
+//! What a group keeps: its pairs, one ordered map from keys to values, and the table of its clients'
+//! last requests; and how it takes over both from another group.
 #![tactic(auto)]
 
+mod contents;
 mod store;
+mod table;
 
+pub use contents::take_over;
+pub use sc_ideal::Seen;
 pub use store::Store;
+pub use table::ClientTable;

@@ -11,17 +11,17 @@ use Rattle.sc_cmd.specs.declared.commands.Command.{Command}
 use Rattle.sc_cmd.specs.declared.cores.Base.{Base}
 use Rattle.sc_machine_table.specs.Group.{Group, group_of}
 use Rattle.sc_machine_table.specs.Machine.{applied}
-use Rattle.sc_entries.specs.Births.{birth_of}
+use Rattle.sc_log_entries.specs.Births.{birth_of}
 use Rattle.sc_cmd.specs.declared.cores.Core.{Core}
 use Rattle.sc_cmd.specs.declared.effects.Effect.{Effect}
 use Rattle.sc_ideal.specs.declared.Entry.{Entry}
 use Rattle.sc_machine_table.specs.Logs.{entry_of}
-use Rattle.sc_entries.specs.declared.Cut.{Cut}
-use Rattle.sc_entries.specs.declared.Transaction.{Transaction}
-use Rattle.sc_entries.specs.Decisions.{transactions_after}
-use Rattle.sc_entries.specs.Rings.{ring_after}
-use Rattle.sc_entries.specs.Worlds.{StoreWorld, is_named, with_group, groups_after, with_result}
-use Rattle.sc_decisions.proofs.Changes.{changed, changed-put, changed-length, changed-next-at, put-same}
+use Rattle.sc_log_entries.specs.declared.Cut.{Cut}
+use Rattle.sc_log_entries.specs.declared.Transaction.{Transaction}
+use Rattle.sc_log_entries.specs.Decisions.{transactions_after}
+use Rattle.sc_log_entries.specs.Rings.{ring_after}
+use Rattle.sc_log_entries.specs.Worlds.{StoreWorld, is_named, with_group, groups_after, with_result}
+use Rattle.sc_store_world.proofs.Changes.{changed, changed-put, changed-length, changed-next-at, put-same}
 
 placed : {X : Type 0} (xs : List X) (i : ℕ) (x y : X) → slice_get xs i ≡ Some x → slice_get (set xs i y) i ≡ Some y
 placed [] i x y is = absurd (none-some x is)

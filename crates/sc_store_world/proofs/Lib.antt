@@ -1,2 +1,3 @@
-pub mod Naming
+pub mod Changes
 pub mod Executing
+pub mod Naming

@@ -3,13 +3,13 @@ ghost use Rattle.std.specs.Prelude.{◌≡◌, ◌<◌, ◌++◌, List, length, 
 ghost use Rattle.std.specs.Option.{option_to_list};
 ghost use Rattle.sc_machine_table.specs.Group.{Group, group_of};
 ghost use Rattle.sc_machine_table.specs.Machine.{applied};
-ghost use Rattle.sc_entries.specs.Births.{birth_of};
-ghost use Rattle.sc_entries.specs.Worlds.{is_named, named_group, with_group, groups_after};
+ghost use Rattle.sc_log_entries.specs.Births.{birth_of};
+ghost use Rattle.sc_log_entries.specs.Worlds.{is_named, named_group, with_group, groups_after};
 ghost use Rattle.sc_store_world.specs.Places.{IsFirstNamed};
 
-use sc_base::{Draw, Dup, OutOfMemory};
-use sc_cmd::{Base, Command, Core, Effect, same_draw};
-use sc_entries::births_are_children;
+use sc_base::{Draw, Dup, OutOfMemory, same_draw};
+use sc_cmd::{Base, Command, Core, Effect};
+use sc_log_entries::births_are_children;
 use sc_machine::Machine;
 use std::alloc::Global;
 

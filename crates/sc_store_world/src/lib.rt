@@ -1,8 +1,14 @@
 //! What the entries of all logs make of all groups: their states, the transactions, the ring and
-//! the history, one entry after another.
+//! the history, one entry after another; and what an entry makes of the transactions and of
+//! the ring alone.
 #![tactic(auto)]
 
+mod effects;
 mod groups;
+mod rings;
+mod tellings;
 mod worlds;
 
+pub use rings::{first_cuts, ring_after};
+pub use tellings::{decision, tell};
 pub use worlds::{StoreWorld, world_of};

@@ -5,17 +5,17 @@ ghost use Rattle.sc_cmd.specs.declared.commands.Command.TheVariants.{Finish};
 ghost use Rattle.sc_machine_table.specs.Group.{Group, base_of};
 ghost use Rattle.sc_machine_table.specs.Machine.{applied};
 ghost use Rattle.sc_machine_table.specs.Logs.{entry_of};
-ghost use Rattle.sc_entries.specs.Effective.{is_commit, effective, effective_by, after_outcome};
-ghost use Rattle.sc_entries.specs.Rings.{ring_after};
-ghost use Rattle.sc_entries.specs.Worlds.{first_world, named_group, told, with_result, world_of};
+ghost use Rattle.sc_log_entries.specs.Effective.{is_commit, effective, effective_by, after_outcome};
+ghost use Rattle.sc_log_entries.specs.Rings.{ring_after};
+ghost use Rattle.sc_log_entries.specs.Worlds.{first_world, named_group, told, with_result, world_of};
 ghost use Rattle.sc_store_world.specs.Places.{IsFirstNamed};
 
 use crate::groups::{again, born, execute, is_named, place_of};
+use crate::{decision, first_cuts, ring_after, tell};
 use sc_base::{Draw, Dup, OutOfMemory};
 use sc_cmd::{Base, Command, Core, Effect, Lock, Outcome};
-use sc_decisions::{decision, first_cuts, ring_after, tell};
-use sc_entries::{Cut, LogEntry, Transaction};
 use sc_ideal::Entry;
+use sc_log_entries::{Cut, LogEntry, Transaction};
 use sc_machine::Machine;
 use std::alloc::Global;
 use std::marker::Model;
@@ -37,7 +37,7 @@ impl Model for StoreWorld {
     ghost use Rattle.std.specs.Coded.{Coded, codes, coded_ℕ, coded_list};
     ghost use Rattle.sc_ideal.specs.IdealStore.{Contents};
     ghost use Rattle.sc_ideal.specs.Clients.{ClientTable};
-    ghost use Rattle.sc_entries.specs.Worlds.{StoreWorld};
+    ghost use Rattle.sc_log_entries.specs.Worlds.{StoreWorld};
 
     ghost Value = { StoreWorld };
 

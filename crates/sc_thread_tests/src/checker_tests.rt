@@ -4,7 +4,7 @@ use crate::notes::Note;
 use crate::players::Player;
 use sc_actor::{Event, Journal, Line, Row, Seat, are_apart, are_few};
 use sc_base::Sequence;
-use sc_checker::{Replayed, is_lawful, pending_of, replay, rows_replayed};
+use sc_replay::{Replayed, is_lawful, pending_of, replay, rows_replayed};
 use std::alloc::Global;
 use std::mem::forget;
 use std::process::Abort;

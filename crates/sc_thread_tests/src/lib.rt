@@ -1,5 +1,5 @@
-//! Tests of the crates in which many threads make one journal: they stand apart, so that those
-//! crates are proved once.
+//! Tests of what threads share and work with: turns, ledgers, ports, shells, rounds, the pool,
+//! schedules, storms, the check of rows, and the wishes of policies.
 #![tactic(auto)]
 
 #[cfg(test)]
@@ -25,4 +25,8 @@ mod rounds_tests;
 #[cfg(test)]
 mod shell_tests;
 #[cfg(test)]
+mod storm_tests;
+#[cfg(test)]
 mod turn_tests;
+#[cfg(test)]
+mod wish_tests;

@@ -18,12 +18,15 @@ impl ToJson for AnswerBody {
     fn to_json(&self, alloc: Global) -> Result<Json, OutOfMemory> {
         match self {
             AnswerBody::Value(content) => variant_of(alloc, "Value", content),
-            AnswerBody::NotLeader { hint } => variant_one(alloc, "NotLeader", "hint", hint),
+            AnswerBody::NotLeader { hint } => variant_one(alloc, "NotLeader", ("hint", hint)),
             AnswerBody::NotMine { arc, succ } => variant_two(
-                alloc, "NotMine", "arc", arc, "succ", succ,
+                alloc,
+                "NotMine",
+                ("arc", arc),
+                ("succ", succ),
             ),
-            AnswerBody::Gone { into } => variant_one(alloc, "Gone", "into", into),
-            AnswerBody::Stale { last } => variant_one(alloc, "Stale", "last", last),
+            AnswerBody::Gone { into } => variant_one(alloc, "Gone", ("into", into)),
+            AnswerBody::Stale { last } => variant_one(alloc, "Stale", ("last", last)),
         }
     }
 }

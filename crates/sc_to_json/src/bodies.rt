@@ -20,9 +20,9 @@ impl ToJson for Body {
     fn to_json(&self, alloc: Global) -> Result<Json, OutOfMemory> {
         match self {
             Body::Merge => unit(alloc, "Merge"),
-            Body::Repart { at } => variant_one(alloc, "Repart", "at", at),
-            Body::Migrate { node } => variant_one(alloc, "Migrate", "node", node),
-            Body::Split { at, child } => variant_two(alloc, "Split", "at", at, "child", child),
+            Body::Repart { at } => variant_one(alloc, "Repart", ("at", at)),
+            Body::Migrate { node } => variant_one(alloc, "Migrate", ("node", node)),
+            Body::Split { at, child } => variant_two(alloc, "Split", ("at", at), ("child", child)),
         }
     }
 }
@@ -36,18 +36,12 @@ impl ToJson for Offer {
     fn to_json(&self, alloc: Global) -> Result<Json, OutOfMemory> {
         six(
             alloc,
-            "arc",
-            &self.arc,
-            "body",
-            &self.body,
-            "by",
-            &self.by,
-            "coord",
-            &self.coord,
-            "members",
-            &self.members,
-            "part",
-            &self.part,
+            ("arc", &self.arc),
+            ("body", &self.body),
+            ("by", &self.by),
+            ("coord", &self.coord),
+            ("members", &self.members),
+            ("part", &self.part),
         )
     }
 }
@@ -61,18 +55,12 @@ impl ToJson for Watch {
     fn to_json(&self, alloc: Global) -> Result<Json, OutOfMemory> {
         six(
             alloc,
-            "by",
-            &self.by,
-            "coord",
-            &self.coord,
-            "members",
-            &self.members,
-            "next",
-            &self.next,
-            "old",
-            &self.old,
-            "part",
-            &self.part,
+            ("by", &self.by),
+            ("coord", &self.coord),
+            ("members", &self.members),
+            ("next", &self.next),
+            ("old", &self.old),
+            ("part", &self.part),
         )
     }
 }

@@ -21,27 +21,31 @@ fn vote_json(alloc: Global, command: &Command) -> Result<Json, OutOfMemory>
     ensures fits { OnOk result (FitsCommand command.now) }
 {
     match command {
-        Command::Prepared { tx, offer } => variant_two(alloc, "Prepared", "offer", offer, "tx", tx),
+        Command::Prepared { tx, offer } => variant_two(
+            alloc,
+            "Prepared",
+            ("offer", offer),
+            ("tx", tx),
+        ),
         Command::RecordVote { tx, vote, by } => variant_three(
             alloc,
             "RecordVote",
-            "by",
-            by,
-            "tx",
-            tx,
-            "vote",
-            vote,
+            ("by", by),
+            ("tx", tx),
+            ("vote", vote),
         ),
-        Command::Watched { tx, watch } => variant_two(alloc, "Watched", "tx", tx, "watch", watch),
+        Command::Watched { tx, watch } => variant_two(
+            alloc,
+            "Watched",
+            ("tx", tx),
+            ("watch", watch),
+        ),
         Command::RecordWatch { tx, vote, by } => variant_three(
             alloc,
             "RecordWatch",
-            "by",
-            by,
-            "tx",
-            tx,
-            "vote",
-            vote,
+            ("by", by),
+            ("tx", tx),
+            ("vote", vote),
         ),
         _ => unreachable!(),
     }
@@ -57,23 +61,44 @@ impl ToJson for Command {
         match self {
             Command::Noop => unit(alloc, "Noop"),
             Command::Call { client, seq, op } => variant_three(
-                alloc, "Call", "client", client, "op", op, "seq", seq,
+                alloc,
+                "Call",
+                ("client", client),
+                ("op", op),
+                ("seq", seq),
             ),
             Command::Join { node, order } => variant_two(
-                alloc, "Join", "node", node, "order", order,
+                alloc,
+                "Join",
+                ("node", node),
+                ("order", order),
             ),
             Command::Leave { node, order } => variant_two(
-                alloc, "Leave", "node", node, "order", order,
+                alloc,
+                "Leave",
+                ("node", node),
+                ("order", order),
             ),
             Command::Split { at, child, order } => variant_three(
-                alloc, "Split", "at", at, "child", child, "order", order,
+                alloc,
+                "Split",
+                ("at", at),
+                ("child", child),
+                ("order", order),
             ),
             Command::Begin { tx, body, order } => variant_three(
-                alloc, "Begin", "body", body, "order", order, "tx", tx,
+                alloc,
+                "Begin",
+                ("body", body),
+                ("order", order),
+                ("tx", tx),
             ),
-            Command::GiveUp { tx } => variant_one(alloc, "GiveUp", "tx", tx),
+            Command::GiveUp { tx } => variant_one(alloc, "GiveUp", ("tx", tx)),
             Command::Finish { tx, outcome } => variant_two(
-                alloc, "Finish", "outcome", outcome, "tx", tx,
+                alloc,
+                "Finish",
+                ("outcome", outcome),
+                ("tx", tx),
             ),
             Command::Prepared { .. }
             | Command::RecordVote { .. }
@@ -92,12 +117,9 @@ impl ToJson for Report<Command> {
     fn to_json(&self, alloc: Global) -> Result<Json, OutOfMemory> {
         three(
             alloc,
-            "ballot",
-            &self.ballot,
-            "slot",
-            &self.slot,
-            "value",
-            &self.value,
+            ("ballot", &self.ballot),
+            ("slot", &self.slot),
+            ("value", &self.value),
         )
     }
 }

@@ -28,20 +28,22 @@ impl ToJson for Lock {
             } => variant_four(
                 alloc,
                 "Coordinating",
-                "body",
-                body,
-                "heard",
-                heard,
-                "order",
-                order,
-                "tx",
-                tx,
+                ("body", body),
+                ("heard", heard),
+                ("order", order),
+                ("tx", tx),
             ),
             Lock::Promised { tx, offer } => variant_two(
-                alloc, "Promised", "offer", offer, "tx", tx,
+                alloc,
+                "Promised",
+                ("offer", offer),
+                ("tx", tx),
             ),
             Lock::Watching { tx, watch } => variant_two(
-                alloc, "Watching", "tx", tx, "watch", watch,
+                alloc,
+                "Watching",
+                ("tx", tx),
+                ("watch", watch),
             ),
         }
     }
@@ -58,34 +60,22 @@ impl ToJson for Core {
         add_six(
             &mut members,
             alloc,
-            "arc",
-            &self.arc,
-            "begun",
-            &self.begun,
-            "born",
-            &self.born,
-            "decided",
-            &self.decided,
-            "first",
-            &self.first,
-            "gone",
-            &self.gone,
+            ("arc", &self.arc),
+            ("begun", &self.begun),
+            ("born", &self.born),
+            ("decided", &self.decided),
+            ("first", &self.first),
+            ("gone", &self.gone),
         )?;
         add_six(
             &mut members,
             alloc,
-            "id",
-            &self.id,
-            "lock",
-            &self.lock,
-            "members",
-            &self.members,
-            "pred",
-            &self.pred,
-            "succ",
-            &self.succ,
-            "voted",
-            &self.voted,
+            ("id", &self.id),
+            ("lock", &self.lock),
+            ("members", &self.members),
+            ("pred", &self.pred),
+            ("succ", &self.succ),
+            ("voted", &self.voted),
         )?;
         Ok(Json::Object(members))
     }
@@ -100,12 +90,9 @@ impl ToJson for Base {
     fn to_json(&self, alloc: Global) -> Result<Json, OutOfMemory> {
         three(
             alloc,
-            "clients",
-            &self.clients,
-            "core",
-            &self.core,
-            "pairs",
-            &self.pairs,
+            ("clients", &self.clients),
+            ("core", &self.core),
+            ("pairs", &self.pairs),
         )
     }
 }

@@ -16,7 +16,7 @@ impl ToJson for Link {
 
     #[tactic(auto, unfolding(crate::specs::Json::link_json, crate::specs::Json::FitsLink))]
     fn to_json(&self, alloc: Global) -> Result<Json, OutOfMemory> {
-        two(alloc, "group", &self.group, "members", &self.members)
+        two(alloc, ("group", &self.group), ("members", &self.members))
     }
 }
 
@@ -29,12 +29,9 @@ impl ToJson for Route {
     fn to_json(&self, alloc: Global) -> Result<Json, OutOfMemory> {
         three(
             alloc,
-            "group",
-            &self.group,
-            "lo",
-            &self.lo,
-            "members",
-            &self.members,
+            ("group", &self.group),
+            ("lo", &self.lo),
+            ("members", &self.members),
         )
     }
 }

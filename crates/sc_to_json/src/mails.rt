@@ -26,13 +26,25 @@ fn asked_json(alloc: Global, body: &MailBody) -> Result<Json, OutOfMemory>
             seq,
             op,
         } => variant_four(
-            alloc, "Request", "client", client, "group", group, "op", op, "seq", seq,
+            alloc,
+            "Request",
+            ("client", client),
+            ("group", group),
+            ("op", op),
+            ("seq", seq),
         ),
         MailBody::Answer { group, seq, answer } => variant_three(
-            alloc, "Answer", "answer", answer, "group", group, "seq", seq,
+            alloc,
+            "Answer",
+            ("answer", answer),
+            ("group", group),
+            ("seq", seq),
         ),
         MailBody::Told { order, result } => variant_two(
-            alloc, "Told", "order", order, "result", result,
+            alloc,
+            "Told",
+            ("order", order),
+            ("result", result),
         ),
         _ => unreachable!(),
     }
@@ -53,22 +65,26 @@ fn promised_json(alloc: Global, body: &MailBody) -> Result<Json, OutOfMemory>
         } => variant_three(
             alloc,
             "Prepare",
-            "ballot",
-            ballot,
-            "from_slot",
-            from_slot,
-            "group",
-            group,
+            ("ballot", ballot),
+            ("from_slot", from_slot),
+            ("group", group),
         ),
         MailBody::Promise {
             group,
             ballot,
             reports,
         } => variant_three(
-            alloc, "Promise", "ballot", ballot, "group", group, "reports", reports,
+            alloc,
+            "Promise",
+            ("ballot", ballot),
+            ("group", group),
+            ("reports", reports),
         ),
         MailBody::Nack { group, promised } => variant_two(
-            alloc, "Nack", "group", group, "promised", promised,
+            alloc,
+            "Nack",
+            ("group", group),
+            ("promised", promised),
         ),
         _ => unreachable!(),
     }
@@ -88,21 +104,34 @@ fn valued_json(alloc: Global, body: &MailBody) -> Result<Json, OutOfMemory>
             slot,
             command,
         } => variant_four(
-            alloc, "Accept", "ballot", ballot, "command", command, "group", group, "slot", slot,
+            alloc,
+            "Accept",
+            ("ballot", ballot),
+            ("command", command),
+            ("group", group),
+            ("slot", slot),
         ),
         MailBody::Accepted {
             group,
             ballot,
             slot,
         } => variant_three(
-            alloc, "Accepted", "ballot", ballot, "group", group, "slot", slot,
+            alloc,
+            "Accepted",
+            ("ballot", ballot),
+            ("group", group),
+            ("slot", slot),
         ),
         MailBody::Learn {
             group,
             slot,
             command,
         } => variant_three(
-            alloc, "Learn", "command", command, "group", group, "slot", slot,
+            alloc,
+            "Learn",
+            ("command", command),
+            ("group", group),
+            ("slot", slot),
         ),
         _ => unreachable!(),
     }
@@ -119,10 +148,8 @@ fn lacked_json(alloc: Global, body: &MailBody) -> Result<Json, OutOfMemory>
         MailBody::Ask { group, from_slot } => variant_two(
             alloc,
             "Ask",
-            "from_slot",
-            from_slot,
-            "group",
-            group,
+            ("from_slot", from_slot),
+            ("group", group),
         ),
         MailBody::Install {
             group,
@@ -130,7 +157,12 @@ fn lacked_json(alloc: Global, body: &MailBody) -> Result<Json, OutOfMemory>
             base,
             sets,
         } => variant_four(
-            alloc, "Install", "base", base, "group", group, "sets", sets, "slot", slot,
+            alloc,
+            "Install",
+            ("base", base),
+            ("group", group),
+            ("sets", sets),
+            ("slot", slot),
         ),
         _ => unreachable!(),
     }
@@ -147,10 +179,8 @@ fn voted_json(alloc: Global, body: &MailBody) -> Result<Json, OutOfMemory>
         MailBody::TxPrepare { tx, offer } => variant_two(
             alloc,
             "TxPrepare",
-            "offer",
-            offer,
-            "tx",
-            tx,
+            ("offer", offer),
+            ("tx", tx),
         ),
         MailBody::TxVote {
             tx,
@@ -158,17 +188,19 @@ fn voted_json(alloc: Global, body: &MailBody) -> Result<Json, OutOfMemory>
             part,
             vote,
         } => variant_four(
-            alloc, "TxVote", "coord", coord, "part", part, "tx", tx, "vote", vote,
+            alloc,
+            "TxVote",
+            ("coord", coord),
+            ("part", part),
+            ("tx", tx),
+            ("vote", vote),
         ),
         MailBody::TxElsewhere { tx, coord, hint } => variant_three(
             alloc,
             "TxElsewhere",
-            "coord",
-            coord,
-            "hint",
-            hint,
-            "tx",
-            tx,
+            ("coord", coord),
+            ("hint", hint),
+            ("tx", tx),
         ),
         _ => unreachable!(),
     }
@@ -185,14 +217,16 @@ fn decided_json(alloc: Global, body: &MailBody) -> Result<Json, OutOfMemory>
         MailBody::TxOutcome { tx, part, outcome } => variant_three(
             alloc,
             "TxOutcome",
-            "outcome",
-            outcome,
-            "part",
-            part,
-            "tx",
-            tx,
+            ("outcome", outcome),
+            ("part", part),
+            ("tx", tx),
         ),
-        MailBody::TxWatch { tx, watch } => variant_two(alloc, "TxWatch", "tx", tx, "watch", watch),
+        MailBody::TxWatch { tx, watch } => variant_two(
+            alloc,
+            "TxWatch",
+            ("tx", tx),
+            ("watch", watch),
+        ),
         MailBody::TxWatched {
             tx,
             coord,
@@ -201,14 +235,10 @@ fn decided_json(alloc: Global, body: &MailBody) -> Result<Json, OutOfMemory>
         } => variant_four(
             alloc,
             "TxWatched",
-            "coord",
-            coord,
-            "part",
-            part,
-            "tx",
-            tx,
-            "vote",
-            vote,
+            ("coord", coord),
+            ("part", part),
+            ("tx", tx),
+            ("vote", vote),
         ),
         _ => unreachable!(),
     }
@@ -244,7 +274,10 @@ impl ToJson for Mail {
     #[tactic(auto, unfolding(crate::specs::Json::mail_json, crate::specs::Json::FitsMail))]
     fn to_json(&self, alloc: Global) -> Result<Json, OutOfMemory> {
         three(
-            alloc, "body", &self.body, "from", &self.from, "to", &self.to,
+            alloc,
+            ("body", &self.body),
+            ("from", &self.from),
+            ("to", &self.to),
         )
     }
 }

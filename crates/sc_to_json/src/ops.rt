@@ -17,12 +17,16 @@ impl ToJson for Op {
     #[tactic(auto, unfolding(crate::specs::Json::op_json, crate::specs::Json::FitsOp))]
     fn to_json(&self, alloc: Global) -> Result<Json, OutOfMemory> {
         match self {
-            Op::Get { key } => variant_one(alloc, "Get", "key", key),
-            Op::Put { key, value } => variant_two(alloc, "Put", "key", key, "value", value),
-            Op::Del { key } => variant_one(alloc, "Del", "key", key),
-            Op::Add { key, value } => variant_two(alloc, "Add", "key", key, "value", value),
+            Op::Get { key } => variant_one(alloc, "Get", ("key", key)),
+            Op::Put { key, value } => variant_two(alloc, "Put", ("key", key), ("value", value)),
+            Op::Del { key } => variant_one(alloc, "Del", ("key", key)),
+            Op::Add { key, value } => variant_two(alloc, "Add", ("key", key), ("value", value)),
             Op::Cas { key, expect, value } => variant_three(
-                alloc, "Cas", "expect", expect, "key", key, "value", value,
+                alloc,
+                "Cas",
+                ("expect", expect),
+                ("key", key),
+                ("value", value),
             ),
         }
     }
@@ -35,6 +39,6 @@ impl ToJson for Reply {
 
     #[tactic(auto, unfolding(crate::specs::Json::reply_json, crate::specs::Json::FitsReply))]
     fn to_json(&self, alloc: Global) -> Result<Json, OutOfMemory> {
-        one(alloc, "old", &self.old)
+        one(alloc, ("old", &self.old))
     }
 }

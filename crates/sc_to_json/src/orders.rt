@@ -22,15 +22,31 @@ impl ToJson for Order {
     #[tactic(auto, unfolding(crate::specs::Json::order_json, crate::specs::Json::FitsOrder))]
     fn to_json(&self, alloc: Global) -> Result<Json, OutOfMemory> {
         match self {
-            Order::Join { node, group } => variant_two(alloc, "Join", "group", group, "node", node),
-            Order::Leave { node, group } => variant_two(
-                alloc, "Leave", "group", group, "node", node,
+            Order::Join { node, group } => variant_two(
+                alloc,
+                "Join",
+                ("group", group),
+                ("node", node),
             ),
-            Order::Split { group, at } => variant_two(alloc, "Split", "at", at, "group", group),
-            Order::Merge { group } => variant_one(alloc, "Merge", "group", group),
-            Order::Repart { group, at } => variant_two(alloc, "Repart", "at", at, "group", group),
+            Order::Leave { node, group } => variant_two(
+                alloc,
+                "Leave",
+                ("group", group),
+                ("node", node),
+            ),
+            Order::Split { group, at } => variant_two(alloc, "Split", ("at", at), ("group", group)),
+            Order::Merge { group } => variant_one(alloc, "Merge", ("group", group)),
+            Order::Repart { group, at } => variant_two(
+                alloc,
+                "Repart",
+                ("at", at),
+                ("group", group),
+            ),
             Order::Migrate { group, node } => variant_two(
-                alloc, "Migrate", "group", group, "node", node,
+                alloc,
+                "Migrate",
+                ("group", group),
+                ("node", node),
             ),
         }
     }
@@ -43,7 +59,7 @@ impl ToJson for OrderLine {
     ghost Fits = { FitsOrderLine };
 
     fn to_json(&self, alloc: Global) -> Result<Json, OutOfMemory> {
-        two(alloc, "number", &self.number, "order", &self.order)
+        two(alloc, ("number", &self.number), ("order", &self.order))
     }
 }
 
@@ -55,11 +71,11 @@ impl ToJson for OrderRefusal {
 
     fn to_json(&self, alloc: Global) -> Result<Json, OutOfMemory> {
         match self {
-            OrderRefusal::NotLeader { hint } => variant_one(alloc, "NotLeader", "hint", hint),
-            OrderRefusal::InTransaction { tx } => variant_one(alloc, "InTransaction", "tx", tx),
+            OrderRefusal::NotLeader { hint } => variant_one(alloc, "NotLeader", ("hint", hint)),
+            OrderRefusal::InTransaction { tx } => variant_one(alloc, "InTransaction", ("tx", tx)),
             OrderRefusal::NoNeighbour => unit(alloc, "NoNeighbour"),
             OrderRefusal::BadBoundary => unit(alloc, "BadBoundary"),
-            OrderRefusal::TooManyMembers { n } => variant_one(alloc, "TooManyMembers", "n", n),
+            OrderRefusal::TooManyMembers { n } => variant_one(alloc, "TooManyMembers", ("n", n)),
             OrderRefusal::NotMember => unit(alloc, "NotMember"),
             OrderRefusal::LastMember => unit(alloc, "LastMember"),
             OrderRefusal::TxLimit => unit(alloc, "TxLimit"),

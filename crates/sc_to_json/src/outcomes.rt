@@ -17,7 +17,7 @@ impl ToJson for Gift {
 
     #[tactic(auto, unfolding(crate::specs::Json::gift_json, crate::specs::Json::FitsGift))]
     fn to_json(&self, alloc: Global) -> Result<Json, OutOfMemory> {
-        two(alloc, "clients", &self.clients, "pairs", &self.pairs)
+        two(alloc, ("clients", &self.clients), ("pairs", &self.pairs))
     }
 }
 
@@ -30,9 +30,9 @@ impl ToJson for Outcome {
     fn to_json(&self, alloc: Global) -> Result<Json, OutOfMemory> {
         match self {
             Outcome::Abort => unit(alloc, "Abort"),
-            Outcome::Merged { into } => variant_one(alloc, "Merged", "into", into),
-            Outcome::Moved { at, gift } => variant_two(alloc, "Moved", "at", at, "gift", gift),
-            Outcome::Migrated { node } => variant_one(alloc, "Migrated", "node", node),
+            Outcome::Merged { into } => variant_one(alloc, "Merged", ("into", into)),
+            Outcome::Moved { at, gift } => variant_two(alloc, "Moved", ("at", at), ("gift", gift)),
+            Outcome::Migrated { node } => variant_one(alloc, "Migrated", ("node", node)),
             Outcome::Divided => unit(alloc, "Divided"),
         }
     }

@@ -39,12 +39,9 @@ impl ToJson for Row<Mail, OrderLine> {
     fn to_json(&self, alloc: Global) -> Result<Json, OutOfMemory> {
         three(
             alloc,
-            "event",
-            &self.event,
-            "sent",
-            &self.sent,
-            "who",
-            &self.who,
+            ("event", &self.event),
+            ("sent", &self.sent),
+            ("who", &self.who),
         )
     }
 }

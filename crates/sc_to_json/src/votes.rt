@@ -23,10 +23,10 @@ impl ToJson for No {
     #[tactic(auto, unfolding(crate::specs::Json::no_json, crate::specs::Json::FitsNo))]
     fn to_json(&self, alloc: Global) -> Result<Json, OutOfMemory> {
         match self {
-            No::Busy { tx } => variant_one(alloc, "Busy", "tx", tx),
+            No::Busy { tx } => variant_one(alloc, "Busy", ("tx", tx)),
             No::Gone => unit(alloc, "Gone"),
             No::Apart => unit(alloc, "Apart"),
-            No::TooMany { n } => variant_one(alloc, "TooMany", "n", n),
+            No::TooMany { n } => variant_one(alloc, "TooMany", ("n", n)),
         }
     }
 }
@@ -40,16 +40,11 @@ impl ToJson for Frozen {
     fn to_json(&self, alloc: Global) -> Result<Json, OutOfMemory> {
         five(
             alloc,
-            "arc",
-            &self.arc,
-            "clients",
-            &self.clients,
-            "members",
-            &self.members,
-            "pairs",
-            &self.pairs,
-            "succ",
-            &self.succ,
+            ("arc", &self.arc),
+            ("clients", &self.clients),
+            ("members", &self.members),
+            ("pairs", &self.pairs),
+            ("succ", &self.succ),
         )
     }
 }
@@ -61,7 +56,7 @@ impl ToJson for Heard {
 
     #[tactic(auto, unfolding(crate::specs::Json::heard_json, crate::specs::Json::FitsHeard))]
     fn to_json(&self, alloc: Global) -> Result<Json, OutOfMemory> {
-        two(alloc, "by", &self.by, "frozen", &self.frozen)
+        two(alloc, ("by", &self.by), ("frozen", &self.frozen))
     }
 }
 

@@ -9,19 +9,22 @@ use sc_base::OutOfMemory;
 use serde_json::{Map, Value as Json};
 use std::alloc::Global;
 
+/// A member of an object: its name, and the value whose JSON it is.
+pub(crate) type Member<'a, T> = (&'a str, &'a T);
+
 /// Adds a member to those of an object.
 pub(crate) fn add<T: ToJson>(
     members: &mut Map<String, Json>,
     alloc: Global,
-    name: &str,
-    value: &T,
+    member: Member<'_, T>,
 ) -> Result<(), OutOfMemory>
     ensures json { OnOk result (members_view members.new.entries
-        ≡ put name.now (T.json_of value.now) (members_view members.old.entries)) }
-    ensures fits { OnOk result (T.Fits value.now) }
+        ≡ put member.entry.0.now (T.json_of member.entry.1.now)
+        (members_view members.old.entries)) }
+    ensures fits { OnOk result (T.Fits member.entry.1.now) }
 {
-    let json = value.to_json(alloc)?;
-    serde_json::put(members, alloc, name, json)?;
+    let json = member.1.to_json(alloc)?;
+    serde_json::put(members, alloc, member.0, json)?;
     Ok(())
 }
 
@@ -29,172 +32,157 @@ pub(crate) fn add<T: ToJson>(
 pub(crate) fn add_six<A: ToJson, B: ToJson, C: ToJson, D: ToJson, E: ToJson, F: ToJson>(
     members: &mut Map<String, Json>,
     alloc: Global,
-    a: &str,
-    first: &A,
-    b: &str,
-    second: &B,
-    c: &str,
-    third: &C,
-    d: &str,
-    fourth: &D,
-    e: &str,
-    fifth: &E,
-    f: &str,
-    sixth: &F,
+    first: Member<'_, A>,
+    second: Member<'_, B>,
+    third: Member<'_, C>,
+    fourth: Member<'_, D>,
+    fifth: Member<'_, E>,
+    sixth: Member<'_, F>,
 ) -> Result<(), OutOfMemory>
     ensures json { OnOk result (members_view members.new.entries
-        ≡ put f.now (F.json_of sixth.now) (put e.now (E.json_of fifth.now)
-        (put d.now (D.json_of fourth.now) (put c.now (C.json_of third.now)
-        (put b.now (B.json_of second.now) (put a.now (A.json_of first.now)
+        ≡ put sixth.entry.0.now (F.json_of sixth.entry.1.now)
+        (put fifth.entry.0.now (E.json_of fifth.entry.1.now)
+        (put fourth.entry.0.now (D.json_of fourth.entry.1.now)
+        (put third.entry.0.now (C.json_of third.entry.1.now)
+        (put second.entry.0.now (B.json_of second.entry.1.now)
+        (put first.entry.0.now (A.json_of first.entry.1.now)
         (members_view members.old.entries))))))) }
-    ensures fits { OnOk result (A.Fits first.now × B.Fits second.now × C.Fits third.now
-        × D.Fits fourth.now × E.Fits fifth.now × F.Fits sixth.now) }
+    ensures fits { OnOk result (A.Fits first.entry.1.now × B.Fits second.entry.1.now
+        × C.Fits third.entry.1.now × D.Fits fourth.entry.1.now × E.Fits fifth.entry.1.now
+        × F.Fits sixth.entry.1.now) }
 {
-    add(members, alloc, a, first)?;
-    add(members, alloc, b, second)?;
-    add(members, alloc, c, third)?;
-    add(members, alloc, d, fourth)?;
-    add(members, alloc, e, fifth)?;
-    add(members, alloc, f, sixth)?;
+    add(members, alloc, first)?;
+    add(members, alloc, second)?;
+    add(members, alloc, third)?;
+    add(members, alloc, fourth)?;
+    add(members, alloc, fifth)?;
+    add(members, alloc, sixth)?;
     Ok(())
 }
 
 /// An object of one member.
-pub(crate) fn one<A: ToJson>(alloc: Global, a: &str, first: &A) -> Result<Json, OutOfMemory>
-    ensures json { IfOk result (λ json. view json
-        ≡ object (put a.now (A.json_of first.now) no_members)) }
-    ensures fits { OnOk result (A.Fits first.now) }
+pub(crate) fn one<A: ToJson>(alloc: Global, first: Member<'_, A>) -> Result<Json, OutOfMemory>
+    ensures json { IfOk result (λ json. view json ≡ object
+        (put first.entry.0.now (A.json_of first.entry.1.now) no_members)) }
+    ensures fits { OnOk result (A.Fits first.entry.1.now) }
 {
     let mut members = Map::new(alloc);
-    add(&mut members, alloc, a, first)?;
+    add(&mut members, alloc, first)?;
     Ok(Json::Object(members))
 }
 
 /// An object of two members.
 pub(crate) fn two<A: ToJson, B: ToJson>(
     alloc: Global,
-    a: &str,
-    first: &A,
-    b: &str,
-    second: &B,
+    first: Member<'_, A>,
+    second: Member<'_, B>,
 ) -> Result<Json, OutOfMemory>
-    ensures json { IfOk result (λ json. view json
-        ≡ object (put b.now (B.json_of second.now) (put a.now (A.json_of first.now)
-        no_members))) }
-    ensures fits { OnOk result (A.Fits first.now × B.Fits second.now) }
+    ensures json { IfOk result (λ json. view json ≡ object
+        (put second.entry.0.now (B.json_of second.entry.1.now)
+        (put first.entry.0.now (A.json_of first.entry.1.now) no_members))) }
+    ensures fits { OnOk result (A.Fits first.entry.1.now × B.Fits second.entry.1.now) }
 {
     let mut members = Map::new(alloc);
-    add(&mut members, alloc, a, first)?;
-    add(&mut members, alloc, b, second)?;
+    add(&mut members, alloc, first)?;
+    add(&mut members, alloc, second)?;
     Ok(Json::Object(members))
 }
 
 /// An object of three members.
 pub(crate) fn three<A: ToJson, B: ToJson, C: ToJson>(
     alloc: Global,
-    a: &str,
-    first: &A,
-    b: &str,
-    second: &B,
-    c: &str,
-    third: &C,
+    first: Member<'_, A>,
+    second: Member<'_, B>,
+    third: Member<'_, C>,
 ) -> Result<Json, OutOfMemory>
-    ensures json { IfOk result (λ json. view json
-        ≡ object (put c.now (C.json_of third.now) (put b.now (B.json_of second.now)
-        (put a.now (A.json_of first.now) no_members)))) }
-    ensures fits { OnOk result (A.Fits first.now × B.Fits second.now × C.Fits third.now) }
+    ensures json { IfOk result (λ json. view json ≡ object
+        (put third.entry.0.now (C.json_of third.entry.1.now)
+        (put second.entry.0.now (B.json_of second.entry.1.now)
+        (put first.entry.0.now (A.json_of first.entry.1.now) no_members)))) }
+    ensures fits { OnOk result (A.Fits first.entry.1.now × B.Fits second.entry.1.now
+        × C.Fits third.entry.1.now) }
 {
     let mut members = Map::new(alloc);
-    add(&mut members, alloc, a, first)?;
-    add(&mut members, alloc, b, second)?;
-    add(&mut members, alloc, c, third)?;
+    add(&mut members, alloc, first)?;
+    add(&mut members, alloc, second)?;
+    add(&mut members, alloc, third)?;
     Ok(Json::Object(members))
 }
 
 /// An object of four members.
 pub(crate) fn four<A: ToJson, B: ToJson, C: ToJson, D: ToJson>(
     alloc: Global,
-    a: &str,
-    first: &A,
-    b: &str,
-    second: &B,
-    c: &str,
-    third: &C,
-    d: &str,
-    fourth: &D,
+    first: Member<'_, A>,
+    second: Member<'_, B>,
+    third: Member<'_, C>,
+    fourth: Member<'_, D>,
 ) -> Result<Json, OutOfMemory>
-    ensures json { IfOk result (λ json. view json
-        ≡ object (put d.now (D.json_of fourth.now) (put c.now (C.json_of third.now)
-        (put b.now (B.json_of second.now) (put a.now (A.json_of first.now) no_members))))) }
-    ensures fits { OnOk result (A.Fits first.now × B.Fits second.now × C.Fits third.now
-        × D.Fits fourth.now) }
+    ensures json { IfOk result (λ json. view json ≡ object
+        (put fourth.entry.0.now (D.json_of fourth.entry.1.now)
+        (put third.entry.0.now (C.json_of third.entry.1.now)
+        (put second.entry.0.now (B.json_of second.entry.1.now)
+        (put first.entry.0.now (A.json_of first.entry.1.now) no_members))))) }
+    ensures fits { OnOk result (A.Fits first.entry.1.now × B.Fits second.entry.1.now
+        × C.Fits third.entry.1.now × D.Fits fourth.entry.1.now) }
 {
     let mut members = Map::new(alloc);
-    add(&mut members, alloc, a, first)?;
-    add(&mut members, alloc, b, second)?;
-    add(&mut members, alloc, c, third)?;
-    add(&mut members, alloc, d, fourth)?;
+    add(&mut members, alloc, first)?;
+    add(&mut members, alloc, second)?;
+    add(&mut members, alloc, third)?;
+    add(&mut members, alloc, fourth)?;
     Ok(Json::Object(members))
 }
 
 /// An object of five members.
 pub(crate) fn five<A: ToJson, B: ToJson, C: ToJson, D: ToJson, E: ToJson>(
     alloc: Global,
-    a: &str,
-    first: &A,
-    b: &str,
-    second: &B,
-    c: &str,
-    third: &C,
-    d: &str,
-    fourth: &D,
-    e: &str,
-    fifth: &E,
+    first: Member<'_, A>,
+    second: Member<'_, B>,
+    third: Member<'_, C>,
+    fourth: Member<'_, D>,
+    fifth: Member<'_, E>,
 ) -> Result<Json, OutOfMemory>
-    ensures json { IfOk result (λ json. view json
-        ≡ object (put e.now (E.json_of fifth.now) (put d.now (D.json_of fourth.now)
-        (put c.now (C.json_of third.now) (put b.now (B.json_of second.now)
-        (put a.now (A.json_of first.now) no_members)))))) }
-    ensures fits { OnOk result (A.Fits first.now × B.Fits second.now × C.Fits third.now
-        × D.Fits fourth.now × E.Fits fifth.now) }
+    ensures json { IfOk result (λ json. view json ≡ object
+        (put fifth.entry.0.now (E.json_of fifth.entry.1.now)
+        (put fourth.entry.0.now (D.json_of fourth.entry.1.now)
+        (put third.entry.0.now (C.json_of third.entry.1.now)
+        (put second.entry.0.now (B.json_of second.entry.1.now)
+        (put first.entry.0.now (A.json_of first.entry.1.now) no_members)))))) }
+    ensures fits { OnOk result (A.Fits first.entry.1.now × B.Fits second.entry.1.now
+        × C.Fits third.entry.1.now × D.Fits fourth.entry.1.now × E.Fits fifth.entry.1.now) }
 {
     let mut members = Map::new(alloc);
-    add(&mut members, alloc, a, first)?;
-    add(&mut members, alloc, b, second)?;
-    add(&mut members, alloc, c, third)?;
-    add(&mut members, alloc, d, fourth)?;
-    add(&mut members, alloc, e, fifth)?;
+    add(&mut members, alloc, first)?;
+    add(&mut members, alloc, second)?;
+    add(&mut members, alloc, third)?;
+    add(&mut members, alloc, fourth)?;
+    add(&mut members, alloc, fifth)?;
     Ok(Json::Object(members))
 }
 
 /// An object of six members.
 pub(crate) fn six<A: ToJson, B: ToJson, C: ToJson, D: ToJson, E: ToJson, F: ToJson>(
     alloc: Global,
-    a: &str,
-    first: &A,
-    b: &str,
-    second: &B,
-    c: &str,
-    third: &C,
-    d: &str,
-    fourth: &D,
-    e: &str,
-    fifth: &E,
-    f: &str,
-    sixth: &F,
+    first: Member<'_, A>,
+    second: Member<'_, B>,
+    third: Member<'_, C>,
+    fourth: Member<'_, D>,
+    fifth: Member<'_, E>,
+    sixth: Member<'_, F>,
 ) -> Result<Json, OutOfMemory>
-    ensures json { IfOk result (λ json. view json
-        ≡ object (put f.now (F.json_of sixth.now) (put e.now (E.json_of fifth.now)
-        (put d.now (D.json_of fourth.now) (put c.now (C.json_of third.now)
-        (put b.now (B.json_of second.now) (put a.now (A.json_of first.now)
-        no_members))))))) }
-    ensures fits { OnOk result (A.Fits first.now × B.Fits second.now × C.Fits third.now
-        × D.Fits fourth.now × E.Fits fifth.now × F.Fits sixth.now) }
+    ensures json { IfOk result (λ json. view json ≡ object
+        (put sixth.entry.0.now (F.json_of sixth.entry.1.now)
+        (put fifth.entry.0.now (E.json_of fifth.entry.1.now)
+        (put fourth.entry.0.now (D.json_of fourth.entry.1.now)
+        (put third.entry.0.now (C.json_of third.entry.1.now)
+        (put second.entry.0.now (B.json_of second.entry.1.now)
+        (put first.entry.0.now (A.json_of first.entry.1.now) no_members))))))) }
+    ensures fits { OnOk result (A.Fits first.entry.1.now × B.Fits second.entry.1.now
+        × C.Fits third.entry.1.now × D.Fits fourth.entry.1.now × E.Fits fifth.entry.1.now
+        × F.Fits sixth.entry.1.now) }
 {
     let mut map = Map::new(alloc);
-    add_six(
-        &mut map, alloc, a, first, b, second, c, third, d, fourth, e, fifth, f, sixth,
-    )?;
+    add_six(&mut map, alloc, first, second, third, fourth, fifth, sixth)?;
     Ok(Json::Object(map))
 }
 
@@ -231,14 +219,13 @@ pub(crate) fn variant_of<T: ToJson>(
 pub(crate) fn variant_one<A: ToJson>(
     alloc: Global,
     name: &str,
-    a: &str,
-    first: &A,
+    first: Member<'_, A>,
 ) -> Result<Json, OutOfMemory>
-    ensures json { IfOk result (λ json. view json ≡ variant name.now
-        (object (put a.now (A.json_of first.now) no_members))) }
-    ensures fits { OnOk result (A.Fits first.now) }
+    ensures json { IfOk result (λ json. view json ≡ variant name.now (object
+        (put first.entry.0.now (A.json_of first.entry.1.now) no_members))) }
+    ensures fits { OnOk result (A.Fits first.entry.1.now) }
 {
-    let content = one(alloc, a, first)?;
+    let content = one(alloc, first)?;
     wrapped(alloc, name, content)
 }
 
@@ -246,17 +233,15 @@ pub(crate) fn variant_one<A: ToJson>(
 pub(crate) fn variant_two<A: ToJson, B: ToJson>(
     alloc: Global,
     name: &str,
-    a: &str,
-    first: &A,
-    b: &str,
-    second: &B,
+    first: Member<'_, A>,
+    second: Member<'_, B>,
 ) -> Result<Json, OutOfMemory>
-    ensures json { IfOk result (λ json. view json ≡ variant name.now
-        (object (put b.now (B.json_of second.now) (put a.now (A.json_of first.now)
-        no_members)))) }
-    ensures fits { OnOk result (A.Fits first.now × B.Fits second.now) }
+    ensures json { IfOk result (λ json. view json ≡ variant name.now (object
+        (put second.entry.0.now (B.json_of second.entry.1.now)
+        (put first.entry.0.now (A.json_of first.entry.1.now) no_members)))) }
+    ensures fits { OnOk result (A.Fits first.entry.1.now × B.Fits second.entry.1.now) }
 {
-    let content = two(alloc, a, first, b, second)?;
+    let content = two(alloc, first, second)?;
     wrapped(alloc, name, content)
 }
 
@@ -264,19 +249,18 @@ pub(crate) fn variant_two<A: ToJson, B: ToJson>(
 pub(crate) fn variant_three<A: ToJson, B: ToJson, C: ToJson>(
     alloc: Global,
     name: &str,
-    a: &str,
-    first: &A,
-    b: &str,
-    second: &B,
-    c: &str,
-    third: &C,
+    first: Member<'_, A>,
+    second: Member<'_, B>,
+    third: Member<'_, C>,
 ) -> Result<Json, OutOfMemory>
-    ensures json { IfOk result (λ json. view json ≡ variant name.now
-        (object (put c.now (C.json_of third.now) (put b.now (B.json_of second.now)
-        (put a.now (A.json_of first.now) no_members))))) }
-    ensures fits { OnOk result (A.Fits first.now × B.Fits second.now × C.Fits third.now) }
+    ensures json { IfOk result (λ json. view json ≡ variant name.now (object
+        (put third.entry.0.now (C.json_of third.entry.1.now)
+        (put second.entry.0.now (B.json_of second.entry.1.now)
+        (put first.entry.0.now (A.json_of first.entry.1.now) no_members))))) }
+    ensures fits { OnOk result (A.Fits first.entry.1.now × B.Fits second.entry.1.now
+        × C.Fits third.entry.1.now) }
 {
-    let content = three(alloc, a, first, b, second, c, third)?;
+    let content = three(alloc, first, second, third)?;
     wrapped(alloc, name, content)
 }
 
@@ -284,23 +268,20 @@ pub(crate) fn variant_three<A: ToJson, B: ToJson, C: ToJson>(
 pub(crate) fn variant_four<A: ToJson, B: ToJson, C: ToJson, D: ToJson>(
     alloc: Global,
     name: &str,
-    a: &str,
-    first: &A,
-    b: &str,
-    second: &B,
-    c: &str,
-    third: &C,
-    d: &str,
-    fourth: &D,
+    first: Member<'_, A>,
+    second: Member<'_, B>,
+    third: Member<'_, C>,
+    fourth: Member<'_, D>,
 ) -> Result<Json, OutOfMemory>
-    ensures json { IfOk result (λ json. view json ≡ variant name.now
-        (object (put d.now (D.json_of fourth.now) (put c.now (C.json_of third.now)
-        (put b.now (B.json_of second.now) (put a.now (A.json_of first.now)
-        no_members)))))) }
-    ensures fits { OnOk result (A.Fits first.now × B.Fits second.now × C.Fits third.now
-        × D.Fits fourth.now) }
+    ensures json { IfOk result (λ json. view json ≡ variant name.now (object
+        (put fourth.entry.0.now (D.json_of fourth.entry.1.now)
+        (put third.entry.0.now (C.json_of third.entry.1.now)
+        (put second.entry.0.now (B.json_of second.entry.1.now)
+        (put first.entry.0.now (A.json_of first.entry.1.now) no_members)))))) }
+    ensures fits { OnOk result (A.Fits first.entry.1.now × B.Fits second.entry.1.now
+        × C.Fits third.entry.1.now × D.Fits fourth.entry.1.now) }
 {
-    let content = four(alloc, a, first, b, second, c, third, d, fourth)?;
+    let content = four(alloc, first, second, third, fourth)?;
     wrapped(alloc, name, content)
 }
 

@@ -3,12 +3,12 @@ ghost use Rattle.std.specs.Prelude.{◌≡◌, true, Some, None, MatchResult, na
 ghost use Rattle.std.specs.List.{list_any};
 ghost use Rattle.sc_base.specs.Same.{same_draw};
 ghost use Rattle.sc_machine_table.specs.Splits.{has_named, is_locked_in};
-ghost use Rattle.sc_machine_table.specs.Orders.{locked_in, is_alone, refusal_of, refused_free, join_refused, leave_refused, split_refused, limit_refused, repart_refused, migrate_refused, body_refused, begin_refused};
+ghost use Rattle.sc_machine_table.specs.Orders.{locked_in, refusal_of, refused_free, join_refused, leave_refused, split_refused, limit_refused, repart_refused, migrate_refused, body_refused, begin_refused};
 ghost use Rattle.sc_machine_table.specs.Votes.{has_voted};
 ghost use Rattle.sc_txn.specs.Checked.{is_checked};
 
-use sc_base::Draw;
-use sc_cmd::{Body, Command, Core, Lock, OrderRefusal, same_draw};
+use sc_base::{Draw, same_draw};
+use sc_cmd::{Body, Command, Core, Lock, OrderRefusal};
 
 /// How many transactions a group may begin.
 const MOST_BEGUN: u32 = 256;
@@ -85,12 +85,6 @@ fn check_leave(core: &Core, node: u16) -> Result<(), OrderRefusal>
     Ok(())
 }
 
-fn is_alone(core: &Core) -> bool
-    ensures { result ≡ is_alone core.now }
-{
-    same_draw(core.succ.group, core.id)
-}
-
 fn check_split(core: &Core, at: u32) -> Result<(), OrderRefusal>
     ensures { MatchResult result (λ _. split_refused core.now at ≡ None)
         (λ why. split_refused core.now at ≡ Some why) }
@@ -101,7 +95,7 @@ fn check_split(core: &Core, at: u32) -> Result<(), OrderRefusal>
     if has_one_member(core) {
         return Err(OrderRefusal::LastMember);
     }
-    if !is_alone(core) && has_begun_all(core) {
+    if !core.is_alone() && has_begun_all(core) {
         return Err(OrderRefusal::TxLimit);
     }
     Ok(())
@@ -161,7 +155,7 @@ fn check_begin(core: &Core, body: &Body) -> Result<(), OrderRefusal>
     ensures { MatchResult result (λ _. begin_refused core.now body.now ≡ None)
         (λ why. begin_refused core.now body.now ≡ Some why) }
 {
-    if is_alone(core) {
+    if core.is_alone() {
         return Err(OrderRefusal::NoNeighbour);
     }
     check_body(core, body)

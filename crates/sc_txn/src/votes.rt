@@ -8,8 +8,8 @@ ghost use Rattle.sc_machine_table.specs.Votes.{size_no, place_no, body_no, offer
 ghost use Rattle.sc_txn.specs.Decisions.{decision_by, decision_in, decision_of};
 
 use crate::checks::locked_in;
-use sc_base::Draw;
-use sc_cmd::{Body, Core, No, Offer, Outcome, Watch, same_draw};
+use sc_base::{Draw, same_draw};
+use sc_cmd::{Body, Core, No, Offer, Outcome, Watch};
 use sc_member::Members;
 
 /// What a coordinator's log says of a transaction.

@@ -1,5 +1,5 @@
-use sc_acceptor::{AcceptAnswer, Acceptor, PrepareAnswer};
 use sc_base::Ballot;
+use sc_paxos::{AcceptAnswer, Acceptor, PrepareAnswer};
 use sc_paxos_words::Report;
 use std::mem::forget;
 use std::process::Abort;

@@ -1,7 +1,7 @@
 use crate::leader_tests::{Told, reports};
 use crate::values::is_copied;
 use sc_base::Ballot;
-use sc_leader::pick;
+use sc_paxos::pick;
 use sc_paxos_words::{Report, acceptors_never_fall, choice_is_first_highest};
 use std::alloc::Global;
 use std::mem::forget;

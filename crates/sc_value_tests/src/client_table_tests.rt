@@ -1,5 +1,5 @@
 use crate::values::{reply, seen, tells};
-use sc_clients::{ClientTable, Seen};
+use sc_store::{ClientTable, Seen};
 use std::alloc::Global;
 use std::mem::forget;
 use std::process::Abort;

@@ -1,6 +1,6 @@
 use crate::groups::nodes_to;
 use sc_base::Ballot;
-use sc_leader::{Counted, Leader, Must};
+use sc_paxos::{Counted, Leader, Must};
 use sc_paxos_words::Report;
 use std::alloc::Global;
 use std::mem::forget;

@@ -47,3 +47,6 @@ mod split_tests;
 mod store_tests;
 #[cfg(test)]
 mod values;
+mod vectors;
+
+pub use vectors::{REFUSED, Refused};

@@ -1,4 +1,4 @@
-use sc_glog::{Glog, Learnt};
+use sc_paxos::{Glog, Learnt};
 use std::mem::forget;
 use std::process::Abort;
 

@@ -1,8 +1,8 @@
 //! Texts that are scenarios, and texts that are not.
+use crate::{REFUSED, Refused};
 use sc_base::{Draw, Op};
 use sc_cmd::Order;
 use sc_scenario::{ClientList, GroupList, Scenario, ScenarioFault, SchedLine, read_scenario};
-use sc_vectors::{REFUSED, Refused};
 use std::alloc::Global;
 use std::mem::forget;
 use std::process::Abort;

@@ -1,8 +1,8 @@
 use crate::groups::{CHILD, GROUP, OTHER, group};
 use crate::member_tests::is_set;
-use sc_base::{Draw, RingArc, Sequence};
-use sc_cmd::{Core, Lock, Outcome, same_draw};
-use sc_split_merge::{can_split, plan_split, splits_keep_the_whole};
+use sc_base::{Draw, RingArc, Sequence, same_draw};
+use sc_cmd::{Core, Lock, Outcome};
+use sc_txn::{can_split, plan_split, splits_keep_the_whole};
 use std::alloc::Global;
 use std::mem::forget;
 use std::process::Abort;

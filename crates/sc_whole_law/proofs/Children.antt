@@ -17,17 +17,18 @@ use Rattle.sc_cmd.specs.declared.orders.OrderRefusal.{OrderRefusal}
 use Rattle.sc_cmd.specs.declared.votes.Past.{Past}
 use Rattle.sc_cmd.specs.declared.votes.Past.TheVariants as Cast
 use Rattle.sc_member.specs.Roster.{IsRoster}
+use Rattle.sc_cmd.specs.Cores.{is_alone}
 use Rattle.sc_machine_table.specs.Children.{ordered_child, released_child, answered_child, watched_child, child_by}
 use Rattle.sc_machine_table.specs.Group.{Group}
 use Rattle.sc_machine_table.specs.Machine.{applied}
-use Rattle.sc_machine_table.specs.Orders.{is_alone, refusal_of}
+use Rattle.sc_machine_table.specs.Orders.{refusal_of}
 use Rattle.sc_machine_table.specs.Plans.{can_split}
 use Rattle.sc_machine_table.specs.Splits.{staying, right_members, child_of, has_named}
-use Rattle.sc_entries.specs.Births.{birth_of}
-use Rattle.sc_entries.proofs.Children.{births_are_children}
+use Rattle.sc_log_entries.specs.Births.{birth_of}
+use Rattle.sc_log_entries.proofs.Children.{births_are_children}
 use Rattle.sc_paxos_law.proofs.Among.{Among-either}
 use Rattle.sc_sound.specs.GroupsOf.{children_of}
-use Rattle.sc_start_law.specs.Begins.{IsFresh}
+use Rattle.sc_whole_law.specs.Begins.{IsFresh}
 use Rattle.sc_whole_law.proofs.Coming.{two_members, staying_some}
 use Rattle.sc_whole_law.proofs.Members.{may_split, members_after}
 

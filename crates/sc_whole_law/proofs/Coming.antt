@@ -8,6 +8,7 @@ use Rattle.sc_base.specs.Arc.{holds}
 use Rattle.sc_base.specs.declared.names.Draw.{Draw}
 use Rattle.sc_base.specs.declared.ops.Op.{Op}
 use Rattle.sc_base.proofs.NameLemmas.{draw_is}
+use Rattle.sc_cmd.specs.Cores.{is_alone}
 use Rattle.sc_ideal.specs.IdealStore.{key_of, holds_key}
 use Rattle.sc_cmd.specs.declared.bodies.Body.{Body}
 use Rattle.sc_cmd.specs.declared.bodies.Body.TheVariants as By
@@ -38,7 +39,7 @@ use Rattle.sc_member.proofs.UnionLemmas.{grows, count_united}
 use Rattle.sc_machine_table.specs.Finishes.{can_gain, gone_group, gained_group, lost_group, welcomed_group, participant_after, watcher_after, party_freed, settled_in, finished}
 use Rattle.sc_machine_table.specs.Group.{Group}
 use Rattle.sc_machine_table.specs.Machine.{served_by_note, called, split_group, applied}
-use Rattle.sc_machine_table.specs.Orders.{is_alone, refusal_of, ordered}
+use Rattle.sc_machine_table.specs.Orders.{refusal_of, ordered}
 use Rattle.sc_machine_table.specs.Plans.{can_cut, has_key_of, can_split, split_plan, can_merge, merged_group, may_merge, merged_route, merge_plan, closing_group, closing_plan, can_repart, giving_group, part_gift, taking_group, taken, giving_plan, taking_plan, repart_plan, can_migrate, migrated_group, migrate_plan}
 use Rattle.sc_machine_table.specs.Splits.{staying, left_members, left_group, has_named}
 use Rattle.sc_machine_table.specs.Transactions.{begun_group, decided_group, decided, aborted, committed, heard_group, granted, participant_answered, asks_watcher, vote_recorded, released, watch_answered, watch_recorded, is_coordinating}

@@ -20,14 +20,13 @@ use Rattle.sc_cmd.specs.declared.votes.Outcome.{Outcome}
 use Rattle.sc_cmd.specs.declared.votes.Past.{Past}
 use Rattle.sc_cmd.specs.declared.votes.Vote.{Vote}
 use Rattle.sc_cmd.specs.declared.votes.Vote.TheVariants as Vows
+use Rattle.sc_cmd.specs.Effects.{is_changed, decided_in}
+use Rattle.sc_cmd.specs.Cores.{is_alone}
 use Rattle.sc_machine_table.specs.Group.{Group}
 use Rattle.sc_machine_table.specs.Machine.{applied}
-use Rattle.sc_machine_table.specs.Orders.{is_alone}
-use Rattle.sc_entries.specs.Births.{is_changed}
-use Rattle.sc_entries.specs.Decisions.{outcome_in}
-use Rattle.sc_entries.specs.Effective.{after_outcome}
-use Rattle.sc_entries.specs.Worlds.{named_group}
-use Rattle.sc_entries.specs.declared.LogEntry.{LogEntry}
+use Rattle.sc_log_entries.specs.Effective.{after_outcome}
+use Rattle.sc_log_entries.specs.Worlds.{named_group}
+use Rattle.sc_log_entries.specs.declared.LogEntry.{LogEntry}
 use Rattle.sc_ring_law.specs.Allowed.{Sources, IsVoteCast, IsAllowed, AreAllowed, ToldWorld, first_told, told_on, told_after, stories_told}
 use Rattle.sc_ring_law.specs.Invariant.{Groups, LockOk, IsCoordinating, IsPromised}
 use Rattle.sc_ring_law.specs.Laws.{BeginInPlace, stories_of}
@@ -157,9 +156,9 @@ module _ (sources : Sources) (ring : Ring) (gs : Groups) (ys : Stories) (g : Dra
   -- so is a story that goes on by a vote
   answer_apart : (tx : Draw) (vote : Vote) (by : ℕ) → IsVoteCast ys tx vote → (story : Story) → ys tx ≡ Some story → IsApartStory story → IsApartStory (with_answer s.core vote (applied s (RecordVote tx vote by)).1 story)
   answer_apart tx vote by cast story there old =
-      cond_both (is_changed (applied s (RecordVote tx vote by)).1) (with_asked s.core vote story) (with_decision (outcome_in (applied s (RecordVote tx vote by)).1) story) IsApartStory
+      cond_both (is_changed (applied s (RecordVote tx vote by)).1) (with_asked s.core vote story) (with_decision (decided_in (applied s (RecordVote tx vote by)).1) story) IsApartStory
       (λ t. (let m = merges s tx vote by t in asked_apart tx vote cast m.0 m.1 m.2 story there old))
-      (λ _. decided_same (outcome_in (applied s (RecordVote tx vote by)).1) story old)
+      (λ _. decided_same (decided_in (applied s (RecordVote tx vote by)).1) story old)
 
   -- with one entry more
   entry_apart : (c : Command) → IsAllowed sources ys g c → PartiesAreApart ys → PartiesAreApart (stories_after s c (applied s c).1 ys)
@@ -177,8 +176,8 @@ module _ (sources : Sources) (ring : Ring) (gs : Groups) (ys : Stories) (g : Dra
   entry_apart (Prepared tx offer) a old = apart_retold ys tx _ (λ y e. voted_same (vote_in s (applied s (Prepared tx offer)).1) y (old tx y e)) old
   entry_apart (Watched tx watch) a old = apart_retold ys tx _ (λ y e. watched_same (watch_vote_in (applied s (Watched tx watch)).1) y (old tx y e)) old
   entry_apart (RecordVote tx vote by) a old = apart_retold ys tx _ (λ y e. answer_apart tx vote by a y e (old tx y e)) old
-  entry_apart (RecordWatch tx vote by) a old = apart_retold ys tx _ (λ y e. decided_same (outcome_in (applied s (RecordWatch tx vote by)).1) y (old tx y e)) old
-  entry_apart (GiveUp tx) a old = apart_retold ys tx _ (λ y e. decided_same (outcome_in (applied s (GiveUp tx)).1) y (old tx y e)) old
+  entry_apart (RecordWatch tx vote by) a old = apart_retold ys tx _ (λ y e. decided_same (decided_in (applied s (RecordWatch tx vote by)).1) y (old tx y e)) old
+  entry_apart (GiveUp tx) a old = apart_retold ys tx _ (λ y e. decided_same (decided_in (applied s (GiveUp tx)).1) y (old tx y e)) old
 
 -- with one entry more
 told_apart : (sources : Sources) (w : ToldWorld) (e : LogEntry) → KeptWorld sources.owner w → IsAllowed sources w.stories e.group e.command → PartiesAreApart w.stories → PartiesAreApart (told_on w e).stories

@@ -8,7 +8,7 @@ use Rattle.sc_sound.specs.Example.{four}
 use Rattle.sc_sound.specs.Soundness.{IsSound}
 use Rattle.sc_group_law.specs.Example.{election_scenario}
 use Rattle.sc_group_law.specs.JoinExample.{join_scenario}
-use Rattle.sc_journal_law.specs.Descent.{Rows}
+use Rattle.sc_log_law.specs.Descent.{Rows}
 use Rattle.sc_whole_law.specs.SplitExample.{split_scenario}
 use Rattle.sc_whole_law.specs.Texts.{election_text, join_text, two_text, split_text}
 use Rattle.sc_whole_law.specs.TwoGroups.{two_scenario}

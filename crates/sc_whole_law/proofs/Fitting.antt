@@ -25,21 +25,22 @@ use Rattle.sc_cmd.specs.declared.votes.Vote.{Vote}
 use Rattle.sc_cmd.specs.declared.votes.Vote.TheVariants as Vows
 use Rattle.sc_member.specs.Roster.{IsRoster}
 use Rattle.sc_member.specs.Union.{united}
+use Rattle.sc_cmd.specs.Effects.{is_changed, decided_in}
+use Rattle.sc_cmd.specs.Cores.{is_alone}
 use Rattle.sc_machine_table.specs.Group.{Group, group_of}
 use Rattle.sc_machine_table.specs.Machine.{applied}
-use Rattle.sc_machine_table.specs.Orders.{is_alone, locked_in}
+use Rattle.sc_machine_table.specs.Orders.{locked_in}
 use Rattle.sc_machine_table.specs.Plans.{frozen_of}
 use Rattle.sc_machine_table.specs.Votes.{has_voted, size_no, body_no, offer_no, no_of, vote_of, past_of}
-use Rattle.sc_entries.specs.Births.{is_changed, birth_of}
-use Rattle.sc_entries.specs.Decisions.{outcome_in}
-use Rattle.sc_entries.specs.Worlds.{is_named, named_group, with_group, groups_after, after_command}
-use Rattle.sc_entries.specs.declared.LogEntry.{LogEntry}
-use Rattle.sc_entries.proofs.Children.{births_are_children}
+use Rattle.sc_log_entries.specs.Births.{birth_of}
+use Rattle.sc_log_entries.specs.Worlds.{is_named, named_group, with_group, groups_after, after_command}
+use Rattle.sc_log_entries.specs.declared.LogEntry.{LogEntry}
+use Rattle.sc_log_entries.proofs.Children.{births_are_children}
 use Rattle.sc_paxos_words.proofs.ListLemmas.{Each-among, Each-append, find_found}
 use Rattle.sc_ring_law.specs.Allowed.{Sources, IsAllowed, AreAllowed, ToldWorld, first_told, told_on, told_after, stories_told}
 use Rattle.sc_ring_law.specs.Laws.{stories_of}
 use Rattle.sc_ring_law.specs.Stories.{Story, Stories, put, retold, unsigned, new_story, vote_by, vote_in, watch_vote_in, with_vote, with_watch_vote, with_decision, with_asked, stories_after}
-use Rattle.sc_start_law.specs.Begins.{IsFresh}
+use Rattle.sc_whole_law.specs.Begins.{IsFresh}
 use Rattle.sc_whole_law.specs.Parties.{MergesFit}
 use Rattle.sc_whole_law.proofs.Children.{fresh_child}
 use Rattle.sc_whole_law.proofs.Members.{members_after}
@@ -175,9 +176,9 @@ entry_fit sources ys g s roster (Prepared tx offer) a old =
 entry_fit sources ys g s roster (Watched tx watch) a old = fit_retold ys tx _ (λ y e. watched_fit (watch_vote_in (applied s (Watched tx watch)).1) y (old tx y e)) old
 entry_fit sources ys g s roster (RecordVote tx vote by) a old = fit_retold ys tx _ (λ y e. (
     let effect = (applied s (RecordVote tx vote by)).1 in
-    cond_both (is_changed effect) (with_asked s.core vote y) (with_decision (outcome_in effect) y) FitsStory (λ _. asked_fit s.core vote y (old tx y e)) (λ _. decided_fit (outcome_in effect) y (old tx y e)))) old
-entry_fit sources ys g s roster (RecordWatch tx vote by) a old = fit_retold ys tx _ (λ y e. decided_fit (outcome_in (applied s (RecordWatch tx vote by)).1) y (old tx y e)) old
-entry_fit sources ys g s roster (GiveUp tx) a old = fit_retold ys tx _ (λ y e. decided_fit (outcome_in (applied s (GiveUp tx)).1) y (old tx y e)) old
+    cond_both (is_changed effect) (with_asked s.core vote y) (with_decision (decided_in effect) y) FitsStory (λ _. asked_fit s.core vote y (old tx y e)) (λ _. decided_fit (decided_in effect) y (old tx y e)))) old
+entry_fit sources ys g s roster (RecordWatch tx vote by) a old = fit_retold ys tx _ (λ y e. decided_fit (decided_in (applied s (RecordWatch tx vote by)).1) y (old tx y e)) old
+entry_fit sources ys g s roster (GiveUp tx) a old = fit_retold ys tx _ (λ y e. decided_fit (decided_in (applied s (GiveUp tx)).1) y (old tx y e)) old
 
 -- the groups of a world have rosters
 abbrev HaveRosters : List Group → Type 0

@@ -38,16 +38,16 @@ use Rattle.sc_sound.specs.Logs.{decided_log}
 use Rattle.sc_ring_law.specs.Allowed.{Sources, IsAllowed}
 use Rattle.sc_ring_law.specs.Laws.{BeginInPlace}
 use Rattle.sc_ring_law.specs.Stories.{Story, Stories, unsigned, unsigned_watch}
-use Rattle.sc_journal_law.specs.Allows.{AllowsAsItStands, MakesAllowed, GroupAllows}
-use Rattle.sc_journal_law.specs.Descent.{Rows}
-use Rattle.sc_journal_law.specs.InTurn.{DecideInTurn}
-use Rattle.sc_journal_law.proofs.Allowing.{fronts_allow, states_allow}
-use Rattle.sc_journal_law.proofs.Allows.{groups_allow_others}
+use Rattle.sc_log_law.specs.Allows.{AllowsAsItStands, MakesAllowed, GroupAllows}
+use Rattle.sc_log_law.specs.Descent.{Rows}
+use Rattle.sc_log_law.specs.InTurn.{DecideInTurn}
+use Rattle.sc_log_law.proofs.Allowing.{fronts_allow, states_allow}
+use Rattle.sc_log_law.proofs.Allows.{groups_allow_others}
 use Rattle.sc_group_law.proofs.Families.{h_of}
 use Rattle.sc_group_law.proofs.Invariant.{rule, first}
 use Rattle.sc_group_law.proofs.Speech.{AreSaid, Meets, Speaks}
 use Rattle.sc_whole_law.specs.Parameters.{stories_at, MayQueue, IsHeardAt}
-use Rattle.sc_start_law.specs.Begins.{IsFresh}
+use Rattle.sc_whole_law.specs.Begins.{IsFresh}
 use Rattle.sc_whole_law.specs.Parties.{PartiesAreApart, MergesFit}
 use Rattle.sc_whole_law.proofs.Coming.{Binds}
 use Rattle.sc_whole_law.proofs.Locks.{Ever, WatchesIt, watching_since, DecidesIt, decided_since, yes_binds}

@@ -29,7 +29,7 @@ use Rattle.sc_node_table.specs.Policy.{wished_line, names_after_tick}
 use Rattle.sc_node_table.specs.Replica.{ReplicaState, name_of, members, settled}
 use Rattle.sc_paxos_words.proofs.ListLemmas.{Each-among}
 use Rattle.sc_sound.specs.Players.{Ahead, Lawful, node_seat, player_table, system_of, schedule}
-use Rattle.sc_sound.specs.declared.roles.Role.TheVariants.{Node as ANode}
+use Rattle.sc_mail.specs.declared.roles.Role.TheVariants.{Node as ANode}
 use Rattle.sc_scenario.specs.declared.scenarios.Asks.{Asks}
 use Rattle.sc_scenario.specs.declared.scenarios.Scenario.{Scenario}
 use Rattle.sc_sound.specs.GroupsOf.{AreNamedApart, groups_at}
@@ -37,9 +37,9 @@ use Rattle.sc_sound.specs.Requests.{kept_replies}
 use Rattle.sc_sound.specs.Soundness.{HasRun, AllHaveRun}
 use Rattle.sc_ring_law.specs.Allowed.{Sources, IsAllowed}
 use Rattle.sc_ring_law.specs.Laws.{BeginInPlace}
-use Rattle.sc_journal_law.specs.Beside.{HasOneValue, IsIssuedIn, IsDecidedBefore, HoldsBeside}
-use Rattle.sc_journal_law.specs.Descent.{Rows, added_by}
-use Rattle.sc_draws_law.specs.Owners.{waited, wished_at}
+use Rattle.sc_log_law.specs.Beside.{HasOneValue, IsIssuedIn, IsDecidedBefore, HoldsBeside}
+use Rattle.sc_log_law.specs.Descent.{Rows, added_by}
+use Rattle.sc_names_law.specs.Owners.{waited, wished_at}
 use Rattle.sc_group_law.proofs.Births.{at_start}
 use Rattle.sc_group_law.proofs.Families.{h_of}
 use Rattle.sc_group_law.proofs.Holding.{held}
@@ -50,7 +50,7 @@ use Rattle.sc_group_law.proofs.Stepping.{MayTell}
 use Rattle.sc_group_law.proofs.Ticks.{MayTick}
 use Rattle.sc_whole_law.specs.Orders.{OrdersAreAllowed}
 use Rattle.sc_whole_law.specs.Parameters.{stories_at, IsIssuedCall, MayQueue, IsHeardAt}
-use Rattle.sc_start_law.specs.Begins.{IsFresh, HasSeats, AsksAre}
+use Rattle.sc_whole_law.specs.Begins.{IsFresh, HasSeats, AsksAre}
 use Rattle.sc_whole_law.proofs.Replies.{decided_before, replies_are_decided}
 use Rattle.sc_whole_law.proofs.Turning.{Holds, players, issued_now, told_now, holds_next}
 

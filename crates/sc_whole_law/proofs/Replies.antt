@@ -21,18 +21,18 @@ use Rattle.sc_lookup.specs.declared.ways.Way.{Way}
 use Rattle.sc_node_table.specs.Slots.{numbers_from}
 use Rattle.sc_paxos_law.specs.Lawful.{IsLawfulHistory}
 use Rattle.sc_sound.specs.Players.{Ahead, Player, node_seat, client_seat, client_seats, route_of}
-use Rattle.sc_sound.specs.declared.roles.Role.TheVariants.{Client as AClient}
+use Rattle.sc_mail.specs.declared.roles.Role.TheVariants.{Client as AClient}
 use Rattle.sc_scenario.specs.declared.scenarios.Asks.{Asks}
 use Rattle.sc_scenario.specs.declared.scenarios.Scenario.{Scenario}
 use Rattle.sc_sound.specs.GroupsOf.{groups_at}
 use Rattle.sc_sound.specs.Logs.{decided_log}
 use Rattle.sc_sound.specs.Requests.{kept_replies, kept_reply, answered_from, answer_row}
-use Rattle.sc_journal_law.specs.Beside.{IsDecidedBefore, RepliesAreDecided}
-use Rattle.sc_journal_law.specs.Descent.{Rows}
+use Rattle.sc_log_law.specs.Beside.{IsDecidedBefore, RepliesAreDecided}
+use Rattle.sc_log_law.specs.Descent.{Rows}
 use Rattle.sc_group_law.proofs.Clients.{IsAnswered}
 use Rattle.sc_group_law.proofs.Families.{h_of}
 use Rattle.sc_group_law.proofs.Invariant.{rule, first}
-use Rattle.sc_start_law.specs.Begins.{HasSeats}
+use Rattle.sc_whole_law.specs.Begins.{HasSeats}
 use Rattle.sc_whole_law.proofs.Fronts.{goes_on_from}
 
 -- ---- the group that clients ask first

@@ -19,11 +19,11 @@ use Rattle.sc_scenario.specs.declared.scenarios.Scenario.{Scenario}
 use Rattle.sc_scenario.specs.declared.scenarios.SchedLine.{SchedLine}
 use Rattle.sc_scenario.specs.declared.scenarios.SchedLine.TheVariants as scheduled
 use Rattle.sc_ring_law.specs.Allowed.{IsAllowed}
-use Rattle.sc_draws_law.specs.Laws.{IsAtPosition, TakesOrder, TakenOrdersAreAllowed, TakesWish, TakenWishesAreAllowed, WishesAreAtPositions}
-use Rattle.sc_draws_law.specs.Owners.{owner_in}
+use Rattle.sc_names_law.specs.Laws.{IsAtPosition, TakesOrder, TakenOrdersAreAllowed, TakesWish, TakenWishesAreAllowed, WishesAreAtPositions}
+use Rattle.sc_names_law.specs.Owners.{owner_in}
 use Rattle.sc_group_law.proofs.Orders.{IsToldSo, TellsSo, told_induction}
-use Rattle.sc_journal_law.specs.Descent.{Rows}
-use Rattle.sc_start_law.specs.Begins.{section_op}
+use Rattle.sc_log_law.specs.Descent.{Rows}
+use Rattle.sc_whole_law.specs.Begins.{section_op}
 use Rattle.sc_whole_law.specs.Orders.{ToldAreAllowed, WishedAreAllowed, OrdersAreAllowed}
 
 -- ---- the schedule

@@ -7,8 +7,8 @@ use Rattle.sc_actor.proofs.WalkLemmas.{lawful-prefix}
 use Rattle.sc_sound.specs.Players.{Ahead, system_of, schedule}
 use Rattle.sc_scenario.specs.declared.scenarios.Scenario.{Scenario}
 use Rattle.sc_ring_law.specs.Allowed.{Sources}
-use Rattle.sc_journal_law.specs.Descent.{Rows}
-use Rattle.sc_journal_law.specs.Laws.{JournalsInTurnAreSound}
+use Rattle.sc_log_law.specs.Descent.{Rows}
+use Rattle.sc_log_law.specs.Laws.{JournalsInTurnAreSound}
 use Rattle.sc_whole_law.specs.Laws.{LawfulJournalsDecideInTurn, LawfulJournalsHoldBeside, LawfulJournalsAreSound}
 use Rattle.sc_whole_law.specs.Orders.{OrdersAreAllowed}
 use Rattle.sc_whole_law.proofs.Journals.{holds, beside}

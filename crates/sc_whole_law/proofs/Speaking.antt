@@ -24,6 +24,7 @@ use Rattle.sc_cmd.specs.declared.votes.Past.{Past}
 use Rattle.sc_cmd.specs.declared.votes.Past.TheVariants as Cast
 use Rattle.sc_cmd.specs.declared.votes.Vote.{Vote}
 use Rattle.sc_cmd.specs.declared.votes.Vote.TheVariants as Vows
+use Rattle.sc_cmd.specs.Effects.{decided_in, cast_in}
 use Rattle.sc_mail.specs.declared.bodies.Mail.{Mail}
 use Rattle.sc_mail.specs.declared.bodies.MailBody.{MailBody}
 use Rattle.sc_mail.specs.declared.bodies.MailBody.TheVariants.{TxVote, TxOutcome, TxWatched}
@@ -39,11 +40,11 @@ use Rattle.sc_node_table.specs.Mails.{sent_all}
 use Rattle.sc_node_table.specs.Questions.{offer_of, question, asked_first, both_link, split_watch, child_link, union_watch}
 use Rattle.sc_node_table.specs.Reminders.{reminders}
 use Rattle.sc_node_table.specs.Transactions.{voted_to, watched_to}
-use Rattle.sc_node_table.specs.Spoken.{asked_on, decided_in, cast_in, vote_sent, watch_sent, aborted_to, aborted_watcher, given_up_by, vote_answered, released_to, watch_answered_by, went_on}
+use Rattle.sc_node_table.specs.Spoken.{asked_on, vote_sent, watch_sent, aborted_to, aborted_watcher, given_up_by, vote_answered, released_to, watch_answered_by, went_on}
 use Rattle.sc_ring_law.specs.Allowed.{Sources, IsAllowed}
 use Rattle.sc_ring_law.specs.Invariant.{Groups, Facts, LockOk}
 use Rattle.sc_ring_law.specs.Stories.{Story, Stories, unsigned, watch_with}
-use Rattle.sc_journal_law.specs.Allows.{AllowsAsItStands, MakesAllowed, GroupAllows}
+use Rattle.sc_log_law.specs.Allows.{AllowsAsItStands, MakesAllowed, GroupAllows}
 use Rattle.sc_group_law.proofs.Speech.{IsSaid, AreSaid}
 use Rattle.sc_whole_law.specs.Parameters.{IsHeard}
 use Rattle.sc_whole_law.specs.Parties.{MergesFit}

@@ -1,7 +1,6 @@
 -- The example of a split is a lawful journal.
 use Rattle.std.proofs.Common.{refl}
 use Rattle.sc_actor.specs.System.{no_words}
-use Rattle.sc_node_table.specs.Births.{ready_children, executed_children, learnt_children, readied_children, accepted_children, mailed_children}
 use Rattle.sc_node_table.specs.Election.{elected, ended, saw, nodes_to}
 use Rattle.sc_node_table.specs.Execute.{entered, told_call, told_effect, announced, learnt_to, welcomed, landed, left, looked, executed_one, executed_ready, executed}
 use Rattle.sc_node_table.specs.Install.{install_to, welcomed_all, jumped}
@@ -22,5 +21,5 @@ use Rattle.sc_whole_law.specs.SplitExample.{split_scenario, split_example}
 pub split_is_lawful : Lawful four no_words split_scenario split_example
 unfolding nodes_to elected ended saw sent_all sent_others answered ticked next_call from_calls from_queues found_for offered pumped_from pumped queued requested request_row learn_row mailed took accept_row
     readied accepted_row entered told_call told_effect announced learnt_to welcomed landed left looked executed_one executed_ready executed install_to welcomed_all jumped told_order forgotten ordered_row
-    spoken spoken_mails told_begun went_on reminded ready_children executed_children learnt_children readied_children accepted_children mailed_children with_children
+    spoken spoken_mails told_begun went_on reminded with_children
 split_is_lawful = (refl, (refl, (refl, (refl, (refl, (refl, (refl, (refl, (refl, (refl, (refl, tt)))))))))))

@@ -18,9 +18,9 @@ use Rattle.sc_actor.specs.Steps.{IsStep}
 use Rattle.sc_machine_table.specs.Group.{Group, group_of}
 use Rattle.sc_machine_table.specs.Logs.{state_after}
 use Rattle.sc_machine_table.specs.Machine.{applied}
-use Rattle.sc_entries.specs.Births.{birth_of}
-use Rattle.sc_entries.specs.Worlds.{StoreWorld, named_group}
-use Rattle.sc_entries.proofs.Children.{births_are_children}
+use Rattle.sc_log_entries.specs.Births.{birth_of}
+use Rattle.sc_log_entries.specs.Worlds.{StoreWorld, named_group}
+use Rattle.sc_log_entries.proofs.Children.{births_are_children}
 use Rattle.sc_paxos_words.proofs.ListLemmas.{Each-among, Each-weaker}
 use Rattle.sc_paxos_law.proofs.Among.{Among-left, Among-right, get_pushed}
 use Rattle.sc_scenario.specs.declared.scenarios.Asks.{Asks}
@@ -33,26 +33,26 @@ use Rattle.sc_ring_law.specs.Allowed.{Sources, IsAllowed, first_told, told_after
 use Rattle.sc_ring_law.specs.Laws.{BeginInPlace}
 use Rattle.sc_ring_law.proofs.Start.{at_start}
 use Rattle.sc_ring_law.proofs.Worlds.{kept_after}
-use Rattle.sc_journal_law.specs.Descent.{Rows, added_by, newborn_by}
-use Rattle.sc_journal_law.specs.Findings.{AreFound, IsNewborn}
-use Rattle.sc_journal_law.specs.InTurn.{DecidesInTurn, DecideInTurn}
-use Rattle.sc_journal_law.proofs.Allowing.{allowed_stays_allowed}
-use Rattle.sc_draws_law.proofs.Lists.{Each-drop}
+use Rattle.sc_log_law.specs.Descent.{Rows, added_by, newborn_by}
+use Rattle.sc_log_law.specs.Findings.{AreFound, IsNewborn}
+use Rattle.sc_log_law.specs.InTurn.{DecidesInTurn, DecideInTurn}
+use Rattle.sc_log_law.proofs.Allowing.{allowed_stays_allowed}
+use Rattle.sc_names_law.proofs.Lists.{Each-drop}
 use Rattle.sc_ring_law.proofs.Sound.{store_after}
-use Rattle.sc_journal_law.proofs.Births.{BornBy, born_by}
-use Rattle.sc_journal_law.proofs.Calls.{all_allowed}
-use Rattle.sc_journal_law.proofs.Findings.{told_rows, groups_are_found, groups_are_old_or_new}
-use Rattle.sc_journal_law.proofs.Generations.{group_found}
-use Rattle.sc_journal_law.proofs.Histories.{told_rows_stay}
-use Rattle.sc_journal_law.proofs.Parts.{rows_go_on}
-use Rattle.sc_journal_law.proofs.Told.{Told, state_there}
+use Rattle.sc_log_law.proofs.Births.{BornBy, born_by}
+use Rattle.sc_log_law.proofs.Calls.{all_allowed}
+use Rattle.sc_log_law.proofs.Findings.{told_rows, groups_are_found, groups_are_old_or_new}
+use Rattle.sc_log_law.proofs.Generations.{group_found}
+use Rattle.sc_log_law.proofs.Histories.{told_rows_stay}
+use Rattle.sc_log_law.proofs.Parts.{rows_go_on}
+use Rattle.sc_log_law.proofs.Told.{Told, state_there}
 use Rattle.sc_group_law.proofs.Births.{first_of}
 use Rattle.sc_group_law.proofs.Clients.{IsIssued, IsAnswered}
 use Rattle.sc_group_law.proofs.Families.{h_of, Kept, Stepped, IsLater, Moved, push, log_goes_on, decided_made}
 use Rattle.sc_group_law.proofs.Places.{or_now, issue-push}
 use Rattle.sc_group_law.proofs.Stepping.{HasPlayers, MayTell, KnowsOffspring, moved}
 use Rattle.sc_whole_law.specs.Parameters.{stories_at, IsIssuedCall, MayQueue, IsHeardAt}
-use Rattle.sc_start_law.specs.Begins.{IsFresh, HasSeats, AsksAre}
+use Rattle.sc_whole_law.specs.Begins.{IsFresh, HasSeats, AsksAre}
 use Rattle.sc_whole_law.specs.Parties.{PartiesAreApart, MergesFit}
 use Rattle.sc_whole_law.proofs.Apart.{IsNew, IsOldOrNew, named_apart, silent}
 use Rattle.sc_whole_law.proofs.Children.{fresh_children}

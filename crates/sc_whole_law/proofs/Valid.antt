@@ -2,11 +2,11 @@
 use Rattle.std.proofs.Common.{◌++◌, subst}
 use Rattle.sc_sound.specs.Players.{Lawful, route_of}
 use Rattle.sc_scenario.specs.Valid.{ValidScenariosAreBounded}
-use Rattle.sc_draws_law.specs.Laws.{OtherNamesAreFree, TakenOrdersAreAllowed, TakenWishesAreAllowed, WishesAreAtPositions}
-use Rattle.sc_draws_law.specs.Owners.{owner_in}
-use Rattle.sc_start_law.specs.Begins.{section_op}
-use Rattle.sc_start_law.specs.Laws.{ValidScenariosBeginWell}
-use Rattle.sc_journal_law.specs.Laws.{EntriesAreLogs}
+use Rattle.sc_names_law.specs.Laws.{OtherNamesAreFree, TakenOrdersAreAllowed, TakenWishesAreAllowed, WishesAreAtPositions}
+use Rattle.sc_names_law.specs.Owners.{owner_in}
+use Rattle.sc_whole_law.specs.Begins.{section_op}
+use Rattle.sc_whole_law.specs.StartLaws.{ValidScenariosBeginWell}
+use Rattle.sc_log_law.specs.Laws.{EntriesAreLogs}
 use Rattle.sc_whole_law.specs.Laws.{LawfulJournalsAreSound, LawfulJournalsDecideInTurn}
 use Rattle.sc_whole_law.specs.Valid.{ValidEntriesAreLogs, ValidJournalsAreSound}
 use Rattle.sc_whole_law.proofs.Scheduled.{orders_allowed}

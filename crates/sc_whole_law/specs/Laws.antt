@@ -10,11 +10,11 @@ use Rattle.sc_scenario.specs.declared.scenarios.Scenario.{Scenario}
 use Rattle.sc_hist_law.specs.Worlds.{BeginBare}
 use Rattle.sc_ring_law.specs.Allowed.{Sources}
 use Rattle.sc_sound.specs.Soundness.{IsSound}
-use Rattle.sc_journal_law.specs.Beside.{HoldsBeside}
-use Rattle.sc_journal_law.specs.Descent.{Rows}
-use Rattle.sc_journal_law.specs.InTurn.{DecideInTurn}
+use Rattle.sc_log_law.specs.Beside.{HoldsBeside}
+use Rattle.sc_log_law.specs.Descent.{Rows}
+use Rattle.sc_log_law.specs.InTurn.{DecideInTurn}
 use Rattle.sc_whole_law.specs.Orders.{OrdersAreAllowed}
-use Rattle.sc_start_law.specs.Begins.{BeginsWell}
+use Rattle.sc_whole_law.specs.Begins.{BeginsWell}
 
 -- the members of a group stay one to nine nodes, ascending
 abbrev pub MembersStayRosters : Type 0

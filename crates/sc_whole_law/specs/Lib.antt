@@ -1,8 +1,10 @@
+pub mod Begins
+pub mod Laws
+pub mod Orders
 pub mod Parameters
 pub mod Parties
-pub mod Orders
-pub mod Laws
-pub mod Valid
+pub mod SplitExample
+pub mod StartLaws
 pub mod Texts
 pub mod TwoGroups
-pub mod SplitExample
+pub mod Valid

@@ -10,12 +10,12 @@ use Rattle.sc_node_table.specs.Node.{NodeState, group_of_order, names_after_tick
 use Rattle.sc_node_table.specs.Ordering.{ordered_command, untaken}
 use Rattle.sc_node_table.specs.Replica.{ReplicaState, name_of}
 use Rattle.sc_sound.specs.Players.{Ahead, node_seat, player_table}
-use Rattle.sc_sound.specs.declared.roles.Role.TheVariants.{Node}
+use Rattle.sc_mail.specs.declared.roles.Role.TheVariants.{Node}
 use Rattle.sc_scenario.specs.declared.scenarios.Scenario.{Scenario}
 use Rattle.sc_ring_law.specs.Allowed.{Sources, IsAllowed}
 use Rattle.sc_ring_law.specs.Stories.{Stories}
-use Rattle.sc_draws_law.specs.Owners.{waited, wished_at}
-use Rattle.sc_journal_law.specs.Descent.{Rows}
+use Rattle.sc_names_law.specs.Owners.{waited, wished_at}
+use Rattle.sc_log_law.specs.Descent.{Rows}
 
 -- what a node of the scenario queues for an order that it takes, in a row of the journal, is allowed at the order's group, whatever was told
 abbrev pub ToldAreAllowed : Sources → Ahead → Scenario → Rows → Type 0

@@ -11,8 +11,8 @@ use Rattle.sc_ring_law.specs.Allowed.{Sources, IsVoteCast, IsWatchVoteCast, IsAl
 use Rattle.sc_ring_law.specs.Stories.{Stories}
 use Rattle.sc_ring_law.specs.Laws.{stories_of}
 use Rattle.sc_sound.specs.GroupsOf.{entries_at}
-use Rattle.sc_journal_law.specs.Beside.{IsIssuedIn}
-use Rattle.sc_journal_law.specs.Descent.{Rows}
+use Rattle.sc_log_law.specs.Beside.{IsIssuedIn}
+use Rattle.sc_log_law.specs.Descent.{Rows}
 
 -- what all logs of a journal told so far
 abbrev pub stories_at : Ahead → List Base → Rows → Stories

@@ -18,7 +18,7 @@ use Rattle.sc_machine_table.specs.Group.{group_of}
 use Rattle.sc_machine_table.specs.Splits.{child_of}
 use Rattle.sc_actor.specs.declared.rows.Row.{Row}
 use Rattle.sc_actor.specs.declared.rows.Event.TheVariants.{Deliver, Go, Told}
-use Rattle.sc_entries.specs.declared.Cut.{Cut}
+use Rattle.sc_log_entries.specs.declared.Cut.{Cut}
 use Rattle.sc_scenario.specs.Groups.{lone_group, lone_name}
 use Rattle.sc_scenario.specs.declared.scenarios.SchedLine.TheVariants as line
 use Rattle.sc_scenario.specs.declared.scenarios.Scenario.{Scenario}

@@ -5,8 +5,8 @@ use Rattle.sc_sound.specs.Players.{Ahead, Lawful}
 use Rattle.sc_scenario.specs.Valid.{IsValid}
 use Rattle.sc_scenario.specs.declared.scenarios.Scenario.{Scenario}
 use Rattle.sc_sound.specs.Soundness.{IsSoundThroughout}
-use Rattle.sc_journal_law.specs.Descent.{Rows}
-use Rattle.sc_journal_law.specs.Findings.{AreItsLogs}
+use Rattle.sc_log_law.specs.Descent.{Rows}
+use Rattle.sc_log_law.specs.Findings.{AreItsLogs}
 
 -- each first part of a lawful journal of a valid scenario is sound, whatever its orders are and whatever words storms draw: a child that is born has as many open slots as a node's groups at birth
 abbrev pub ValidJournalsAreSound : Type 0

@@ -3,6 +3,8 @@
 //! turn. So lawful journals of valid scenarios are sound. Definitions and laws, no logic.
 #![tactic(auto)]
 
+mod starting;
+
 ghost use Rattle.std.specs.Prelude.{◌≡◌, [], ◌∷◌, Some};
 ghost use Rattle.sc_actor.specs.System.{no_words};
 ghost use Rattle.sc_sound.specs.Players.{Lawful};
@@ -32,11 +34,11 @@ ghost use Rattle.sc_whole_law.specs.Texts.{election_text, join_text, split_text,
 ghost use Rattle.sc_whole_law.specs.TwoGroups.{lower_group, put_it_call, two_example, two_scenario, upper_group};
 ghost use Rattle.sc_whole_law.specs.Valid.{ValidEntriesAreLogs, ValidJournalsAreSound};
 
-use sc_draws_law::{names_have_one_owner, orders_are_allowed};
 use sc_group_law::{a_journal_with_a_join, a_journal_with_an_election};
-use sc_journal_law::{entries_are_allowed_logs, journals_in_turn_are_sound};
+use sc_log_law::{entries_are_allowed_logs, journals_in_turn_are_sound};
+use sc_names_law::{names_have_one_owner, orders_are_allowed};
 use sc_scenario::valid_scenarios_are_bounded;
-use sc_start_law::valid_scenarios_begin_well;
+pub use starting::valid_scenarios_begin_well;
 
 /// The members of a group are one to nine nodes, ascending, after every log, whatever stands in it.
 pub fn members_stay_rosters()

@@ -8,5 +8,5 @@ mod playing;
 mod turns;
 
 pub use answers::{Rounds, Way};
-pub use meetings::gather;
+pub use meetings::{gather, meet_one, vouch};
 pub use playing::{rounds, rounds_by};

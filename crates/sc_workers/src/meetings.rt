@@ -12,7 +12,8 @@ use sc_shell::Shell;
 use std::alloc::Global;
 use std::sync::Wait;
 
-fn meet_one<A: Actor, R: Wait>(
+/// A shell meets the port.
+pub fn meet_one<A: Actor, R: Wait>(
     rt: &R,
     net: &mut Port<A::Mail, A::Order>,
     shell: &mut Shell<A>,
@@ -73,7 +74,7 @@ pub(crate) fn vouch_all<A: Actor>(net: &mut Port<A::Mail, A::Order>, shells: &mu
 }
 
 /// Each shell of a vector vouches for what the port has seen.
-pub(crate) fn vouch<A: Actor>(net: &mut Port<A::Mail, A::Order>, shells: &mut Vec<Shell<A>>)
+pub fn vouch<A: Actor>(net: &mut Port<A::Mail, A::Order>, shells: &mut Vec<Shell<A>>)
     requires exchange { AllOf net.old shells.old.items }
     requires met { AllMet net.old shells.old.items }
     ensures still { AreStill net.old net.new shells.old.items shells.new.items }

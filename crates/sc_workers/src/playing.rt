@@ -39,7 +39,7 @@ fn play_round<A: Actor, G: Gate, R: Threads + Wait + Sync>(
     match way {
         Way::Runs => {
             let size = shells.len().div_ceil(workers as usize);
-            at_once(rt, alloc, gate, waits, size, shells);
+            at_once(rt, alloc, gate, waits, size, workers, shells);
             Some(did_in(shells.as_slice()))
         }
         Way::Queue => phase(rt, alloc, gate, waits, shells, workers, left).ok(),
@@ -102,51 +102,58 @@ fn ended<A: Actor, R: Wait>(
     Rounds::Full { bytes }
 }
 
+/// What does not change from round to round: the way, the actors' numbers in the order of their
+/// shells, and how many workers and deliveries there are at most.
+struct Play<'a> {
+    way: Way,
+    whos: &'a [u32],
+    workers: u32,
+    limit: u32,
+}
+
 // One round or phase, with what comes after it. Some where the call ends. A round that is not
 // refused delivers at least one.
 fn step<A: Actor, G: Gate, R: Threads + Wait + Sync>(
     rt: &R,
     alloc: Global,
-    way: Way,
+    play: &Play<'_>,
     net: &mut Port<A::Mail, A::Order>,
     shells: &mut Vec<Shell<A>>,
-    whos: &[u32],
-    workers: u32,
-    limit: u32,
     used: &mut u32,
     waits: &mut Vec<bool>,
     gate: &G,
 ) -> Option<Rounds>
-    requires workers { (0 < workers) × (workers ≤ 16) }
+    requires workers { (0 < play.now.workers) × (play.now.workers ≤ 16) }
     requires crew { IsCrew net.old shells.old.items }
-    requires whos { whos.now ≡ crew_numbers shells.old.items }
-    requires begin { CanBegin net.old shells.old.items whos.now }
-    requires used { used.old < limit }
-    ensures later { IfKept way result
+    requires whos { play.now.whos.now ≡ crew_numbers shells.old.items }
+    requires begin { CanBegin net.old shells.old.items play.now.whos.now }
+    requires used { used.old < play.now.limit }
+    ensures later { IfKept play.now.way result
         (AreLater net.old net.new shells.old.items shells.new.items) }
-    ensures used { used.new ≤ limit }
+    ensures used { used.new ≤ play.now.limit }
     ensures count { IfHeld result
         (rows_made shells.new.items + used.old ≡ rows_made shells.old.items + used.new) }
     ensures serves { IfCalm result (used.old < used.new) }
     ensures served { IfHeld result (AllServe net.new shells.old.items) }
     ensures sound { IfCalm result (AllSound shells.new.items) }
-    ensures begin { result ≡ None → CanBegin net.new shells.new.items whos.now
-        × (used.new < limit) }
+    ensures begin { result ≡ None → CanBegin net.new shells.new.items play.now.whos.now
+        × (used.new < play.now.limit) }
     ensures end { IfSome result
         (λ answer.
-        StepEnd answer net.new shells.old.items shells.new.items whos.now limit used.new) }
+        StepEnd answer net.new shells.old.items shells.new.items play.now.whos.now play.now.limit
+        used.new) }
 {
     let Ok(()) = meet(rt, net, shells) else {
         return Some(Rounds::OutOfMemory);
     };
     let flags = waits.as_slice();
-    let left = limit - *used;
-    let Some(did) = play_round(rt, alloc, way, gate, flags, shells, workers, left) else {
+    let left = play.limit - *used;
+    let Some(did) = play_round(rt, alloc, play.way, gate, flags, shells, play.workers, left) else {
         return Some(Rounds::OutOfMemory);
     };
     *used += did;
     match refused_in(shells.as_slice()) {
-        None => prepare(rt, net, shells, whos, limit, *used, waits),
+        None => prepare(rt, net, shells, play.whos, play.limit, *used, waits),
         Some(refused) => Some(ended(rt, net, shells, refused)),
     }
 }
@@ -185,9 +192,13 @@ pub fn rounds_by<A: Actor, G: Gate, R: Threads + Wait + Sync>(
     let mut used = 0u32;
     loop {
         let whos = whos.as_slice();
-        if let Some(answer) = step(
-            rt, alloc, way, net, shells, whos, workers, limit, &mut used, &mut waits, gate,
-        ) {
+        let play = Play {
+            way,
+            whos,
+            workers,
+            limit,
+        };
+        if let Some(answer) = step(rt, alloc, &play, net, shells, &mut used, &mut waits, gate) {
             return answer;
         }
     }

@@ -1,5 +1,5 @@
 //! Turns of many shells.
-ghost use Rattle.std.specs.Prelude.{◌≡◌, ◌<◌, ◌≤◌, ◌+◌, ◌^◌, ◌⊎◌, true, false, length, sum_by, None, IfSome};
+ghost use Rattle.std.specs.Prelude.{◌≡◌, ◌<◌, ◌≤◌, ◌+◌, ◌*◌, ◌%◌, ◌^◌, ◌⊎◌, true, false, length, sum_by, None, IfSome};
 ghost use Rattle.std.specs.List.{list_any};
 ghost use Rattle.sc_exchange.specs.Ports.{made};
 ghost use Rattle.sc_workers.specs.Crews.{Took, TookRow, Passed, Sound, AllTook, AllPassed, AllSound, HasRefusal, rows_made, did, refusal, is_did, refusal_in};
@@ -99,23 +99,32 @@ fn first_last<A: Actor, G: Gate, R: Wait>(
 }
 
 // Parts of so many shells take their turns at the same time, each in a thread of its own but one.
-// In each the first run comes last.
+// In each the first run comes last. Parts begin at multiples of `many`, so there are at most
+// `workers`.
 fn by_threads<A: Actor, G: Gate, R: Threads + Wait + Sync>(
     rt: &R,
     alloc: Global,
     gate: &G,
     size: usize,
     many: usize,
+    workers: u32,
     shells: &mut [Shell<A>],
 )
-    requires { 0 < many }
+    requires many { 0 < many }
+    requires workers { length shells.old ≤ many * workers }
     ensures { AllTook shells.old shells.new }
 {
     thread::for_each_chunk_mut(
         rt,
         shells,
         many,
-        &|_, part| first_last(rt, alloc, gate, size, part),
+        &|start: usize, part: &mut [Shell<A>]|
+            requires { (start % many ≡ 0) × (start < many * workers) }
+            ensures { AllTook part.old part.new }
+        {
+            let _ = (start, workers, many);
+            first_last(rt, alloc, gate, size, part)
+        },
     );
 }
 
@@ -127,15 +136,17 @@ fn in_two<A: Actor, G: Gate, R: Threads + Wait + Sync>(
     gate: &G,
     size: usize,
     many: usize,
+    workers: u32,
     shells: &mut [Shell<A>],
 )
-    requires { 0 < many }
+    requires many { 0 < many }
+    requires workers { length shells.old ≤ many * workers }
     ensures { AllTook shells.old shells.new }
 {
     let both = many.saturating_mul(2).min(shells.len());
     let (parts, others) = shells.split_at_mut(both);
     turns(rt, alloc, gate, others);
-    by_threads(rt, alloc, gate, size, many, parts);
+    by_threads(rt, alloc, gate, size, many, workers, parts);
 }
 
 // Shells of which the first run has mail, and perhaps one more.
@@ -145,9 +156,11 @@ fn with_mail<A: Actor, G: Gate, R: Threads + Wait + Sync>(
     gate: &G,
     size: usize,
     busy: Busy,
+    workers: u32,
     shells: &mut [Shell<A>],
 )
-    requires { 0 < size }
+    requires size { 0 < size }
+    requires workers { length shells.old ≤ size * workers }
     ensures { AllTook shells.old shells.new }
 {
     if busy.runs == 1 {
@@ -160,6 +173,7 @@ fn with_mail<A: Actor, G: Gate, R: Threads + Wait + Sync>(
             gate,
             size,
             apart.saturating_mul(size).max(size),
+            workers,
             shells,
         );
     }
@@ -173,19 +187,21 @@ fn from_busy<A: Actor, G: Gate, R: Threads + Wait + Sync>(
     gate: &G,
     size: usize,
     busy: Busy,
+    workers: u32,
     shells: &mut [Shell<A>],
 )
-    requires { 0 < size }
+    requires size { 0 < size }
+    requires workers { length shells.old ≤ size * workers }
     ensures { AllTook shells.old shells.new }
 {
     let cut = busy.first.saturating_mul(size).min(shells.len());
     let (idle, others) = shells.split_at_mut(cut);
     turns(rt, alloc, gate, idle);
-    with_mail(rt, alloc, gate, size, busy, others);
+    with_mail(rt, alloc, gate, size, busy, workers, others);
 }
 
-/// Each shell takes a turn, runs of `size` neighbours at the same time. `waits` tells for which of
-/// the shells mail waits.
+/// Each shell takes a turn, runs of `size` neighbours at the same time, of which there are at most
+/// as many as `workers`. `waits` tells for which of the shells mail waits.
 ///
 /// No run waits for one with mail. Where mail waits in one run or in two, those without take their
 /// turns first, in the caller's thread; where it waits in more, each run has a thread of its own
@@ -196,9 +212,11 @@ pub(crate) fn at_once<A: Actor, G: Gate, R: Threads + Wait + Sync>(
     gate: &G,
     waits: &[bool],
     size: usize,
+    workers: u32,
     shells: &mut Vec<Shell<A>>,
 )
-    requires { 0 < size }
+    requires size { 0 < size }
+    requires workers { length shells.old.items ≤ size * workers }
     ensures len { length shells.new.items ≡ length shells.old.items }
     ensures took { AllTook shells.old.items shells.new.items }
 {
@@ -206,8 +224,8 @@ pub(crate) fn at_once<A: Actor, G: Gate, R: Threads + Wait + Sync>(
     let all = shells.as_mut_slice();
     match busy.runs {
         0 => turns(rt, alloc, gate, all),
-        1 | 2 => from_busy(rt, alloc, gate, size, busy, all),
-        _ => by_threads(rt, alloc, gate, size, size, all),
+        1 | 2 => from_busy(rt, alloc, gate, size, busy, workers, all),
+        _ => by_threads(rt, alloc, gate, size, size, workers, all),
     }
 }
 

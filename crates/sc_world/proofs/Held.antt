@@ -4,8 +4,8 @@ use Rattle.sc_cmd.specs.declared.orders.OrderLine.{OrderLine}
 use Rattle.sc_mail.specs.declared.bodies.Mail.{Mail}
 use Rattle.sc_actor.specs.declared.rows.Row.{Row}
 use Rattle.sc_chance.specs.Words.{two_words}
-use Rattle.sc_checker.specs.declared.judging.Replayed.{Replayed}
-use Rattle.sc_checker.specs.Replays.{Leaves}
+use Rattle.sc_replay.specs.declared.judging.Replayed.{Replayed}
+use Rattle.sc_replay.specs.Replays.{Leaves}
 use Rattle.sc_scenario.specs.declared.scenarios.Scenario.{Scenario}
 use Rattle.sc_sound.specs.Players.{system_of, schedule, Player, as_nodes}
 use Rattle.sc_sound.specs.Soundness.{IsSoundThroughout}

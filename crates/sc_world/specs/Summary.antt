@@ -19,8 +19,8 @@ use Rattle.sc_scenario.specs.declared.scenarios.SchedLine.{SchedLine}
 use Rattle.sc_scenario.specs.declared.scenarios.SchedLine.TheVariants.{Told}
 use Rattle.sc_sound.specs.Players.{system_of, schedule, parties, as_nodes}
 use Rattle.sc_sound.specs.Summary.{asked_by}
-use Rattle.sc_entries.specs.declared.Cut.{Cut}
-use Rattle.sc_entries.specs.Worlds.{StoreWorld, named_group}
+use Rattle.sc_log_entries.specs.declared.Cut.{Cut}
+use Rattle.sc_log_entries.specs.Worlds.{StoreWorld, named_group}
 use Rattle.sc_sound.specs.GroupsOf.{world_at}
 use Rattle.sc_chance.specs.Words.{two_words}
 

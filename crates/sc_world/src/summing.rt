@@ -15,7 +15,7 @@ use crate::worlds::World;
 use sc_actor::{Journal, Row};
 use sc_base::{OutOfMemory, Sequence};
 use sc_cmd::{Base, OrderLine, Route};
-use sc_entries::Cut;
+use sc_log_entries::Cut;
 use sc_mail::Mail;
 use sc_report::Summary;
 use sc_scenario::Scenario;

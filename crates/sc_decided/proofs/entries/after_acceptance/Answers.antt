@@ -1,8 +1,8 @@
 use Rattle.std.proofs.Common.{◌++◌, List, length, refl, ap, ◌∙◌}
 use Rattle.std.specs.List.{flat_map}
-use Rattle.sc_entries.specs.declared.LogEntry.{LogEntry}
+use Rattle.sc_log_entries.specs.declared.LogEntry.{LogEntry}
 use Rattle.sc_decided.specs.Found.{log_kept, grown_by}
-use Rattle.sc_known.specs.declared.known.Known.{Known}
+use Rattle.sc_chosen.specs.declared.known.Known.{Known}
 use Rattle.sc_decided.proofs.Gained.{one_accepted}
 use Rattle.sc_decided.proofs.entries.after_acceptance.Goals as goal
 

@@ -1,6 +1,6 @@
 use Rattle.std.proofs.Common.{◌≡◌, ◌++◌, Bool, true, false, not, List, refl, sym, ap, subst, append-nil, ◌∙◌}
-use Rattle.sc_entries.specs.declared.LogEntry.{LogEntry}
-use Rattle.sc_known.specs.Known.{Adds}
+use Rattle.sc_log_entries.specs.declared.LogEntry.{LogEntry}
+use Rattle.sc_chosen.specs.Known.{Adds}
 use Rattle.sc_decided.proofs.Gained.{nothing_accepted}
 use Rattle.sc_decided.proofs.entries.after_row.Goals as goal
 

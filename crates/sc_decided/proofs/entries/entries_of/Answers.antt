@@ -1,5 +1,5 @@
 use Rattle.std.proofs.Common.{◌++◌, List, map, take, sym, ap, ◌∙◌, arith}
-use Rattle.sc_entries.specs.declared.LogEntry.{LogEntry}
+use Rattle.sc_log_entries.specs.declared.LogEntry.{LogEntry}
 use Rattle.sc_mail.specs.declared.bodies.Mail.{Mail}
 use Rattle.sc_sound.specs.Players.{as_nodes}
 use Rattle.sc_sound.specs.GroupsOf.{entries_at, entries_by_row}

@@ -1,8 +1,8 @@
 use Rattle.std.proofs.Common.{◌++◌, List, ap, ◌∙◌}
 use Rattle.std.specs.List.{flat_map}
-use Rattle.sc_entries.specs.declared.LogEntry.{LogEntry}
+use Rattle.sc_log_entries.specs.declared.LogEntry.{LogEntry}
 use Rattle.sc_decided.specs.Found.{new_entries}
-use Rattle.sc_known.specs.declared.known.Known.{Known}
+use Rattle.sc_chosen.specs.declared.known.Known.{Known}
 use Rattle.sc_decided.proofs.Gained.{gained_is}
 use Rattle.sc_decided.proofs.entries.look_again.Goals as goal
 

@@ -1,7 +1,7 @@
 use Rattle.std.proofs.Common.{◌≡◌, List, [], ◌∷◌, ◌++◌, refl, sym, subst, ◌∙◌, rules}
 use Rattle.std.proofs.lemmas.Bool.{and_parts}
 use Rattle.sc_decided.specs.Found.{StayKnown}
-use Rattle.sc_known.specs.declared.known.Known.{Known}
+use Rattle.sc_chosen.specs.declared.known.Known.{Known}
 use Rattle.sc_decided.proofs.Gained.{stay_push}
 use Rattle.sc_decided.proofs.entries.take_all.Goals as goal
 

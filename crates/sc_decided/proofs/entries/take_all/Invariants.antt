@@ -3,7 +3,7 @@ use Rattle.sc_base.specs.Among.{Each}
 use Rattle.sc_cmd.specs.declared.orders.OrderLine.{OrderLine}
 use Rattle.sc_mail.specs.declared.bodies.Mail.{Mail}
 use Rattle.sc_actor.specs.declared.rows.Row.{Row}
-use Rattle.sc_known.specs.Known.{Adds, IsKnown}
+use Rattle.sc_chosen.specs.Known.{Adds, IsKnown}
 use Rattle.sc_decided.specs.Found.{StayKnown}
 use Rattle.sc_decided.proofs.entries.take_all.Given as goal
 

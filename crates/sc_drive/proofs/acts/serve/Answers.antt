@@ -4,13 +4,14 @@ use Rattle.sc_workers.proofs.Lists.{get_any}
 use Rattle.sc_drive.specs.Acts.{MetAndTook}
 use Rattle.sc_drive.proofs.ActRows.{served_so}
 use Rattle.sc_drive.proofs.OneActed.{length_set}
+use Rattle.sc_drive.proofs.OneMet.{others_met}
 use Rattle.sc_drive.proofs.Kept.{all_of_acted, kept_acted, sound_served}
 use Rattle.sc_drive.proofs.acts.serve.Goals as goal
 use Rattle.sc_exchange.proofs.Knowing.{looked_trans, stays_trans}
 
 pub returns-clause-served : goal.returns-clause-served
 returns-clause-served g c =
-    let ss = c.args.company.now.shells.items in let k = c.args.place in let t = c.serve_one.new.shell in let mid = c.serve_one.new.net in let next = c.gather.new.net in let after = c.gather.new.shells.items in
+    let ss = c.args.company.now.shells.items in let k = c.args.place in let t = c.serve_one.new.shell in let mid = c.serve_one.new.net in let next = c.gather_after.new.net in let after = c.gather_after.new.shells.items in
     let is : c.index_mut.result.now ≡ get_or ss k t = c.index_mut.ensures.value ∙ get_any ss k c.index_mut.result.now t c.requires.inside in
     let m : MetAndTook c.args.k c.in_ok-turn.turn (get_or ss k t) t c.args.company.now.net mid = subst (λ s. MetAndTook c.args.k c.in_ok-turn.turn s t c.args.company.now.net mid) is c.in_ok-turn.ensures in
     let still : AreStill mid next (set ss k t) after = search rules in
@@ -24,9 +25,16 @@ returns-clause-served g c =
       score = refl;
     }
 
-pub gather-requires-clause-exchange : goal.gather-requires-clause-exchange
-gather-requires-clause-exchange g c κs within =
+pub gather_after-requires-clause-exchange : goal.gather_after-requires-clause-exchange
+gather_after-requires-clause-exchange g c κs within =
     let ss = c.args.company.now.shells.items in let k = c.args.place in let t = c.serve_one.new.shell in let mid = c.serve_one.new.net in
     let is : c.index_mut.result.now ≡ get_or ss k t = c.index_mut.ensures.value ∙ get_any ss k c.index_mut.result.now t c.requires.inside in
     let m : MetAndTook c.args.k c.in_ok-turn.turn (get_or ss k t) t c.args.company.now.net mid = subst (λ s. MetAndTook c.args.k c.in_ok-turn.turn s t c.args.company.now.net mid) is c.in_ok-turn.ensures in
     all_of_acted c.args.company.now.net mid ss k t c.requires.inside c.requires.together.crew.exchange (stays_trans (get_or ss k t).port m.met.port t.port m.still.goes.stays m.stays) m.looked
+
+pub gather_after-requires-clause-others : goal.gather_after-requires-clause-others
+gather_after-requires-clause-others g c κs within =
+    let ss = c.args.company.now.shells.items in let k = c.args.place in let t = c.serve_one.new.shell in let mid = c.serve_one.new.net in
+    let is : c.index_mut.result.now ≡ get_or ss k t = c.index_mut.ensures.value ∙ get_any ss k c.index_mut.result.now t c.requires.inside in
+    let m : MetAndTook c.args.k c.in_ok-turn.turn (get_or ss k t) t c.args.company.now.net mid = subst (λ s. MetAndTook c.args.k c.in_ok-turn.turn s t c.args.company.now.net mid) is c.in_ok-turn.ensures in
+    others_met c.args.company.now.net mid ss k t c.requires.together.over m.looked

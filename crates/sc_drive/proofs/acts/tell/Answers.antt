@@ -5,17 +5,18 @@ use Rattle.sc_workers.proofs.Lists.{get_any}
 use Rattle.sc_drive.specs.Acts.{MetAndTold}
 use Rattle.sc_drive.proofs.ActRows.{told_so}
 use Rattle.sc_drive.proofs.OneActed.{length_set}
+use Rattle.sc_drive.proofs.OneMet.{others_met}
 use Rattle.sc_drive.proofs.Kept.{all_of_acted, kept_acted, sound_told, told_is}
 use Rattle.sc_drive.proofs.acts.tell.Goals as goal
 use Rattle.sc_exchange.proofs.Knowing.{looked_trans, stays_trans}
 
 pub returns : goal.returns
 returns g c =
-    let ss = c.args.company.now.shells.items in let k = c.args.place in let t = c.tell_one.new.shell in let mid = c.tell_one.new.net in let next = c.gather.new.net in let after = c.gather.new.shells.items in
+    let ss = c.args.company.now.shells.items in let k = c.args.place in let t = c.tell_one.new.shell in let mid = c.tell_one.new.net in let next = c.gather_after.new.net in let after = c.gather_after.new.shells.items in
     let is : c.index_mut.result.now ≡ get_or ss k t = c.index_mut.ensures.value ∙ get_any ss k c.index_mut.result.now t c.requires.inside in
     let m : MetAndTold c.args.event c.in_ok-turn.turn (get_or ss k t) t c.args.company.now.net mid = subst (λ s. MetAndTold c.args.event c.in_ok-turn.turn s t c.args.company.now.net mid) is c.in_ok-turn.ensures in
     let still : AreStill mid next (set ss k t) after = search rules in
-    let gathered = c.in_ok-gather.ensures.gathered in
+    let gathered = c.in_ok-gather_after.ensures.gathered in
     record {
       kept = kept_acted c.args.company.now.net mid next ss after k t c.requires.inside c.requires.together.crew.exchange (stays_trans (get_or ss k t).port m.met.port t.port m.still.goes.stays m.stays) m.looked still gathered;
       sound = sound_told ss after k m.met t c.requires.inside m.still c.requires.together.crew.sound still.len still.still c.args.event c.in_ok-turn.turn m.does_;
@@ -26,9 +27,16 @@ returns g c =
       score = refl;
     }
 
-pub gather-requires-clause-exchange : goal.gather-requires-clause-exchange
-gather-requires-clause-exchange g c κs within =
+pub gather_after-requires-clause-exchange : goal.gather_after-requires-clause-exchange
+gather_after-requires-clause-exchange g c κs within =
     let ss = c.args.company.now.shells.items in let k = c.args.place in let t = c.tell_one.new.shell in let mid = c.tell_one.new.net in
     let is : c.index_mut.result.now ≡ get_or ss k t = c.index_mut.ensures.value ∙ get_any ss k c.index_mut.result.now t c.requires.inside in
     let m : MetAndTold c.args.event c.in_ok-turn.turn (get_or ss k t) t c.args.company.now.net mid = subst (λ s. MetAndTold c.args.event c.in_ok-turn.turn s t c.args.company.now.net mid) is c.in_ok-turn.ensures in
     all_of_acted c.args.company.now.net mid ss k t c.requires.inside c.requires.together.crew.exchange (stays_trans (get_or ss k t).port m.met.port t.port m.still.goes.stays m.stays) m.looked
+
+pub gather_after-requires-clause-others : goal.gather_after-requires-clause-others
+gather_after-requires-clause-others g c κs within =
+    let ss = c.args.company.now.shells.items in let k = c.args.place in let t = c.tell_one.new.shell in let mid = c.tell_one.new.net in
+    let is : c.index_mut.result.now ≡ get_or ss k t = c.index_mut.ensures.value ∙ get_any ss k c.index_mut.result.now t c.requires.inside in
+    let m : MetAndTold c.args.event c.in_ok-turn.turn (get_or ss k t) t c.args.company.now.net mid = subst (λ s. MetAndTold c.args.event c.in_ok-turn.turn s t c.args.company.now.net mid) is c.in_ok-turn.ensures in
+    others_met c.args.company.now.net mid ss k t c.requires.together.over m.looked

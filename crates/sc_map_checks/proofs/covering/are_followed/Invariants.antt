@@ -2,7 +2,7 @@ use Rattle.std.proofs.Common.{◌≡◌, ℕ, ◌<◌, ◌^◌, true, take}
 use Rattle.std.specs.Prelude.{slice_index_or}
 use Rattle.std.specs.List.{list_all}
 use Rattle.sc_base.specs.Arc.{IsArc}
-use Rattle.sc_entries.specs.declared.Cut.{Cut}
+use Rattle.sc_log_entries.specs.declared.Cut.{Cut}
 use Rattle.sc_map_checks.specs.Covering.{is_followed}
 use Rattle.sc_map_checks.proofs.covering.are_followed.Given as goal
 

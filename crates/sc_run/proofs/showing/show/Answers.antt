@@ -7,7 +7,7 @@ use Rattle.sc_scan.specs.Scan.{entries_in, scan_of}
 use Rattle.sc_scan.specs.Text.{scan_lines}
 use Rattle.sc_sound.specs.GroupsOf.{entries_at, world_at}
 use Rattle.sc_sound.specs.Players.{as_nodes}
-use Rattle.sc_statuses.specs.Causes.{said_by}
+use Rattle.sc_command_line.specs.Causes.{said_by}
 use Rattle.sc_run.specs.declared.done.Text.{Text}
 use Rattle.sc_run.specs.Played.{IsPlayed, HasPlayedToEnd}
 use Rattle.sc_run.specs.Run.{Comes, journal_limit}

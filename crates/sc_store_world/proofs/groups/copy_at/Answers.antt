@@ -1,6 +1,6 @@
 use Rattle.std.proofs.Common.{refl, sym, ap, ◌∙◌}
 use Rattle.std.proofs.lemmas.Option.{get_or_from_slice_get}
-use Rattle.sc_entries.specs.Worlds.{is_named}
+use Rattle.sc_log_entries.specs.Worlds.{is_named}
 use Rattle.sc_store_world.proofs.Executing.{copied-self, copied-other, copied-named}
 use Rattle.sc_store_world.proofs.groups.copy_at.Goals as goal
 

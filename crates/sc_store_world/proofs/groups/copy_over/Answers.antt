@@ -1,6 +1,6 @@
 use Rattle.std.proofs.Common.{◌<◌, length, if◌then◌else◌, ◌∙◌, arith}
-use Rattle.sc_entries.specs.Worlds.{is_named}
-use Rattle.sc_decisions.proofs.Changes.{changed-end}
+use Rattle.sc_log_entries.specs.Worlds.{is_named}
+use Rattle.sc_store_world.proofs.Changes.{changed-end}
 use Rattle.sc_store_world.proofs.Executing.{copied-next}
 use Rattle.sc_store_world.proofs.groups.copy_over.Goals as goal
 

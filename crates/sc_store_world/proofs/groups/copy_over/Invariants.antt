@@ -1,8 +1,8 @@
 use Rattle.std.proofs.Common.{◌≡◌, length, if◌then◌else◌, Some}
 use Rattle.std.specs.Prelude.{slice_get}
 use Rattle.sc_machine_table.specs.Group.{Group}
-use Rattle.sc_entries.specs.Worlds.{is_named}
-use Rattle.sc_decisions.proofs.Changes.{changed}
+use Rattle.sc_log_entries.specs.Worlds.{is_named}
+use Rattle.sc_store_world.proofs.Changes.{changed}
 use Rattle.sc_store_world.proofs.groups.copy_over.Given as goal
 
 -- those so far are replaced that have the name

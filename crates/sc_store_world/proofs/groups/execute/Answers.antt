@@ -1,7 +1,7 @@
 use Rattle.std.proofs.Common.{List, ap, ◌∙◌, arith}
 use Rattle.std.specs.Prelude.{slice_get}
 use Rattle.sc_machine_table.specs.Group.{Group}
-use Rattle.sc_entries.specs.Worlds.{with_group}
+use Rattle.sc_log_entries.specs.Worlds.{with_group}
 use Rattle.sc_store_world.proofs.Executing.{executed}
 use Rattle.sc_store_world.proofs.groups.execute.Goals as goal
 

@@ -1,6 +1,6 @@
 use Rattle.std.proofs.Common.{◌+◌, sym, ap, ◌∙◌, arith}
 use Rattle.std.specs.Prelude.{slice_get}
-use Rattle.sc_entries.specs.Worlds.{is_named}
+use Rattle.sc_log_entries.specs.Worlds.{is_named}
 use Rattle.sc_store_world.proofs.Naming.{finds-here, finds-none-next, finds-none-all}
 use Rattle.sc_store_world.proofs.groups.place_of.Goals as goal
 

@@ -1,5 +1,5 @@
 use Rattle.std.proofs.Common.{◌≡◌, take, None}
-use Rattle.sc_entries.specs.Worlds.{named_group}
+use Rattle.sc_log_entries.specs.Worlds.{named_group}
 use Rattle.sc_store_world.proofs.groups.place_of.Given as goal
 
 -- none so far has the name

@@ -1,5 +1,5 @@
 use Rattle.std.proofs.Common.{◌≡◌, take}
-use Rattle.sc_entries.specs.Worlds.{world_of}
+use Rattle.sc_log_entries.specs.Worlds.{world_of}
 use Rattle.sc_store_world.proofs.worlds.world_of.Given as goal
 
 -- what the entries so far make

@@ -18,13 +18,13 @@ ended-requires-clause-exchange g c κs within = all_of_on c.args.net.now c.meet.
 
 pub returns-in-None-clause-later : goal.returns-in-None-clause-later
 returns-in-None-clause-later g c =
-    kept_of _ c.args.way c.prepare.result
+    kept_of _ c.args.play.now.way c.prepare.result
     (later_then c.args.net.now c.meet.new.net c.prepare.new.net c.args.shells.now.items c.play_round.new.shells.items c.prepare.new.shells.items (later_worked c.args.net.now c.meet.new.net c.args.shells.now.items c.meet.new.shells.items c.play_round.new.shells.items c.meet.ensures.still c.in-Some.ensures.played.len c.in-Some.ensures.played.worked)
     (still_later c.meet.new.net c.prepare.new.net c.play_round.new.shells.items c.prepare.new.shells.items c.prepare.ensures.still))
 
 pub returns-in-Some-refused_in-clause-later : goal.returns-in-Some-refused_in-clause-later
 returns-in-Some-refused_in-clause-later g c =
-    kept_of _ c.args.way (Some c.ended.result)
+    kept_of _ c.args.play.now.way (Some c.ended.result)
     (later_then c.args.net.now c.meet.new.net c.ended.new.net c.args.shells.now.items c.play_round.new.shells.items c.ended.new.shells.items (later_worked c.args.net.now c.meet.new.net c.args.shells.now.items c.meet.new.shells.items c.play_round.new.shells.items c.meet.ensures.still c.in-Some.ensures.played.len c.in-Some.ensures.played.worked)
     (still_later c.meet.new.net c.ended.new.net c.play_round.new.shells.items c.ended.new.shells.items c.ended.ensures.still))
 
@@ -53,7 +53,7 @@ returns-in-None-clause-serves g c =
     let ahead : AllAhead c.args.net.now met = c.in-Ok.ensures.met.ahead in
     calm_maps c.prepare.result
     (λ (gathered : IsGathered c.prepare.new.net last).
-    let some = delivers_one c.args.net.now c.prepare.new.net start met after last c.in-Some.did (c.args.limit - c.args.used.now) c.meet.ensures.still.len c.in-Some.ensures.played.len c.prepare.ensures.still.len
+    let some = delivers_one c.args.net.now c.prepare.new.net start met after last c.in-Some.did (c.args.play.now.limit - c.args.used.now) c.meet.ensures.still.len c.in-Some.ensures.played.len c.prepare.ensures.still.len
     (looked_trans c.args.net.now c.meet.new.net c.prepare.new.net c.meet.ensures.still.looked c.prepare.ensures.still.looked) c.requires.crew.first (subst (CanBegin c.args.net.now start) c.requires.whos c.requires.begin) c.meet.ensures.still.still ahead
     (still_sound start met c.meet.ensures.still.len c.meet.ensures.still.still c.requires.crew.sound) c.in-Some.ensures.played.whole (omega (arith, c.requires.used)) c.prepare.ensures.still.still gathered.over c.requires.crew.exchange calm c.in-Some.ensures.played.did in
     omega (arith, some))
@@ -62,7 +62,7 @@ returns-in-None-clause-serves g c =
 pub returns-in-None-clause-end : goal.returns-in-None-clause-end
 returns-in-None-clause-end g c =
     let start = c.args.shells.now.items in let met = c.meet.new.shells.items in let after = c.play_round.new.shells.items in let last = c.prepare.new.shells.items in
-    step_from c.prepare.result c.prepare.new.net start after last _ c.args.limit _
+    step_from c.prepare.result c.prepare.new.net start after last _ c.args.play.now.limit _
     (λ bytes f. full_from start after last c.prepare.new.net bytes (c.in-Some.ensures.played.len ∙ c.meet.ensures.still.len) c.prepare.ensures.still.len
     (all_go_trans start met after c.meet.ensures.still.len (still_all_go start met c.meet.ensures.still.still) (worked_all_go met after c.in-Some.ensures.played.worked)) f)
     c.prepare.ensures.end
@@ -73,7 +73,7 @@ returns-in-Some-refused_in-clause-end g c =
     let ahead : AllAhead c.args.net.now met = c.in-Ok.ensures.met.ahead in
     let refusal : HasRefusal after c.in-Some-refused_in.refused = subst (λ l. HasRefusal l c.in-Some-refused_in.refused) c.as_slice.ensures.value c.in-Some-refused_in.ensures.some in
     let short = c.in-Some.ensures.played.short c.in-Some-refused_in.refused refusal in
-    step_end c.ended.result c.in-Some-refused_in.refused c.ended.new.net start last _ c.args.limit _ c.ended.ensures.end
+    step_end c.ended.result c.in-Some-refused_in.refused c.ended.new.net start last _ c.args.play.now.limit _ c.ended.ensures.end
     (λ bytes e gathered. (
       full_so start met after last c.ended.new.net bytes c.meet.ensures.still.len c.in-Some.ensures.played.len c.ended.ensures.still.len
           (still_all_go start met c.meet.ensures.still.still)

@@ -5,7 +5,7 @@ use Rattle.sc_actor.specs.declared.actors.Seat.{Seat}
 use Rattle.sc_actor.specs.declared.schedules.Line.{Line}
 use Rattle.sc_actor.specs.System.{are_apart, system}
 use Rattle.sc_chance.specs.Words.{two_words}
-use Rattle.sc_checker.specs.Replays.{IsReplayed}
+use Rattle.sc_replay.specs.Replays.{IsReplayed}
 use Rattle.sc_sound.specs.Players.{Player, player_table, receiver_of, schedule}
 use Rattle.sc_world.proofs.replaying.left_by.Goals as goal
 

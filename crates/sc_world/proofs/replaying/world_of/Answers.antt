@@ -1,5 +1,5 @@
 use Rattle.std.proofs.Common.{refl, subst}
-use Rattle.sc_checker.specs.Replays.{IsReplayed, Leaves}
+use Rattle.sc_replay.specs.Replays.{IsReplayed, Leaves}
 use Rattle.sc_chance.specs.Words.{two_words}
 use Rattle.sc_sound.specs.Players.{as_nodes, system_of, schedule}
 use Rattle.sc_world.proofs.Held.{holds}

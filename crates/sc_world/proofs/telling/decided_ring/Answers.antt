@@ -1,5 +1,5 @@
 use Rattle.std.proofs.Common.{sym, subst}
-use Rattle.sc_entries.specs.Rings.{Covers}
+use Rattle.sc_log_entries.specs.Rings.{Covers}
 use Rattle.sc_world.proofs.Kept.{one_map}
 use Rattle.sc_world.proofs.telling.decided_ring.Goals as goal
 

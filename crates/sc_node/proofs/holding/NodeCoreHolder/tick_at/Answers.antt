@@ -1,6 +1,6 @@
 use Rattle.std.proofs.Common.{◌<◌, length, sym, subst, ◌∙◌, ap, arith}
 use Rattle.sc_node_table.specs.Node.{NodeState}
-use Rattle.sc_node_choices.specs.Ticking.{ticked_at}
+use Rattle.sc_node.specs.Ticking.{ticked_at}
 use Rattle.sc_node.proofs.Standing.{ticked-there}
 use Rattle.sc_node.proofs.holding.NodeCoreHolder.tick_at.Goals as goal
 

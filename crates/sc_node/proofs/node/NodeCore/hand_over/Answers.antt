@@ -1,8 +1,7 @@
-use Rattle.std.proofs.Common.{[], get_or, sym, subst, ◌∙◌, ap, arith}
+use Rattle.std.proofs.Common.{[], ◌++◌, get_or, sym, subst, ◌∙◌, ap, arith}
 use Rattle.sc_node_table.specs.Node.{NodeState, replica_of, taken_by}
 use Rattle.sc_node_table.specs.Rows.{mailed}
-use Rattle.sc_node_table.specs.Births.{mailed_children}
-use Rattle.sc_node_choices.specs.Places.{StandsAt}
+use Rattle.sc_node.specs.Places.{StandsAt}
 use Rattle.sc_node.proofs.Standing.{taken-at}
 use Rattle.sc_node.proofs.node.NodeCore.hand_over.Goals as goal
 
@@ -18,9 +17,9 @@ returns c =
     ap (λ (n : NodeState). taken_by (replica_of c.args.group n.replicas) c.args.group c.args.from c.args.body.now n) (sym c.self.view_is)
     ∙ taken-at c.args.group c.args.from c.args.body.now node c.args.i c.index_mut.result.now c.take_mail.new.replica c.take_mail.new.out c.take_mail.new.made stands
     (c.in_ok-take_mail.ensures.place
-    ∙ ap (λ r. mailed c.args.from c.args.body.now (r, c.args.sent.now)) c.index_mut.ensures.value
-    ∙ ap (λ mails. mailed c.args.from c.args.body.now (get_or c.self.inside.replicas.items c.args.i c.index_mut.result.now, mails)) c.requires.unsent)
+    ∙ ap (λ r. (mailed c.args.from c.args.body.now (r, c.args.sent.now)).0) c.index_mut.ensures.value
+    ∙ ap (λ mails. (mailed c.args.from c.args.body.now (get_or c.self.inside.replicas.items c.args.i c.index_mut.result.now, mails)).0) c.requires.unsent)
     (c.in_ok-take_mail.ensures.made
-    ∙ ap (λ r. mailed_children c.args.from c.args.body.now (r, c.args.sent.now) c.args.made.now) c.index_mut.ensures.value
-    ∙ ap (λ mails. mailed_children c.args.from c.args.body.now (get_or c.self.inside.replicas.items c.args.i c.index_mut.result.now, mails) c.args.made.now) c.requires.unsent
-    ∙ ap (λ made. mailed_children c.args.from c.args.body.now (get_or c.self.inside.replicas.items c.args.i c.index_mut.result.now, []) made) c.requires.none)
+    ∙ ap (λ r. c.args.made.now ++ (mailed c.args.from c.args.body.now (r, c.args.sent.now)).1) c.index_mut.ensures.value
+    ∙ ap (λ mails. c.args.made.now ++ (mailed c.args.from c.args.body.now (get_or c.self.inside.replicas.items c.args.i c.index_mut.result.now, mails)).1) c.requires.unsent
+    ∙ ap (λ made. made ++ (mailed c.args.from c.args.body.now (get_or c.self.inside.replicas.items c.args.i c.index_mut.result.now, [])).1) c.requires.none)

@@ -1,7 +1,7 @@
 use Rattle.std.proofs.Common.{get_or, sym, subst, ◌∙◌, ap, arith}
 use Rattle.sc_node_table.specs.Node.{NodeState, group_of_order, on_order}
 use Rattle.sc_node_table.specs.Ordering.{ordered_row, names_after}
-use Rattle.sc_node_choices.specs.Places.{StandsAt}
+use Rattle.sc_node.specs.Places.{StandsAt}
 use Rattle.sc_node.proofs.Standing.{ordered-at}
 use Rattle.sc_node.proofs.node.NodeCore.take_order_at.Goals as goal
 

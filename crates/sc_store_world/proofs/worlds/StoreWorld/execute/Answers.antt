@@ -1,6 +1,6 @@
 use Rattle.std.proofs.Common.{◌≡◌, Some, sym, ap, subst, ◌∙◌}
 use Rattle.sc_machine_table.specs.Machine.{applied}
-use Rattle.sc_entries.specs.Worlds.{StoreWorld, named_group, with_result}
+use Rattle.sc_log_entries.specs.Worlds.{StoreWorld, named_group, with_result}
 use Rattle.sc_store_world.specs.Places.{IsFirstNamed}
 use Rattle.sc_store_world.proofs.Executing.{parts-are}
 use Rattle.sc_store_world.proofs.worlds.StoreWorld.execute.Goals as goal

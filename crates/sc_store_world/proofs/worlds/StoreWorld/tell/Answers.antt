@@ -1,6 +1,6 @@
 use Rattle.std.proofs.Common.{◌≡◌, List, None, sym, ap, subst, ◌∙◌}
 use Rattle.sc_machine_table.specs.Group.{Group}
-use Rattle.sc_entries.specs.Worlds.{StoreWorld, named_group, after_command}
+use Rattle.sc_log_entries.specs.Worlds.{StoreWorld, named_group, after_command}
 use Rattle.sc_store_world.specs.Places.{IsFirstNamed}
 use Rattle.sc_store_world.proofs.Executing.{item-at}
 use Rattle.sc_store_world.proofs.worlds.StoreWorld.tell.Goals as goal

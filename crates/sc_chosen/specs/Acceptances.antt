@@ -1,0 +1,37 @@
+-- The acceptances that code reads off a journal, as steps.
+use Rattle.std.specs.Prelude.{Bool, true, false, not, List, [], ◌∷◌, map, reverse, if◌then◌else◌, Option, Some, None}
+use Rattle.sc_base.specs.Same.{same_draw}
+use Rattle.sc_base.specs.declared.names.Draw.{Draw}
+use Rattle.sc_cmd.specs.declared.commands.Command.{Command}
+use Rattle.sc_paxos_words.specs.declared.reports.Report.{Report}
+use Rattle.sc_paxos_words.specs.Ballots.{below}
+use Rattle.sc_paxos_law.specs.Decided.{lesser_of}
+use Rattle.sc_paxos_law.specs.Steps.{Step, Accepted}
+use Rattle.sc_chosen.specs.declared.accepting.Acceptance.{Acceptance}
+
+-- an acceptance, as a step
+abbrev pub step_of : Acceptance → Step Command
+step_of acceptance = Accepted acceptance.node acceptance.ballot acceptance.slot acceptance.command
+
+-- acceptances in the order of their rows, as steps, newest first
+abbrev pub steps_of : List Acceptance → List (Step Command)
+steps_of acceptances = reverse (map step_of acceptances)
+
+-- what was accepted of a group, by what a row accepted and for which group, if it did
+abbrev pub steps_by : Draw → Option (Draw × Acceptance) → List (Step Command)
+steps_by group None = []
+steps_by group (Some accepted) = if same_draw accepted.0 group then step_of accepted.1 ∷ [] else []
+
+-- an acceptance as the report of it
+abbrev pub report_of : Acceptance → Report Command
+report_of acceptance = record { slot = acceptance.slot; ballot = acceptance.ballot; value = acceptance.command }
+
+-- whether an acceptance has a ballot not above that of the one found, if there is one
+abbrev pub is_lesser : Acceptance → Option Acceptance → Bool
+is_lesser here None = true
+is_lesser here (Some least) = not (below least.ballot here.ballot)
+
+-- the lesser of a report and the one found, where it is chosen
+abbrev pub with_chosen : Bool → Report Command → Option (Report Command) → Option (Report Command)
+with_chosen true here least = Some (lesser_of here least)
+with_chosen false here least = least

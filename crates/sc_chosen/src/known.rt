@@ -1,0 +1,248 @@
+//! What is kept of a group: its decided log, and what it is told from.
+ghost use Rattle.std.specs.Prelude.{◌≡◌, ◌&&◌, ◌+◌, ◌-◌, ◌<◌, ◌++◌, ◌∷◌, [], ℕ, List, true, length, take, slice_get, Option, Some, None, IfOk, OnOk};
+ghost use Rattle.sc_cmd.specs.declared.commands.Command.{Command};
+ghost use Rattle.sc_machine_table.specs.Group.{Group, group_of};
+ghost use Rattle.sc_machine_table.specs.Machine.{applied};
+ghost use Rattle.sc_machine_table.specs.Logs.{state_after};
+ghost use Rattle.sc_paxos_law.specs.Chosen.{members_of};
+ghost use Rattle.sc_paxos_law.specs.Decided.{chosen_at};
+ghost use Rattle.sc_paxos_law.specs.Steps.{Step};
+ghost use Rattle.sc_sound.specs.Players.{as_nodes};
+ghost use Rattle.sc_sound.specs.Accepts.{accepts};
+ghost use Rattle.sc_sound.specs.GroupsOf.{children_of};
+ghost use Rattle.sc_sound.specs.Logs.{rule_of};
+ghost use Rattle.std.specs.Ordering.{nat_cmp};
+ghost use Rattle.std.specs.BTreeMap.{get_by};
+ghost use Rattle.sc_base.specs.declared.names.Draw.{Draw};
+ghost use Rattle.sc_cmd.specs.declared.orders.OrderLine.{OrderLine};
+ghost use Rattle.sc_mail.specs.declared.bodies.Mail.{Mail};
+ghost use Rattle.sc_actor.specs.declared.rows.Row.{Row};
+ghost use Rattle.sc_chosen.specs.declared.accepting.Acceptance.{Acceptance};
+ghost use Rattle.sc_chosen.specs.Acceptances.{step_of, steps_of, steps_by};
+ghost use Rattle.sc_chosen.specs.Indexes.{listed_in, IsIndexed};
+ghost use Rattle.sc_chosen.specs.Known.{kept_of, Agrees, NothingFollows, IsKnown, Adds, StaysKnown};
+
+use crate::accepting::{Acceptance, accepts};
+use crate::choosing::chosen_at;
+use crate::indexing::{BySlot, add, at_slot, by_slot};
+use sc_actor::Row;
+use sc_base::{Draw, Dup, OutOfMemory, Same, same_draw};
+use sc_cmd::{Base, Command, OrderLine};
+use sc_log_entries::births_are_children;
+use sc_machine::Machine;
+use sc_mail::Mail;
+use sc_member::Members;
+use sc_node_table::OPEN_SLOTS;
+use std::alloc::Global;
+
+/// A group as its rows tell it.
+#[derive(Drop)]
+pub struct Known {
+    /// How it is born.
+    pub base: Base,
+    /// What was accepted for it.
+    pub index: BySlot,
+    /// Its decided log.
+    pub log: Vec<Command>,
+    /// The members of each slot of the log.
+    pub members: Vec<Members>,
+    /// The group after the log.
+    pub state: Machine,
+    /// The group that the members of the next slot come from.
+    pub behind: Machine,
+}
+
+// Whether both hold.
+fn both(one: bool, other: bool) -> bool
+    ensures { result ≡ (one && other) }
+{
+    one && other
+}
+
+// One more entry is executed.
+fn execute(machine: &mut Machine, command: &Command) -> Result<(), OutOfMemory>
+    ensures { OnOk result (machine.new ≡ (applied machine.old command.now).0) }
+{
+    machine.apply(command)?;
+    Ok(())
+}
+
+// The log grows by one entry, and the state that decides the members of its next slot by the entry
+// that is then so far behind.
+fn lengthen(
+    behind: &mut Machine,
+    log: &mut Vec<Command>,
+    command: Command,
+) -> Result<(), OutOfMemory>
+    ensures log { OnOk result (log.new.items ≡ log.old.items ++ command ∷ []) }
+    ensures behind { OnOk result ((group : Group) →
+        behind.old ≡
+        state_after group (take (length log.old.items + 1 - as_nodes.slots) log.old.items) →
+        behind.new ≡
+        state_after group (take (length log.new.items + 1 - as_nodes.slots) log.new.items)) }
+{
+    log.push(command)?;
+    if OPEN_SLOTS <= log.len() {
+        execute(behind, &log[log.len() - OPEN_SLOTS])?;
+    }
+    Ok(())
+}
+
+// The group executes one more entry. Whether the entry makes no child.
+fn step(state: &mut Machine, command: &Command) -> Result<bool, OutOfMemory>
+    ensures { IfOk result (λ childless. (state.new ≡ (applied state.old command.now).0) ×
+        (childless ≡ true → children_of state.old (command.now ∷ []) ≡ [])) }
+{
+    births_are_children();
+    let child = state.child_by(command)?;
+    execute(state, command)?;
+    match child {
+        None => Ok(true),
+        Some(_child) => Ok(false),
+    }
+}
+
+// The next command of the log was chosen. Whether it makes no child.
+fn grow(known: &mut Known, command: Command) -> Result<bool, OutOfMemory>
+    ensures { IfOk result (λ childless. (h : List (Step Command)) → Agrees h known.old →
+        chosen_at (members_of (rule_of as_nodes known.old.base) known.old.log.items
+        (length known.old.log.items + 1)) h (length known.old.log.items + 1) ≡ Some command →
+        Agrees h known.new × (known.new.base ≡ known.old.base) ×
+        (childless ≡ true → children_of (group_of known.new.base) known.new.log.items
+        ≡ children_of (group_of known.old.base) known.old.log.items)) }
+{
+    let childless = step(&mut known.state, &command)?;
+    known.members.push(known.behind.core().members)?;
+    lengthen(&mut known.behind, &mut known.log, command)?;
+    Ok(childless)
+}
+
+// The slot after the log.
+fn next_slot(log: &[Command]) -> Result<u32, OutOfMemory>
+    ensures { IfOk result (λ slot. slot ≡ length log.now + 1) }
+{
+    if log.len() >= 4_294_967_295 {
+        return Err(OutOfMemory);
+    }
+    Ok(log.len() as u32 + 1)
+}
+
+// The command that is chosen next, if one is.
+fn next_of(alloc: Global, known: &Known) -> Result<Option<Command>, OutOfMemory>
+    ensures { IfOk result (λ next. (h : List (Step Command)) → Agrees h known.now →
+        chosen_at (members_of (rule_of as_nodes known.now.base) known.now.log.items
+        (length known.now.log.items + 1)) h (length known.now.log.items + 1) ≡ next) }
+{
+    let slot = next_slot(known.log.as_slice())?;
+    let found = at_slot(&known.index, slot);
+    match chosen_at(&known.behind.core().members, found, slot) {
+        None => Ok(None),
+        Some(command) => Ok(Some(command.dup(alloc)?)),
+    }
+}
+
+// The log goes on as far as commands are chosen. Whether none of the new entries makes a child.
+fn advance(alloc: Global, known: &mut Known) -> Result<bool, OutOfMemory>
+    ensures { IfOk result (λ childless. (h : List (Step Command)) → Agrees h known.old →
+        Agrees h known.new × (known.new.base ≡ known.old.base) ×
+        NothingFollows (rule_of as_nodes known.new.base) h known.new.log.items ×
+        (childless ≡ true → children_of (group_of known.new.base) known.new.log.items
+        ≡ children_of (group_of known.old.base) known.old.log.items)) }
+{
+    let mut childless = true;
+    for _more in 0..4_294_967_295u32 {
+        match next_of(alloc, known)? {
+            None => return Ok(childless),
+            Some(command) => {
+                let makes_none = grow(known, command)?;
+                childless = both(childless, makes_none);
+            }
+        }
+    }
+    Err(OutOfMemory)
+}
+
+/// What rows tell of a group that is born like this.
+pub fn known_of(
+    alloc: Global,
+    base: Base,
+    rows: &[Row<Mail, OrderLine>],
+) -> Result<Known, OutOfMemory>
+    ensures { IfOk result (λ known. IsKnown rows.now known × (known.base ≡ base)) }
+{
+    let found = accepts(alloc, base.core.id, rows)?;
+    let index = by_slot(alloc, found)?;
+    let one = base.dup(alloc)?;
+    let state = Machine::born(alloc, one)?;
+    let other = base.dup(alloc)?;
+    let behind = Machine::born(alloc, other)?;
+    let log = Vec::new(alloc);
+    let members = Vec::new(alloc);
+    let mut known = Known {
+        base,
+        index,
+        log,
+        members,
+        state,
+        behind,
+    };
+    let _childless = advance(alloc, &mut known)?;
+    Ok(known)
+}
+
+// Whether the command of the log at a slot is still what is chosen there.
+fn is_still_chosen(known: &Known, slot: u32) -> bool
+    requires { (0 < slot) × (slot < length known.now.log.items + 1) }
+    ensures { result ≡ true → (found : List Acceptance) (members : List ℕ) →
+        IsIndexed (kept_of known.now) found →
+        slice_get known.now.members.items (slot - 1) ≡ Some members →
+        chosen_at members (steps_of found) slot ≡ slice_get known.now.log.items (slot - 1) }
+{
+    let place = (slot - 1) as usize;
+    if known.members.len() <= place {
+        return false;
+    }
+    let found = at_slot(&known.index, slot);
+    match chosen_at(&known.members[place], found, slot) {
+        None => false,
+        Some(command) => command.is_same(&known.log[place]),
+    }
+}
+
+// A group takes one more acceptance in. Whether its log only goes on, by entries that make no
+// child.
+fn take(alloc: Global, known: &mut Known, acceptance: &Acceptance) -> Result<bool, OutOfMemory>
+    ensures { IfOk result (λ calm. calm ≡ true → (rows after : List (Row Mail OrderLine)) →
+        accepts known.old.base.core.id after ≡
+        step_of acceptance.now ∷ accepts known.old.base.core.id rows →
+        IsKnown rows known.old → StaysKnown rows after known.old known.new) }
+{
+    let slot = acceptance.slot;
+    add(alloc, &mut known.index, acceptance.dup(alloc)?)?;
+    if slot as usize > known.log.len() {
+        let calm = advance(alloc, known)?;
+        return Ok(calm);
+    }
+    if slot == 0 {
+        return Ok(true);
+    }
+    Ok(is_still_chosen(known, slot))
+}
+
+/// A group takes in what was accepted, if it was accepted for it.
+pub fn taken_in(
+    alloc: Global,
+    mut known: Known,
+    name: Draw,
+    acceptance: &Acceptance,
+) -> Result<(Known, bool), OutOfMemory>
+    ensures { IfOk result (λ done. done.1 ≡ true → (rows after : List (Row Mail OrderLine)) →
+        Adds (Some (name, acceptance.now)) rows after → IsKnown rows known →
+        StaysKnown rows after known done.0) }
+{
+    if same_draw(known.base.core.id, name) {
+        let calm = take(alloc, &mut known, acceptance)?;
+        return Ok((known, calm));
+    }
+    Ok((known, true))
+}

@@ -1,0 +1,6 @@
+mod Parses
+mod Pieces
+mod Plain
+mod Readings
+mod Shapes
+mod Values

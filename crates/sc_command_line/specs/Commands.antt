@@ -1,0 +1,72 @@
+-- The command line as clap knows it.
+use Rattle.std.specs.Prelude.{ℕ, ◌==◌, ◌&&◌, true, List, codes, Option, None, Some, if◌then◌else◌, option_and_then}
+use Rattle.clap.specs.Words.{App, Row, Rule, Text, first_of, new_app, new_rule, with_rule, with_subcommand}
+use Rattle.clap.specs.Simple.{on_top}
+use Rattle.sc_lines.specs.Words.{same}
+use Rattle.sc_command_line.specs.Subcommands.{make_of, scan_of}
+use Rattle.sc_command_line.specs.declared.subcommands.Subcommand.{Subcommand}
+use Rattle.sc_command_line.specs.declared.subcommands.Subcommand.TheVariants.{Run, Journal, Audit, Pool}
+
+-- a word that must be there, by its name
+abbrev pub word_rule : Text → Rule
+word_rule id = record (new_rule id) { required = true }
+
+-- `make N S`
+abbrev pub make_app : App
+make_app = with_rule (with_rule (new_app (codes "make")) (word_rule (codes "N"))) (word_rule (codes "S"))
+
+-- `scan LO LEN`
+abbrev pub arc_app : App
+arc_app = with_rule (with_rule (new_app (codes "scan")) (word_rule (codes "LO"))) (word_rule (codes "LEN"))
+
+-- `scan LO LEN R MOST`
+abbrev pub scan_app : App
+scan_app = with_rule (with_rule arc_app (word_rule (codes "R"))) (word_rule (codes "MOST"))
+
+-- `scatter` alone: its words begin behind its name
+abbrev pub bare_app : App
+bare_app = on_top (λ s. record s { no_binary_name = true }) (new_app (codes "scatter"))
+
+-- an app with one more subcommand, which takes no words
+abbrev pub with_word : App → Text → App
+with_word app name = with_subcommand app (new_app name).top
+
+-- `scatter`, with the subcommands of one word: `run`, `journal`, `audit` and `pool`
+abbrev pub words_app : App
+words_app = with_word (with_word (with_word (with_word bare_app (codes "run")) (codes "journal")) (codes "audit")) (codes "pool")
+
+-- `scatter`, with all its subcommands: these, `make` and `scan`
+abbrev pub scatter_app : App
+scatter_app = with_subcommand (with_subcommand words_app make_app.top) scan_app.top
+
+-- what the values of `make` spell
+abbrev pub make_in : List Row → Option Subcommand
+make_in rows = option_and_then (λ count. option_and_then (λ seed. make_of count seed) (first_of (codes "S") rows)) (first_of (codes "N") rows)
+
+-- what four values of `scan` spell, where each is there
+abbrev pub scan_by : Option Text → Option Text → Option Text → Option Text → Option Subcommand
+scan_by None len rows most = None
+scan_by (Some lo) None rows most = None
+scan_by (Some lo) (Some len) None most = None
+scan_by (Some lo) (Some len) (Some rows) None = None
+scan_by (Some lo) (Some len) (Some rows) (Some most) = scan_of lo len rows most
+
+-- what the values of `scan` spell
+abbrev pub scan_in : List Row → Option Subcommand
+scan_in rows = scan_by (first_of (codes "LO") rows) (first_of (codes "LEN") rows) (first_of (codes "R") rows) (first_of (codes "MOST") rows)
+
+-- what a subcommand of so many words asks for
+abbrev pub subcommand_as : ℕ → Text → List Row → Option Subcommand
+subcommand_as count name rows =
+    if (count == 1) && same name (codes "run") then Some Run
+    else if (count == 1) && same name (codes "journal") then Some Journal
+    else if (count == 1) && same name (codes "audit") then Some Audit
+    else if (count == 1) && same name (codes "pool") then Some Pool
+    else if (count == 3) && same name (codes "make") then make_in rows
+    else if (count == 5) && same name (codes "scan") then scan_in rows
+    else None
+
+-- the same of the one that was met, if one was
+abbrev pub subcommand_in : ℕ → Option (Text × List Row) → Option Subcommand
+subcommand_in count None = None
+subcommand_in count (Some met) = subcommand_as count met.0 met.1

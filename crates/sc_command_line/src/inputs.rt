@@ -1,0 +1,65 @@
+//! What an input is.
+ghost use Rattle.std.specs.Prelude.{◌≤◌, ◌+◌, MatchResult};
+ghost use Rattle.sc_journal_file.specs.Stored.{most_file_bytes, IsBadFile};
+ghost use Rattle.sc_lines.specs.Lines.{most_bytes};
+ghost use Rattle.sc_command_line.specs.Faults.{HasFault, IsBadText};
+ghost use Rattle.sc_command_line.specs.Inputs.{ReadsFile, ReadsScenario, ReadsText};
+
+use crate::faults::InputFault;
+use sc_actor::Journal;
+use sc_cmd::OrderLine;
+use sc_edges::{Source, read_all};
+use sc_journal_file::{FILE_LIMIT, first_file_bytes_decide, read_file, scenarios_are_short};
+use sc_mail::Mail;
+use sc_scenario::{INPUT_LIMIT, Scenario, first_bytes_decide, read_scenario};
+use std::alloc::Global;
+
+/// The scenario that an input is.
+pub fn scenario_in<S: Source>(alloc: Global, input: &mut S) -> Result<Scenario, InputFault>
+    ensures read { MatchResult result (λ scenario. ReadsScenario (S.left input.old) scenario)
+        (λ fault. HasFault IsBadText (record {
+          left = S.left input.old;
+          faults_before = S.faults input.old;
+          faults_after = S.faults input.new;
+        }) fault) }
+    ensures calls { S.calls input.new ≤ S.calls input.old + (most_bytes + 2) }
+{
+    let bytes = read_all(alloc, input, INPUT_LIMIT)?;
+    first_bytes_decide();
+    Ok(read_scenario(alloc, &bytes)?)
+}
+
+/// The scenario that an input is, and the input's bytes.
+pub fn text_in<S: Source>(alloc: Global, input: &mut S) -> Result<(Scenario, Vec<u8>), InputFault>
+    ensures read { MatchResult result (λ read. ReadsText (S.left input.old) read.0 read.1.items)
+        (λ fault. HasFault IsBadText (record {
+          left = S.left input.old;
+          faults_before = S.faults input.old;
+          faults_after = S.faults input.new;
+        }) fault) }
+    ensures calls { S.calls input.new ≤ S.calls input.old + (most_bytes + 2) }
+{
+    let bytes = read_all(alloc, input, INPUT_LIMIT)?;
+    first_bytes_decide();
+    scenarios_are_short();
+    let scenario = read_scenario(alloc, &bytes)?;
+    Ok((scenario, bytes))
+}
+
+/// The scenario and the rows of the journal that an input stores.
+pub fn file_in<S: Source>(
+    alloc: Global,
+    input: &mut S,
+) -> Result<(Scenario, Journal<Mail, OrderLine>), InputFault>
+    ensures read { MatchResult result (λ read. ReadsFile (S.left input.old) read.0 read.1)
+        (λ fault. HasFault IsBadFile (record {
+          left = S.left input.old;
+          faults_before = S.faults input.old;
+          faults_after = S.faults input.new;
+        }) fault) }
+    ensures calls { S.calls input.new ≤ S.calls input.old + (most_file_bytes + 2) }
+{
+    let file = read_all(alloc, input, FILE_LIMIT)?;
+    first_file_bytes_decide();
+    Ok(read_file(alloc, &file)?)
+}

@@ -1,0 +1,33 @@
+//! All gather where only one actor has acted.
+ghost use Rattle.std.specs.Prelude.{◌<◌, length, IfOk, OnOk};
+ghost use Rattle.sc_workers.specs.Crews.{AllOf, AreStill};
+ghost use Rattle.sc_workers.specs.Ends.{IsFirst, IsGathered};
+ghost use Rattle.sc_drive.specs.Gatherings.{OthersMet};
+
+use sc_actor::Actor;
+use sc_base::OutOfMemory;
+use sc_exchange::{Fetched, Port};
+use sc_shell::Shell;
+use sc_workers::{meet_one, vouch};
+use std::sync::Wait;
+
+/// All gather where each shell but that at a place has seen only what the port has seen: so only
+/// that one meets the port. Answers what is pending first of all.
+pub(crate) fn gather_after<A: Actor, R: Wait>(
+    rt: &R,
+    net: &mut Port<A::Mail, A::Order>,
+    shells: &mut Vec<Shell<A>>,
+    place: usize,
+) -> Result<Fetched<A::Mail>, OutOfMemory>
+    requires exchange { AllOf net.old shells.old.items }
+    requires inside { place < length shells.old.items }
+    requires others { OthersMet place net.old shells.old.items }
+    ensures still { AreStill net.old net.new shells.old.items shells.new.items }
+    ensures gathered { OnOk result (IsGathered net.new shells.new.items) }
+    ensures found { IfOk result (λ found. IsFirst net.new found) }
+{
+    meet_one(rt, net, &mut shells[place])?;
+    let found = net.fetch(rt, 1)?;
+    vouch(net, shells);
+    Ok(found)
+}

@@ -1,3 +1,0 @@
-mod Places
-mod Counting
-mod Flying

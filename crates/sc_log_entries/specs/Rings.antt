@@ -1,0 +1,109 @@
+-- The decided ring: one list of cuts, which is changed whole by the entries of coordinators. What a participant's own log says follows later.
+use Rattle.std.specs.Prelude.{◌≡◌, ◌≢◌, ℕ, ◌^◌, ◌<◌, Bool, IsTrue, not, List, [], ◌∷◌, map, find, AllPairs, if◌then◌else◌, Option, Some, None}
+use Rattle.std.specs.List.{filter, flat_map}
+use Rattle.std.specs.Option.{option_map}
+use Rattle.sc_base.specs.Among.{Among}
+use Rattle.sc_base.specs.Arc.{Arc, IsArc, holds, before, from, joined}
+use Rattle.sc_base.specs.Same.{same_draw}
+use Rattle.sc_base.specs.declared.names.Draw.{Draw}
+use Rattle.sc_cmd.specs.declared.commands.Command.{Command}
+use Rattle.sc_cmd.specs.declared.commands.Command.TheVariants.{Noop, Call, Join, Leave, Split, Begin, Prepared, RecordVote, GiveUp, Finish, Watched, RecordWatch}
+use Rattle.sc_cmd.specs.declared.cores.Base.{Base}
+use Rattle.sc_cmd.specs.declared.cores.Core.{Core}
+use Rattle.sc_cmd.specs.declared.effects.Effect.{Effect}
+use Rattle.sc_cmd.specs.declared.votes.Outcome.{Outcome}
+use Rattle.sc_cmd.specs.declared.votes.Outcome.TheVariants.{Abort, Merged, Moved, Migrated, Divided}
+use Rattle.sc_cmd.specs.Effects.{decided_in}
+use Rattle.sc_log_entries.specs.declared.Cut.{Cut}
+use Rattle.sc_log_entries.specs.declared.Division.{Division}
+use Rattle.sc_log_entries.specs.Births.{division_of}
+
+-- the ring covers: each position lies in the arc of exactly one cut, and no group has two
+pub record Covers (ring : List Cut) : Type 0 where
+  -- each cut has an arc of the ring
+  pub arcs : (cut : Cut) → Among cut ring → IsArc cut.arc × (cut.arc.lo < 2 ^ 32)
+  -- each position lies in one
+  pub some : (p : ℕ) → p < 2 ^ 32 → (cut : Cut) × Among cut ring × IsTrue (holds cut.arc p)
+  -- and in no other
+  pub only : (p : ℕ) → p < 2 ^ 32 → (cut other : Cut) → Among cut ring → Among other ring → IsTrue (holds cut.arc p) → IsTrue (holds other.arc p) → cut ≡ other
+  -- no group has two
+  pub apart : AllPairs (λ cut other. cut.group ≢ other.group) ring
+
+-- whether a cut is a group's
+abbrev pub is_cut_of : Draw → Cut → Bool
+is_cut_of group cut = same_draw cut.group group
+
+-- the arc of a group in the ring, if it has a cut
+abbrev pub arc_in : Draw → List Cut → Option Arc
+arc_in group ring = option_map (λ cut. cut.arc) (find (is_cut_of group) ring)
+
+-- the cut of each group of a scenario
+abbrev pub first_cut : Base → Cut
+first_cut base = record { arc = base.core.arc; group = base.core.id }
+
+-- the ring, with this arc for a group
+abbrev pub recut : Draw → Arc → List Cut → List Cut
+recut group arc = map (λ cut. if is_cut_of group cut then record cut { arc = arc } else cut)
+
+-- ---- a split
+
+-- what becomes of a cut: that of the group keeps what lies before the boundary, and the child has the rest
+abbrev pub parts_of : Draw → Division → Cut → List Cut
+parts_of group division cut =
+    if is_cut_of group cut
+    then record cut { arc = before cut.arc division.at } ∷ record { arc = from cut.arc division.at; group = division.child } ∷ []
+    else cut ∷ []
+
+-- the ring after a division of a group, if there is one
+abbrev pub ring_divided : Option Division → Draw → List Cut → List Cut
+ring_divided None group ring = ring
+ring_divided (Some division) group ring = flat_map (parts_of group division) ring
+
+-- ---- a merge, and a boundary that moves
+
+-- the coordinator's arc and the participant's as one arc
+abbrev pub both_arcs : Option Arc → Option Arc → Option Arc
+both_arcs (Some arc) (Some next) = Some (joined arc next)
+both_arcs (Some arc) None = None
+both_arcs None next = None
+
+-- the participant's cut is taken out, and the coordinator has both arcs
+abbrev pub ring_merged : Option Arc → Draw → Draw → List Cut → List Cut
+ring_merged None coordinator participant ring = ring
+ring_merged (Some whole) coordinator participant ring = recut coordinator whole (filter (λ cut. not (is_cut_of participant cut)) ring)
+
+-- the coordinator has what lies before the boundary of both arcs, and the participant the rest
+abbrev pub ring_moved : ℕ → Option Arc → Draw → Draw → List Cut → List Cut
+ring_moved at None coordinator participant ring = ring
+ring_moved at (Some whole) coordinator participant ring = recut coordinator (before whole at) (recut participant (from whole at) ring)
+
+-- the ring after what a coordinator decides with its participant. A split is a division, and a member that moves on changes no arc.
+abbrev pub ring_decided : Option Outcome → Draw → Draw → List Cut → List Cut
+ring_decided None coordinator participant ring = ring
+ring_decided (Some Abort) coordinator participant ring = ring
+ring_decided (Some (Merged into)) coordinator participant ring = ring_merged (both_arcs (arc_in coordinator ring) (arc_in participant ring)) coordinator participant ring
+ring_decided (Some (Moved at gift)) coordinator participant ring = ring_moved at (both_arcs (arc_in coordinator ring) (arc_in participant ring)) coordinator participant ring
+ring_decided (Some (Migrated node)) coordinator participant ring = ring
+ring_decided (Some Divided) coordinator participant ring = ring
+
+-- ---- each entry
+
+-- what an entry decides for its group as coordinator: by its participant's vote or its watcher's. Giving up is an abort, and a Finish follows what another group decided.
+abbrev pub decided_by : Command → Effect → Option Outcome
+decided_by (RecordVote tx vote by) effect = decided_in effect
+decided_by (RecordWatch tx vote by) effect = decided_in effect
+decided_by Noop effect = None
+decided_by (Call client seq op) effect = None
+decided_by (Join node order) effect = None
+decided_by (Leave node order) effect = None
+decided_by (Split at child order) effect = None
+decided_by (Begin tx body order) effect = None
+decided_by (Prepared tx offer) effect = None
+decided_by (GiveUp tx) effect = None
+decided_by (Finish tx outcome) effect = None
+decided_by (Watched tx watch) effect = None
+
+-- the ring after an entry of the log of a group, whose record was this before: the participant is its successor, which stays while the group is locked
+abbrev pub ring_after : Core → Command → Effect → List Cut → List Cut
+ring_after core command effect ring =
+    ring_divided (division_of core command effect) core.id (ring_decided (decided_by command effect) core.id core.succ.group ring)

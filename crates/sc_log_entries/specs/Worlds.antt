@@ -1,0 +1,75 @@
+-- What the entries of all logs make of all groups, entry by entry.
+use Rattle.std.specs.Prelude.{Bool, List, [], ◌++◌, map, fold, find, if◌then◌else◌, Option, Some, None}
+use Rattle.std.specs.Option.{option_to_list}
+use Rattle.sc_base.specs.Same.{same_draw}
+use Rattle.sc_base.specs.declared.names.Draw.{Draw}
+use Rattle.sc_cmd.specs.declared.commands.Command.{Command}
+use Rattle.sc_cmd.specs.declared.cores.Base.{Base}
+use Rattle.sc_cmd.specs.declared.effects.Effect.{Effect}
+use Rattle.sc_ideal.specs.declared.Entry.{Entry}
+use Rattle.sc_machine_table.specs.Group.{Group, group_of}
+use Rattle.sc_machine_table.specs.Logs.{entry_of}
+use Rattle.sc_machine_table.specs.Machine.{applied}
+use Rattle.sc_log_entries.specs.Births.{birth_of}
+use Rattle.sc_log_entries.specs.declared.Cut.{Cut}
+use Rattle.sc_log_entries.specs.declared.LogEntry.{LogEntry}
+use Rattle.sc_log_entries.specs.declared.Transaction.{Transaction}
+use Rattle.sc_log_entries.specs.Decisions.{transactions_after}
+use Rattle.sc_log_entries.specs.Rings.{first_cut, ring_after}
+
+-- all groups, after some entries
+pub record StoreWorld : Type 0 where
+  -- each group that was born, as its own log makes it
+  pub groups : List Group
+  -- each transaction that was begun
+  pub transactions : List Transaction
+  -- the decided ring
+  pub ring : List Cut
+  -- the calls that took effect
+  pub history : List Entry
+
+-- the groups of a scenario, before any entry
+abbrev pub first_world : List Base → StoreWorld
+first_world bases = record { groups = map group_of bases; transactions = []; ring = map first_cut bases; history = [] }
+
+-- whether a group has this name
+abbrev pub is_named : Draw → Group → Bool
+is_named name group = same_draw group.core.id name
+
+-- the group with a name, if it was born
+abbrev pub named_group : Draw → List Group → Option Group
+named_group name = find (is_named name)
+
+-- the groups, with the one of this name replaced
+abbrev pub with_group : Draw → Group → List Group → List Group
+with_group name after = map (λ group. if is_named name group then after else group)
+
+-- the groups after an entry of the log of one, as it was before and is after; a child may be born
+abbrev pub groups_after : Group → Group → Option Base → List Group → List Group
+groups_after group after child groups = with_group group.core.id after groups ++ map group_of (option_to_list child)
+
+-- the world after an entry of the log of a group, as it was before, from what the table makes of it
+abbrev pub with_result : StoreWorld → Group → Command → Group × Effect → StoreWorld
+with_result world group command result = record {
+  groups = groups_after group result.0 (birth_of group command result.1) world.groups;
+  transactions = transactions_after group.core command result.1 world.transactions;
+  ring = ring_after group.core command result.1 world.ring;
+  history = world.history ++ entry_of command result.1;
+}
+
+-- the world after a command of a group that was found; a group that was not born executes nothing
+abbrev pub after_command : StoreWorld → Option Group → Command → StoreWorld
+after_command world None command = world
+after_command world (Some group) command = with_result world group command (applied group command)
+
+-- the world after one entry
+abbrev pub told : StoreWorld → LogEntry → StoreWorld
+told world entry = after_command world (named_group entry.group world.groups) entry.command
+
+-- the world after the entries of all logs, in their order
+abbrev pub world_after : StoreWorld → List LogEntry → StoreWorld
+world_after = fold told
+
+-- what the entries make of the groups of a scenario
+abbrev pub world_of : List Base → List LogEntry → StoreWorld
+world_of bases = world_after (first_world bases)

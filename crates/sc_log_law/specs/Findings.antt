@@ -1,0 +1,98 @@
+-- What holds of the groups of a journal and of its entries, where each row decides in turn.
+use Rattle.std.specs.Prelude.{◌≡◌, ℕ, ◌+◌, ◌<◌, ◌≤◌, ◌⊎◌, List, [], ◌∷◌, ◌++◌, length, Some, None}
+use Rattle.sc_base.specs.Among.{Among}
+use Rattle.sc_base.specs.declared.names.Draw.{Draw}
+use Rattle.sc_cmd.specs.declared.commands.Command.{Command}
+use Rattle.sc_cmd.specs.declared.commands.Command.TheVariants.{Call}
+use Rattle.sc_cmd.specs.declared.cores.Base.{Base}
+use Rattle.sc_cmd.specs.declared.orders.OrderLine.{OrderLine}
+use Rattle.sc_mail.specs.declared.bodies.Mail.{Mail}
+use Rattle.sc_actor.specs.declared.rows.Row.{Row}
+use Rattle.sc_ideal.specs.declared.Entry.{Entry}
+use Rattle.sc_machine_table.specs.Group.{group_of}
+use Rattle.sc_machine_table.specs.Logs.{state_after}
+use Rattle.sc_sound.specs.Players.{Ahead}
+use Rattle.sc_log_entries.specs.declared.LogEntry.{LogEntry}
+use Rattle.sc_log_entries.specs.Worlds.{named_group}
+use Rattle.sc_hist_law.specs.Fronts.{log_in}
+use Rattle.sc_hist_law.specs.Moves.{HasNotes}
+use Rattle.sc_sound.specs.GroupsOf.{children_of, children_by, groups_at, birth_at, log_at, state_at, entries_at, world_at, history_at}
+use Rattle.sc_sound.specs.Logs.{decided_log, decided_state}
+use Rattle.sc_sound.specs.Soundness.{Continues, IsOneMap, told_row}
+use Rattle.sc_log_law.specs.Descent.{Rows, IsFound, added_by, newborn_by}
+
+-- ---- groups
+
+-- a group is found by its name, with its own log and the state after it
+pub record IsFoundByName (ahead : Ahead) (bases : List Base) (rows : Rows) (base : Base) : Type 0 where
+  pub birth : birth_at ahead bases rows base.core.id ≡ Some base
+  pub log : log_at ahead bases rows base.core.id ≡ decided_log ahead base rows
+  pub state : state_at ahead bases rows base.core.id ≡ Some (decided_state ahead base rows)
+
+-- the groups of a journal are those that are found, and no more, under names of their own
+pub record AreFound (ahead : Ahead) (bases : List Base) (rows : Rows) : Type 0 where
+  -- those of the scenario
+  pub first : (base : Base) → Among base bases → Among base (groups_at ahead bases rows)
+  -- and with each group the children that its log names
+  pub closed : (base : Base) → Among base (groups_at ahead bases rows) → (child : Base) → Among child (children_by ahead rows base) → Among child (groups_at ahead bases rows)
+  -- as a front of its log names them
+  pub fronts : (base : Base) → Among base (groups_at ahead bases rows) → (front later : List Command) → decided_log ahead base rows ≡ front ++ later
+      → (child : Base) → Among child (children_of (group_of base) front) → Among child (groups_at ahead bases rows)
+  -- all that are found are there, and no others
+  pub all : (base : Base) → IsFound ahead bases rows base → Among base (groups_at ahead bases rows)
+  pub only : (base : Base) → Among base (groups_at ahead bases rows) → IsFound ahead bases rows base
+  -- two of one name are one
+  pub apart : (one other : Base) → Among one (groups_at ahead bases rows) → Among other (groups_at ahead bases rows) → one.core.id ≡ other.core.id → one ≡ other
+  -- each is known by its name
+  pub known : (base : Base) → Among base (groups_at ahead bases rows) → IsFoundByName ahead bases rows base
+
+-- a child that a row's own entries name: its name was nobody's, and its log is empty
+pub record IsNewborn (ahead : Ahead) (bases : List Base) (before : Rows) (row : Row Mail OrderLine) (child : Base) : Type 0 where
+  pub parent : Base
+  pub stands : Among parent (groups_at ahead bases before)
+  pub named : Among child (newborn_by ahead before row parent)
+  pub unborn : birth_at ahead bases before child.core.id ≡ None
+  pub silent : decided_log ahead child (before ++ row ∷ []) ≡ []
+
+-- each group after a row was there before it, or is such a child
+abbrev pub AreOldOrNew : Ahead → List Base → Rows → Row Mail OrderLine → Type 0
+AreOldOrNew ahead bases before row =
+    (base : Base) → Among base (groups_at ahead bases (before ++ row ∷ [])) → Among base (groups_at ahead bases before) ⊎ IsNewborn ahead bases before row base
+
+-- ---- entries
+
+-- the entries of a journal are the logs of its groups, and make of each the state after its log
+pub record AreItsLogs (ahead : Ahead) (bases : List Base) (rows : Rows) : Type 0 where
+  pub logs : (name : Draw) → log_in name (entries_at ahead bases rows) ≡ log_at ahead bases rows name
+  pub states : (name : Draw) → named_group name (world_at ahead bases rows).groups ≡ state_at ahead bases rows name
+
+-- the entries make one map, and what a group's log made it note, after each front of it, has its entry in the history
+pub record TellOneMap (ahead : Ahead) (bases : List Base) (rows : Rows) : Type 0 where
+  pub map : IsOneMap (world_at ahead bases rows)
+  pub notes : (base : Base) → Among base (groups_at ahead bases rows) → (front later : List Command) → decided_log ahead base rows ≡ front ++ later
+      → HasNotes (history_at ahead bases rows) (state_after (group_of base) front).clients
+
+-- ---- rows
+
+-- the row that tells the entry of the history at a place: it decides the call, for a group that was there before it
+pub record IsToldAt (ahead : Ahead) (bases : List Base) (rows : Rows) (place : ℕ) (entry : Entry) : Type 0 where
+  pub before : Rows
+  pub row : Row Mail OrderLine
+  pub later : Rows
+  pub are : rows ≡ before ++ row ∷ later
+  pub is_told : told_row ahead bases place rows ≡ Some (length before + 1)
+  -- the history is longer after the row, and not before
+  pub not_before : length (history_at ahead bases before) ≤ place
+  pub after : place < length (history_at ahead bases (before ++ row ∷ []))
+  -- the call
+  pub base : Base
+  pub stands : Among base (groups_at ahead bases before)
+  pub call : Among (Call entry.client entry.seq entry.op) (added_by ahead before row base)
+
+-- what stays with more rows: groups with their logs, entries, the history, and where its entries are told
+pub record StayAsTold (ahead : Ahead) (bases : List Base) (rows more : Rows) : Type 0 where
+  pub groups : (base : Base) → Among base (groups_at ahead bases rows) → Among base (groups_at ahead bases (rows ++ more))
+  pub logs : (base : Base) → Among base (groups_at ahead bases rows) → Continues (decided_log ahead base rows) (log_at ahead bases (rows ++ more) base.core.id)
+  pub entries : (later : List LogEntry) × (entries_at ahead bases (rows ++ more) ≡ entries_at ahead bases rows ++ later)
+  pub history : (later : List Entry) × (history_at ahead bases (rows ++ more) ≡ history_at ahead bases rows ++ later)
+  pub told : (place at : ℕ) → told_row ahead bases place rows ≡ Some at → told_row ahead bases place (rows ++ more) ≡ Some at

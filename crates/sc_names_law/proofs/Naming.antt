@@ -1,0 +1,64 @@
+-- The names that logs name: each was drawn for its group.
+use Rattle.std.proofs.Common.{◌≡◌, ◌++◌, Some, inl, inr, sym, ◌∙◌, subst, arith}
+use Rattle.std.proofs.lemmas.Option.{same_Some}
+use Rattle.sc_base.specs.declared.names.Draw.{Draw}
+use Rattle.sc_cmd.specs.declared.commands.Command.{Command}
+use Rattle.sc_cmd.specs.declared.commands.Command.TheVariants.{Noop, Call, Join, Leave, Split, Begin, Prepared, RecordVote, GiveUp, Finish, Watched, RecordWatch}
+use Rattle.sc_paxos_words.proofs.ListLemmas.{Each-among}
+use Rattle.sc_sound.specs.Players.{Ahead}
+use Rattle.sc_ring_law.specs.Laws.{draw_of}
+use Rattle.sc_scenario.specs.declared.scenarios.Scenario.{Scenario}
+use Rattle.sc_sound.specs.Logs.{decided_log}
+use Rattle.sc_names_law.specs.Fresh.{IsUsed}
+use Rattle.sc_names_law.specs.Naming.{AllowedNamesAreDrawn, LoggedNamesAreDrawn, MoreOwnersAllow}
+use Rattle.sc_names_law.specs.Names.{CommandNames}
+use Rattle.sc_names_law.specs.Owners.{Rows, owner_in}
+use Rattle.sc_ring_law.proofs.Sound.{owned}
+use Rattle.sc_names_law.proofs.Counters.{owned_are_of_nodes}
+use Rattle.sc_names_law.proofs.Fresh.{names_are_drawn}
+use Rattle.sc_names_law.proofs.Owned.{owned_are_drawn, owned_later}
+
+-- it is one of the command's names
+is_named : (K : Draw → Type 0) (command : Command) (name : Draw) → CommandNames K command → draw_of command ≡ Some name → K name
+is_named K (Split at child order) name c e = subst K (same_Some child name e) c
+is_named K (Begin tx body order) name c e = subst K (same_Some tx name e) c.0
+is_named K Noop name c e = cc
+is_named K (Call client seq op) name c e = cc
+is_named K (Join node order) name c e = cc
+is_named K (Leave node order) name c e = cc
+is_named K (Prepared tx offer) name c e = cc
+is_named K (RecordVote tx vote by) name c e = cc
+is_named K (GiveUp tx) name c e = cc
+is_named K (Finish tx outcome) name c e = cc
+is_named K (Watched tx watch) name c e = cc
+is_named K (RecordWatch tx vote by) name c e = cc
+
+pub allowed_are_drawn : AllowedNamesAreDrawn
+allowed_are_drawn ahead scenario rows request stories group command name a e =
+    let own = owned (record { owner = owner_in ahead scenario rows; request = request }) stories group command name a e in
+    (owned_are_drawn ahead scenario rows name group own, (owned_are_of_nodes ahead scenario rows name group own).0)
+
+used_by : (ahead : Ahead) (scenario : Scenario) (rows more : Rows) (name group : Draw) → IsUsed ahead scenario rows name → owner_in ahead scenario (rows ++ more) name ≡ Some group → owner_in ahead scenario rows name ≡ Some group
+used_by ahead scenario rows more name group (inl none) own = (let low = (owned_are_of_nodes ahead scenario (rows ++ more) name group own).0 in absurd (omega (arith, none, low)))
+used_by ahead scenario rows more name group (inr (other, has)) own = has ∙ (sym (owned_later ahead scenario rows more name other has) ∙ own)
+
+pub logged_are_drawn : LoggedNamesAreDrawn
+logged_are_drawn ahead words scenario begins rows more lawful base command among request stories group name a e =
+    let named = names_are_drawn ahead words scenario begins rows lawful in
+    let used = is_named (IsUsed ahead scenario rows) command name (Each-among (CommandNames (IsUsed ahead scenario rows)) (decided_log ahead base rows) command (named.1.logs base) among) e in
+    owned_are_drawn ahead scenario rows name group
+    (used_by ahead scenario rows more name group used (owned (record { owner = owner_in ahead scenario (rows ++ more); request = request }) stories group command name a e))
+
+pub more_owners_allow : MoreOwnersAllow
+more_owners_allow ahead scenario rows more request stories group (Split at child order) a = (owned_later ahead scenario rows more child group a.0, a.1)
+more_owners_allow ahead scenario rows more request stories group (Begin tx body order) a = (owned_later ahead scenario rows more tx group a.0, a.1)
+more_owners_allow ahead scenario rows more request stories group (Call client seq op) a = a
+more_owners_allow ahead scenario rows more request stories group (Prepared tx offer) a = a
+more_owners_allow ahead scenario rows more request stories group (RecordVote tx vote by) a = a
+more_owners_allow ahead scenario rows more request stories group (Watched tx watch) a = a
+more_owners_allow ahead scenario rows more request stories group (RecordWatch tx vote by) a = a
+more_owners_allow ahead scenario rows more request stories group (Finish tx outcome) a = a
+more_owners_allow ahead scenario rows more request stories group Noop a = tt
+more_owners_allow ahead scenario rows more request stories group (Join node order) a = tt
+more_owners_allow ahead scenario rows more request stories group (Leave node order) a = tt
+more_owners_allow ahead scenario rows more request stories group (GiveUp tx) a = tt

@@ -1,0 +1,122 @@
+-- Each name is drawn once, for one group, and what an order queues is allowed by the owner of its name.
+use Rattle.std.specs.List.{AllPairs}
+use Rattle.std.specs.Prelude.{Bool, List, [], ◌≡◌, ℕ, ◌<◌, ◌≤◌, ◌^◌, ◌∷◌, ◌++◌, Some, None}
+use Rattle.sc_base.specs.Among.{Among}
+use Rattle.sc_base.specs.Drawing.{Drawer, next_name}
+use Rattle.sc_base.specs.declared.names.Draw.{Draw}
+use Rattle.sc_base.specs.declared.ops.Op.{Op}
+use Rattle.sc_cmd.specs.declared.orders.Order.{Order}
+use Rattle.sc_cmd.specs.declared.orders.Order.TheVariants as An
+use Rattle.sc_cmd.specs.declared.orders.OrderLine.{OrderLine}
+use Rattle.sc_mail.specs.declared.bodies.Mail.{Mail}
+use Rattle.sc_actor.specs.declared.rows.Row.{Row}
+use Rattle.sc_actor.specs.declared.rows.Event.TheVariants.{Tick, Told}
+use Rattle.sc_actor.specs.Replay.{value}
+use Rattle.sc_node_table.specs.Node.{NodeState, replica_of, group_of_order, names_after_ticks}
+use Rattle.sc_node_table.specs.Ordering.{ordered_command, untaken, ordered_row}
+use Rattle.sc_node_table.specs.Pump.{pumped}
+use Rattle.sc_node_table.specs.Replica.{ReplicaState, name_of}
+use Rattle.sc_sound.specs.Players.{Ahead, player_table, node_seat}
+use Rattle.sc_mail.specs.declared.roles.Role.TheVariants.{Node}
+use Rattle.sc_scenario.specs.declared.scenarios.Scenario.{Scenario}
+use Rattle.sc_ring_law.specs.Allowed.{IsAllowed}
+use Rattle.sc_ring_law.specs.Stories.{Stories}
+use Rattle.sc_names_law.specs.Owners.{Rows, Owned, owned_by, waited, wished_at, drawn_at, owner_in}
+
+-- ---- owners
+
+-- with more rows a name keeps its owner
+abbrev pub OwnersStay : Type 0
+OwnersStay = (ahead : Ahead) (scenario : Scenario) (rows more : Rows) (name group : Draw) → owner_in ahead scenario rows name ≡ Some group → owner_in ahead scenario (rows ++ more) name ≡ Some group
+
+-- a name that a row draws had no owner before it, and has the row's from then on
+abbrev pub DrawnNamesAreOwned : Type 0
+DrawnNamesAreOwned = (ahead : Ahead) (scenario : Scenario) (before : Rows) (row : Row Mail OrderLine) (later : Rows) (owned : Owned) → Among owned (drawn_at ahead scenario before row)
+    → (owner_in ahead scenario before owned.name ≡ None) × (owner_in ahead scenario (before ++ row ∷ later) owned.name ≡ Some owned.group)
+
+-- a row that drew a name for a group
+pub record IsDrawn (ahead : Ahead) (scenario : Scenario) (rows : Rows) (name group : Draw) : Type 0 where
+  pub before : Rows
+  pub row : Row Mail OrderLine
+  pub later : Rows
+  pub are : rows ≡ before ++ row ∷ later
+  pub drawn : Among (owned_by name group) (drawn_at ahead scenario before row)
+
+-- no row draws a name twice
+abbrev pub RowsDrawOnce : Type 0
+RowsDrawOnce = (ahead : Ahead) (scenario : Scenario) (before : Rows) (row : Row Mail OrderLine) → AllPairs (λ (one other : Owned). one.name ≡ other.name → ⊥) (drawn_at ahead scenario before row)
+
+-- a name that has an owner was drawn for it in a row
+abbrev pub OwnedNamesAreDrawn : Type 0
+OwnedNamesAreDrawn = (ahead : Ahead) (scenario : Scenario) (rows : Rows) (name group : Draw) → owner_in ahead scenario rows name ≡ Some group → IsDrawn ahead scenario rows name group
+
+-- a name with an owner is of a node of the scenario
+abbrev pub OwnedNamesAreOfNodes : Type 0
+OwnedNamesAreOfNodes = (ahead : Ahead) (scenario : Scenario) (rows : Rows) (name group : Draw) → owner_in ahead scenario rows name ≡ Some group → (1 ≤ name.node) × (name.node ≤ scenario.nodes)
+
+-- so a name of no node, as groups of a scenario have, has none
+abbrev pub OtherNamesAreFree : Type 0
+OtherNamesAreFree = (ahead : Ahead) (scenario : Scenario) (rows : Rows) (name : Draw) → name.node ≡ 0 → owner_in ahead scenario rows name ≡ None
+
+-- what a node has of names after these rows: those below its counter have owners, and no others of it
+pub record HasNames (ahead : Ahead) (scenario : Scenario) (rows : Rows) (n : ℕ) (node : NodeState) : Type 0 where
+  pub number : node.draws.node ≡ n
+  pub drawn : (name : Draw) → name.node ≡ n → 1 ≤ name.count → name.count < node.draws.next → (group : Draw) × (owner_in ahead scenario rows name ≡ Some group)
+  pub left : (name : Draw) → name.node ≡ n → node.draws.next ≤ name.count → owner_in ahead scenario rows name ≡ None
+
+-- each node of a scenario has names so
+abbrev pub NodesHaveNames : Type 0
+NodesHaveNames = (ahead : Ahead) (scenario : Scenario) (rows : Rows) (n : ℕ) → 1 ≤ n → n ≤ scenario.nodes → (node : NodeState) → value player_table (node_seat ahead scenario.groups scenario.policy n) rows ≡ Node node → HasNames ahead scenario rows n node
+
+-- ---- orders
+
+-- an order moves a boundary, or splits a group, at a position
+abbrev pub IsAtPosition : Order → Type 0
+IsAtPosition (An.Join node group) = Unit {0}
+IsAtPosition (An.Leave node group) = Unit {0}
+IsAtPosition (An.Split group at) = at < 2 ^ 32
+IsAtPosition (An.Merge group) = Unit {0}
+IsAtPosition (An.Repart group at) = at < 2 ^ 32
+IsAtPosition (An.Migrate group node) = Unit {0}
+
+-- the row after these tells a node an order that a replica of its group takes
+pub record TakesOrder (ahead : Ahead) (scenario : Scenario) (before : Rows) (row : Row Mail OrderLine) (line : OrderLine) (node : NodeState) (r : ReplicaState) : Type 0 where
+  pub low : 1 ≤ row.who
+  pub high : row.who ≤ scenario.nodes
+  pub value_is : value player_table (node_seat ahead scenario.groups scenario.policy row.who) before ≡ Node node
+  pub event_is : row.event ≡ Told line
+  pub found : replica_of (group_of_order line.order) node.replicas ≡ Some r
+  pub taken : untaken node.draws line r ≡ None
+
+-- the command that waits last when an order was taken, and then the pump
+abbrev pub OrdersAreQueued : Type 0
+OrdersAreQueued = (drawer : Drawer) (line : OrderLine) (r : ReplicaState) (mails : List Mail) → untaken drawer line r ≡ None
+    → ordered_row drawer line (r, mails) ≡ pumped (record r { calls = r.calls ++ ordered_command (next_name drawer) line.number line.order ∷ [] }, mails)
+
+-- the command that is queued for an order is allowed in the log of its group, whatever was told, by the owners of any journal that goes on so
+abbrev pub TakenOrdersAreAllowed : Type 0
+TakenOrdersAreAllowed = (ahead : Ahead) (scenario : Scenario) (before : Rows) (row : Row Mail OrderLine) (later : Rows) (line : OrderLine) (node : NodeState) (r : ReplicaState)
+    → TakesOrder ahead scenario before row line node r → IsAtPosition line.order → (request : ℕ → ℕ → Op) (stories : Stories)
+    → IsAllowed (record { owner = owner_in ahead scenario (before ++ row ∷ later); request = request }) stories (group_of_order line.order) (ordered_command (next_name node.draws) line.number line.order)
+
+-- ---- policies
+
+-- what a policy orders is at a position of the ring
+abbrev pub WishesAreAtPositions : Type 0
+WishesAreAtPositions = (on : Bool) (r : ReplicaState) (line : OrderLine) → wished_at on r ≡ Some line → IsAtPosition line.order
+
+-- the row after these is a tick of a node at which a replica takes what its policy orders, with the names that the replicas before it left
+pub record TakesWish (ahead : Ahead) (scenario : Scenario) (before : Rows) (row : Row Mail OrderLine) (line : OrderLine) (node : NodeState) (older newer : List ReplicaState) (r : ReplicaState) : Type 0 where
+  pub low : 1 ≤ row.who
+  pub high : row.who ≤ scenario.nodes
+  pub value_is : value player_table (node_seat ahead scenario.groups scenario.policy row.who) before ≡ Node node
+  pub event_is : row.event ≡ Tick
+  pub replicas_are : node.replicas ≡ older ++ r ∷ newer
+  pub wished : wished_at node.policy r ≡ Some line
+  pub taken : untaken (names_after_ticks node.policy node.draws older) line (waited r) ≡ None
+
+-- the command that is queued for what a policy orders is allowed in the log of its replica's group, as that of an order
+abbrev pub TakenWishesAreAllowed : Type 0
+TakenWishesAreAllowed = (ahead : Ahead) (scenario : Scenario) (before : Rows) (row : Row Mail OrderLine) (later : Rows) (line : OrderLine) (node : NodeState) (older newer : List ReplicaState) (r : ReplicaState)
+    → TakesWish ahead scenario before row line node older newer r → IsAtPosition line.order → (request : ℕ → ℕ → Op) (stories : Stories)
+    → IsAllowed (record { owner = owner_in ahead scenario (before ++ row ∷ later); request = request }) stories (name_of r) (ordered_command (next_name (names_after_ticks node.policy node.draws older)) line.number line.order)

@@ -1,0 +1,32 @@
+-- What the logs of a journal name was drawn, where each command is allowed by the owners of names.
+use Rattle.std.specs.Prelude.{◌≡◌, ℕ, ◌≤◌, ◌++◌, Some}
+use Rattle.sc_base.specs.Among.{Among, Each}
+use Rattle.sc_base.specs.declared.names.Draw.{Draw}
+use Rattle.sc_base.specs.declared.ops.Op.{Op}
+use Rattle.sc_cmd.specs.declared.commands.Command.{Command}
+use Rattle.sc_cmd.specs.declared.cores.Base.{Base}
+use Rattle.sc_sound.specs.Players.{Ahead, Lawful}
+use Rattle.sc_ring_law.specs.Allowed.{IsAllowed}
+use Rattle.sc_ring_law.specs.Laws.{draw_of}
+use Rattle.sc_ring_law.specs.Stories.{Stories}
+use Rattle.sc_scenario.specs.declared.scenarios.Scenario.{Scenario}
+use Rattle.sc_sound.specs.Logs.{decided_log}
+use Rattle.sc_names_law.specs.Fresh.{BeginsUndrawn}
+use Rattle.sc_names_law.specs.Laws.{IsDrawn}
+use Rattle.sc_names_law.specs.Owners.{Rows, owner_in}
+
+-- a Begin or a Split that is allowed in the log of a group brings a name that was drawn for it, by a node: no group of a scenario has it
+abbrev pub AllowedNamesAreDrawn : Type 0
+AllowedNamesAreDrawn = (ahead : Ahead) (scenario : Scenario) (rows : Rows) (request : ℕ → ℕ → Op) (stories : Stories) (group : Draw) (command : Command) (name : Draw)
+    → IsAllowed (record { owner = owner_in ahead scenario rows; request = request }) stories group command → draw_of command ≡ Some name → IsDrawn ahead scenario rows name group × (1 ≤ name.node)
+
+-- one that stands in a log after these rows was drawn in them, by whichever rows that go on so its owner is read
+abbrev pub LoggedNamesAreDrawn : Type 0
+LoggedNamesAreDrawn = (ahead : Ahead) (words : ℕ → ℕ → ℕ × ℕ) (scenario : Scenario) → Each BeginsUndrawn scenario.groups → (rows more : Rows) → Lawful ahead words scenario rows
+    → (base : Base) (command : Command) → Among command (decided_log ahead base rows) → (request : ℕ → ℕ → Op) (stories : Stories) (group name : Draw)
+    → IsAllowed (record { owner = owner_in ahead scenario (rows ++ more); request = request }) stories group command → draw_of command ≡ Some name → IsDrawn ahead scenario rows name group
+
+-- what is allowed by the owners of some rows is allowed by those of more rows
+abbrev pub MoreOwnersAllow : Type 0
+MoreOwnersAllow = (ahead : Ahead) (scenario : Scenario) (rows more : Rows) (request : ℕ → ℕ → Op) (stories : Stories) (group : Draw) (command : Command)
+    → IsAllowed (record { owner = owner_in ahead scenario rows; request = request }) stories group command → IsAllowed (record { owner = owner_in ahead scenario (rows ++ more); request = request }) stories group command

@@ -1,0 +1,93 @@
+-- Whose each name is: the group for which an order or a policy drew it, read off the rows of a journal.
+use Rattle.std.specs.Prelude.{ℕ, nat_le, Bool, ◌&&◌, ◌||◌, not, List, [], ◌∷◌, ◌++◌, if◌then◌else◌, Option, Some, None, is_some, is_none}
+use Rattle.sc_base.specs.Drawing.{Drawer, next_name}
+use Rattle.sc_base.specs.Same.{same_draw}
+use Rattle.sc_base.specs.declared.names.Draw.{Draw}
+use Rattle.sc_cmd.specs.declared.orders.OrderLine.{OrderLine}
+use Rattle.sc_mail.specs.declared.bodies.Mail.{Mail}
+use Rattle.sc_member.specs.Roster.{is_member}
+use Rattle.sc_actor.specs.declared.rows.Row.{Row}
+use Rattle.sc_actor.specs.declared.rows.Event.{Event}
+use Rattle.sc_actor.specs.declared.rows.Event.TheVariants.{Deliver, Drop, Again, Go, Tick, Crash, Told}
+use Rattle.sc_actor.specs.Replay.{value}
+use Rattle.sc_node_table.specs.Node.{replica_of, group_of_order}
+use Rattle.sc_node_table.specs.Ordering.{takes_name, untaken}
+use Rattle.sc_node_table.specs.Policy.{wished_line, names_after_tick}
+use Rattle.sc_node_table.specs.Reminders.{waited_in}
+use Rattle.sc_node_table.specs.Replica.{ReplicaState, members, settled, either}
+use Rattle.sc_sound.specs.Players.{Ahead, Player, player_table, node_seat}
+use Rattle.sc_mail.specs.declared.roles.Role.TheVariants.{Node, Client}
+use Rattle.sc_scenario.specs.declared.scenarios.Scenario.{Scenario}
+
+-- rows of a journal
+abbrev pub Rows : Type 0
+Rows = List (Row Mail OrderLine)
+
+-- a name, and the group for which it was drawn
+pub record Owned : Type 0 where
+  pub name : Draw
+  pub group : Draw
+
+-- a name that was drawn for this group
+abbrev pub owned_by : Draw → Draw → Owned
+owned_by name group = record { name = name; group = group }
+
+-- what an order draws where this replica has its group: the next name of its node, if it takes one and is taken
+abbrev pub drawn_for : Drawer → OrderLine → Option ReplicaState → List Owned
+drawn_for drawer line None = []
+drawn_for drawer line (Some r) = if takes_name line.order && is_none (untaken drawer line r) then owned_by (next_name drawer) (group_of_order line.order) ∷ [] else []
+
+-- a replica that has waited one tick longer
+abbrev pub waited : ReplicaState → ReplicaState
+waited r = waited_in r.group.core.lock r
+
+-- what a policy, if it is on, orders at a tick of a replica: only a settled member makes an order
+abbrev pub wished_at : Bool → ReplicaState → Option OrderLine
+wished_at on r =
+    if is_some r.group.core.gone || not (is_member (members r) r.me) then None
+    else if not (settled r) then None
+    else wished_line on (waited r)
+
+-- what is drawn for it, if it makes one
+abbrev pub drawn_wishing : Drawer → Option OrderLine → ReplicaState → List Owned
+drawn_wishing drawer None r = []
+drawn_wishing drawer (Some line) r = drawn_for drawer line (Some r)
+
+-- what replicas draw at a tick, in their order, each from the name on that those before it left
+abbrev pub drawn_ticking : Bool → Drawer → List ReplicaState → List Owned
+drawn_ticking on drawer [] = []
+drawn_ticking on drawer (r ∷ replicas) = drawn_wishing drawer (wished_at on r) (waited r) ++ drawn_ticking on (names_after_tick on drawer r) replicas
+
+-- what a player draws at an event: only a node that is told an order or ticks draws
+abbrev pub names_drawn : Player → Event OrderLine → List Owned
+names_drawn (Node node) (Told line) = drawn_for node.draws line (replica_of (group_of_order line.order) node.replicas)
+names_drawn (Node node) Tick = drawn_ticking node.policy node.draws node.replicas
+names_drawn (Node node) (Deliver mail) = []
+names_drawn (Node node) Go = []
+names_drawn (Node node) Crash = []
+names_drawn (Node node) (Drop mail) = []
+names_drawn (Node node) (Again mail) = []
+names_drawn (Client client) event = []
+
+-- whether this is the number of a node of the scenario
+abbrev pub is_node_of : Scenario → ℕ → Bool
+is_node_of scenario who = nat_le 1 who && nat_le who scenario.nodes
+
+-- what a row after these draws
+abbrev pub drawn_at : Ahead → Scenario → Rows → Row Mail OrderLine → List Owned
+drawn_at ahead scenario before row =
+    if is_node_of scenario row.who then names_drawn (value player_table (node_seat ahead scenario.groups scenario.policy row.who) before) row.event else []
+
+-- the group for which a name was drawn, if it is one of these
+abbrev pub owner_by : List Owned → Draw → Option Draw
+owner_by [] name = None
+owner_by (owned ∷ more) name = if same_draw owned.name name then Some owned.group else owner_by more name
+
+-- the group for which the rows after these drew a name
+abbrev pub owner_from : Ahead → Scenario → Rows → Rows → Draw → Option Draw
+owner_from ahead scenario before [] name = None
+owner_from ahead scenario before (row ∷ rows) name = either (owner_by (drawn_at ahead scenario before row) name) (owner_from ahead scenario (before ++ row ∷ []) rows name)
+
+-- the group for which a journal drew a name: the owner of the name
+abbrev pub owner_in : Ahead → Scenario → Rows → Draw → Option Draw
+owner_in ahead scenario rows name = owner_from ahead scenario [] rows name

@@ -1,8 +1,0 @@
-use Rattle.std.proofs.Common.{◌≡◌, drop}
-use Rattle.sc_node_choices.specs.Places.{place_from}
-use Rattle.sc_node_choices.proofs.places.first_at.Given as goal
-
--- it is not among those so far
-abbrev pub invariant-loop-i : goal.invariant-loop-i
-invariant-loop-i g l =
-    place_from l.i l.group (drop l.i (g.H.Holder.node l.holder).replicas) ≡ place_from 0 l.group (g.H.Holder.node l.holder).replicas

@@ -1,0 +1,4 @@
+mod Counting
+mod Flying
+mod Places
+mod Placing

@@ -1,0 +1,11 @@
+use Rattle.std.proofs.Common.{ℕ, List, sym, subst}
+use Rattle.sc_paxos_words.specs.declared.reports.Report.{Report}
+use Rattle.sc_paxos_words.specs.Acceptors.{IsWholeAcceptor}
+use Rattle.sc_paxos_words.proofs.AcceptorLemmas.{whole_by_cut}
+use Rattle.sc_paxos.proofs.acceptor.Acceptor.cut.Goals as goal
+
+pub invariant_of-self : goal.invariant_of-self
+invariant_of-self g c =
+    let floor = λ (n : ℕ). λ (accepted : List (Report g.row.V.Denot)). IsWholeAcceptor (record { promised = c.self.inside.promised; floor = n; accepted = accepted }) in
+    subst (λ (n : ℕ). floor n c.forget.new.accepted.items) (sym c.max-self-inside.ensures)
+    (subst (floor _) (sym c.forget.ensures.items) (whole_by_cut _ c.args.upto c.self.invariant))

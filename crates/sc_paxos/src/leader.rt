@@ -1,0 +1,274 @@
+//! The leader.
+ghost use Rattle.std.specs.Prelude.{◌≡◌, IfOk, OnOk, OnErr, None};
+ghost use Rattle.std.specs.Option.{option_copied, option_map};
+ghost use Rattle.sc_member.specs.Roster.{is_member};
+ghost use Rattle.sc_paxos_words.specs.Choice.{names_above};
+ghost use Rattle.sc_paxos_words.specs.Leaders.{Obeys, first_leader, new_leader, promise_counted, is_settled, must, flight_at, with_flight_at, without_flight_at};
+ghost use Rattle.sc_paxos_words.specs.Votes.{counted, has_counted};
+
+use crate::flights::{flight_at, set_voters, take_out};
+use crate::picking::pick;
+use crate::voters::{are_majority, count_of, voters_after};
+use sc_base::{Ballot, Dup, OutOfMemory};
+use sc_member::Members;
+use sc_paxos_words::{Counted, Flight, Must, Report};
+use std::alloc::Global;
+use std::marker::Model;
+
+/// A leader of one ballot of one group's log. Contracts see its ballot, whether it is the group's
+/// first, the next slot when it was elected, who promised it, their reports in the order in which
+/// they were counted, and what is in flight.
+#[derive(Drop)]
+pub struct Leader<V> {
+    ballot: Ballot,
+    is_first: bool,
+    from: u32,
+    promisers: Vec<u16>,
+    reports: Vec<Report<V>>,
+    flights: Vec<Flight<V>>,
+    alloc: Global,
+}
+
+impl<V> Model for Leader<V> {
+    ghost use Rattle.sc_paxos_words.specs.Leaders.{LeaderState};
+    ghost use Rattle.sc_paxos.specs.OneEach.{IsOneEach};
+
+    ghost Value = { LeaderState V };
+
+    ghost view = { λ l.
+        record {
+          ballot = l.ballot;
+          is_first = l.is_first;
+          from = l.from;
+          promisers = l.promisers.items;
+          reports = l.reports.items;
+          flights = l.flights.items;
+        } };
+
+    ghost invariant = { λ l. IsOneEach l.flights.items };
+}
+
+impl<V> Leader<V> {
+    /// The leader of the group's first ballot, which needs no promises.
+    pub fn first(alloc: Global, ballot: Ballot) -> Leader<V>
+        ensures { result ≡ first_leader ballot }
+    {
+        Leader {
+            ballot,
+            is_first: true,
+            from: 1,
+            promisers: Vec::new(alloc),
+            reports: Vec::new(alloc),
+            flights: Vec::new(alloc),
+            alloc,
+        }
+    }
+
+    /// A leader of another ballot, elected when `from` was the next slot: no promise is counted and
+    /// nothing is in flight.
+    pub fn elect(alloc: Global, ballot: Ballot, from: u32) -> Leader<V>
+        ensures { result ≡ new_leader ballot from }
+    {
+        Leader {
+            ballot,
+            is_first: false,
+            from,
+            promisers: Vec::new(alloc),
+            reports: Vec::new(alloc),
+            flights: Vec::new(alloc),
+            alloc,
+        }
+    }
+
+    /// Its ballot.
+    pub fn ballot(&self) -> Ballot
+        ensures { result ≡ self.now.ballot }
+    {
+        self.ballot
+    }
+
+    /// Whether its ballot is the group's first, which needs no promises.
+    pub fn is_first(&self) -> bool
+        ensures { result ≡ self.now.is_first }
+    {
+        self.is_first
+    }
+
+    /// Whether it is settled: its ballot is not below the promise of its own acceptor, and it is
+    /// the first or a majority of the members of the next slot promised it.
+    pub fn settled(&self, promised: Ballot, members: &Members) -> bool
+        ensures { result ≡ is_settled promised members.now self.now }
+    {
+        if self.ballot < promised {
+            return false;
+        }
+        self.is_first || members.is_majority(self.promisers.as_slice())
+    }
+
+    /// The value in flight at a slot, if there is one.
+    pub fn flight(&self, slot: u32) -> Option<&V>
+        ensures { option_copied result
+            ≡ option_map (λ flight. flight.value) (flight_at slot self.now.flights) }
+    {
+        match flight_at(self.flights.as_slice(), slot) {
+            Some(flight) => Some(&flight.value),
+            None => None,
+        }
+    }
+
+    /// Whether a node's vote was counted for what is in flight at a slot.
+    pub fn voted(&self, slot: u32, node: u16) -> bool
+        ensures { result ≡ has_counted slot node self.now }
+    {
+        match flight_at(self.flights.as_slice(), slot) {
+            Some(flight) => match &flight.voters {
+                Some(voters) => voters.has(node),
+                None => false,
+            },
+            None => false,
+        }
+    }
+
+    /// Takes out what is in flight at a slot; there is none exactly where nothing is.
+    pub fn land(&mut self, slot: u32) -> Option<V>
+        ensures value { result
+            ≡ option_map (λ flight. flight.value) (flight_at slot self.old.flights) }
+        ensures after { self.new ≡ without_flight_at slot self.old }
+        ensures empty { flight_at slot self.new.flights ≡ None }
+    {
+        match take_out(&mut self.flights, slot) {
+            Some(flight) => Some(value_of(flight)),
+            None => None,
+        }
+    }
+}
+
+impl<V: Drop> Leader<V> {
+    /// Counts the promise of a node, with its reports. False exactly where the ballot is not this
+    /// leader's or the node was counted already, and then nothing changes. Refused only for want of
+    /// memory.
+    pub fn on_promise(
+        &mut self,
+        from: u16,
+        ballot: Ballot,
+        mut reports: Vec<Report<V>>,
+    ) -> Result<bool, OutOfMemory>
+        ensures { IfOk result
+            (λ is_counted.
+            promise_counted from ballot reports.items self.old ≡ (is_counted, self.new)) }
+    {
+        if ballot != self.ballot || occurs(self.promisers.as_slice(), from) {
+            return Ok(false);
+        }
+        self.promisers.push(from)?;
+        self.reports.append(&mut reports)?;
+        Ok(true)
+    }
+
+    /// Puts a value in flight at a slot, with no votes. Nothing is in flight there, and the value
+    /// is the one that it must propose, where there is one. After want of memory nothing has
+    /// changed, and the value is dropped.
+    pub fn offer(&mut self, slot: u32, value: V) -> Result<(), OutOfMemory>
+        requires free { flight_at slot self.old.flights ≡ None }
+        requires obeys { Obeys (must slot self.old) value }
+        ensures ok { OnOk result (self.new ≡ with_flight_at slot value self.old) }
+        ensures err { OnErr result (self.new ≡ self.old) }
+    {
+        self.flights.push(Flight {
+            slot,
+            value,
+            voters: None,
+        })?;
+        Ok(())
+    }
+
+    /// Counts a vote for what is in flight at a slot. Only a vote in this leader's ballot counts;
+    /// that of a member is kept, once, and that of another node is not. The value is chosen, and
+    /// the flight taken out, exactly where the kept voters are now a majority of the members; else
+    /// their number is told, 0 where nothing is in flight there in that ballot. At most nine votes
+    /// are kept for a slot.
+    pub fn on_accepted(
+        &mut self,
+        from: u16,
+        ballot: Ballot,
+        slot: u32,
+        members: &Members,
+    ) -> Counted<V>
+        ensures { counted from ballot slot members.now self.old ≡ (result, self.new) }
+    {
+        if ballot != self.ballot {
+            return Counted::NotYet { count: 0 };
+        }
+        let Some(kept) = kept_at(self.flights.as_slice(), slot) else {
+            return Counted::NotYet { count: 0 };
+        };
+        let voters = voters_after(members, from, kept);
+        if !are_majority(members, &voters) {
+            set_voters(&mut self.flights, slot, voters);
+            return Counted::NotYet {
+                count: count_of(&voters),
+            };
+        }
+        match take_out(&mut self.flights, slot) {
+            Some(flight) => Counted::Chosen(value_of(flight)),
+            None => Counted::NotYet { count: 0 },
+        }
+    }
+}
+
+impl<V: Dup + Drop> Leader<V> {
+    /// What it must propose at a slot: what `pick` chooses from the reports in the order in which
+    /// they were counted; a gap where no report names the slot and one names a greater slot; else
+    /// it is free. Refused only for want of memory.
+    pub fn must(&self, slot: u32) -> Result<Must<V>, OutOfMemory>
+        ensures { IfOk result (λ found. found ≡ must slot self.now) }
+    {
+        let found = pick(self.alloc, slot, &self.reports)?;
+        match found {
+            Some(value) => Ok(Must::Value(value)),
+            None => {
+                if names_above(self.reports.as_slice(), slot) {
+                    Ok(Must::Gap)
+                } else {
+                    Ok(Must::Free)
+                }
+            }
+        }
+    }
+}
+
+/// The votes kept for what is in flight at a slot, if anything is.
+fn kept_at<V>(flights: &[Flight<V>], slot: u32) -> Option<Option<Members>>
+    ensures { result ≡ option_map (λ flight. flight.voters) (flight_at slot flights.now) }
+{
+    match flight_at(flights, slot) {
+        Some(flight) => Some(flight.voters),
+        None => None,
+    }
+}
+
+/// The value that was in flight.
+fn value_of<V>(flight: Flight<V>) -> V
+    ensures { result ≡ flight.value }
+{
+    let Flight {
+        slot: _,
+        value,
+        voters: _,
+    } = flight;
+    value
+}
+
+/// Whether a report names a slot above this one.
+fn names_above<V>(reports: &[Report<V>], slot: u32) -> bool
+    ensures { result ≡ names_above slot reports.now }
+{
+    reports.iter().any(|report| slot < report.slot)
+}
+
+/// Whether a node occurs among the nodes.
+fn occurs(nodes: &[u16], node: u16) -> bool
+    ensures { result ≡ is_member nodes.now node }
+{
+    nodes.iter().any(|other| *other == node)
+}

@@ -1,0 +1,12 @@
+use Rattle.std.proofs.Common.{subst, sym}
+use Rattle.std.specs.Prelude.{◌↔◌, IsTrue}
+use Rattle.sc_actor.specs.System.{system}
+use Rattle.sc_actor.specs.Walk.{IsLawful}
+use Rattle.sc_chance.specs.Words.{two_words}
+use Rattle.sc_replay.proofs.Judged.{judged}
+use Rattle.sc_replay.proofs.judging.is_lawful.Goals as goal
+
+pub returns : goal.returns
+returns g c =
+    let s = system g.A.Actor.table g.A.Mail.Parcel.receiver two_words c.args.seats.items in
+    subst (λ b. IsTrue b ↔ IsLawful s c.args.lines.now c.args.rows.now) (sym c.is_some.ensures) (judged s c.args.lines.now c.args.rows.now c.in_ok-left.left c.in_ok-left.ensures)

@@ -1,0 +1,51 @@
+-- How a stage moves along the walk of a schedule.
+use Rattle.std.specs.Prelude.{◌≡◌, ℕ, List, [], ◌∷◌, ◌++◌, Bool, true, false}
+use Rattle.sc_actor.specs.declared.rows.Row.{Row}
+use Rattle.sc_actor.specs.declared.actors.Seat.{Seat}
+use Rattle.sc_actor.specs.declared.schedules.Line.{Line}
+use Rattle.sc_actor.specs.Mail.{mails}
+use Rattle.sc_actor.specs.Replay.{Table, values}
+use Rattle.sc_actor.specs.System.{System, system, are_apart}
+use Rattle.sc_actor.specs.Walk.{Task, Settles, Frees, IsLawful, place_after, onward}
+use Rattle.sc_replay.specs.declared.stages.Stage.{Stage}
+use Rattle.sc_replay.specs.declared.stages.Action.{Action}
+use Rattle.sc_replay.specs.Stages.{Makes}
+
+-- The journal of the stage is lawful, the walk after it has these tasks left, and each actor is its replay.
+pub record IsStageAt {A M O : Type 0} (s : System A M O) (lines : List (Line O)) (stage : Stage A M O) (tasks : List (Task O)) : Type 0 where
+  pub lawful : IsLawful s lines stage.rows
+  pub place : place_after s lines stage.rows ≡ onward s stage.rows tasks stage.skipped stage.unsettled
+  pub seats : stage.seats.items ≡ values s.table s.births stage.rows
+  pub apart : are_apart s.births ≡ true
+
+-- What all calls of one check share: the table, and whom mail is for.
+pub record Rules (A M O : Type 0) : Type 0 where
+  pub table : Table A M O
+  pub receiver : M → ℕ
+
+-- the rules of these parts
+abbrev pub rules_of : {A M O : Type 0} → Table A M O → (M → ℕ) → Rules A M O
+rules_of table receiver = record { table = table; receiver = receiver }
+
+-- the system of these rules, words and births
+abbrev pub with_births : {A M O : Type 0} → Rules A M O → (ℕ → ℕ → ℕ × ℕ) → List (Seat A) → System A M O
+with_births r words births = system r.table r.receiver words births
+
+-- an action was done: its row joined the journal
+pub record Did {A M O : Type 0} (r : Rules A M O) (old new : Stage A M O) (action : Action O) : Type 0 where
+  pub row : Row M O
+  pub makes : Makes r.table (mails old.rows) old.seats.items new.seats.items action row
+  pub rows : new.rows ≡ old.rows ++ row ∷ []
+  pub skipped : new.skipped ≡ old.skipped
+  pub unsettled : new.unsettled ≡ old.unsettled
+
+-- A walk that stands at the old stage with some tasks stands at the new one with others, whatever came before and comes after.
+abbrev pub StageGoes : {A M O : Type 0} → Rules A M O → Stage A M O → List (Task O) → Stage A M O → List (Task O) → Type 0
+StageGoes {A} {M} {O} r old before new after =
+    (words : ℕ → ℕ → ℕ × ℕ) (births : List (Seat A)) (lines : List (Line O)) (rest : List (Task O)) →
+    IsStageAt (with_births r words births) lines old (before ++ rest) → IsStageAt (with_births r words births) lines new (after ++ rest)
+
+-- a task of many deliveries, free or not
+abbrev pub many : {O : Type 0} → Bool → ℕ → Task O
+many false left = Settles left
+many true left = Frees left

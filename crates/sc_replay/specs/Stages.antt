@@ -1,0 +1,42 @@
+-- What a stage keeps of its journal, and what an action makes of its actors.
+use Rattle.std.specs.Prelude.{◌≡◌, ℕ, suc, ◌^◌, ◌==◌, ◌<◌, List, [], ◌∷◌, true, false, if◌then◌else◌, Option, None, Some, length, slice_get, slice_set}
+use Rattle.std.specs.List.{list_any}
+use Rattle.std.specs.Option.{option_map}
+use Rattle.sc_actor.specs.declared.rows.Row.{Row}
+use Rattle.sc_actor.specs.declared.actors.Seat.{Seat}
+use Rattle.sc_actor.specs.declared.rows.Event.{Event}
+use Rattle.sc_actor.specs.Mail.{mails, has_crashed}
+use Rattle.sc_actor.specs.Replay.{Table, input_of, acted}
+use Rattle.sc_actor.specs.System.{network, numbers_of, has_gone}
+use Rattle.sc_replay.specs.declared.stages.Stage.{Stage}
+use Rattle.sc_replay.specs.declared.stages.Action.{Action}
+use Rattle.sc_replay.specs.Actions.{is_of_network}
+use Rattle.sc_replay.specs.Opens.{opens_of}
+
+-- What is kept beside the journal is what the journal says, and the journal is small enough to be counted.
+pub record IsUpToDate {A M O : Type 0} (receiver : M → ℕ) (stage : Stage A M O) : Type 0 where
+  pub all_mails : stage.mails.items ≡ mails stage.rows
+  pub all_pending : stage.pending.items ≡ opens_of receiver (numbers_of stage.seats.items) stage.rows
+  pub all_gone : (who : ℕ) → list_any (λ number. number == who) stage.gone.items ≡ has_gone stage.rows who
+  pub all_crashed : (who : ℕ) → list_any (λ number. number == who) stage.crashed.items ≡ has_crashed stage.rows who
+  pub few_rows : length stage.rows < 2 ^ 31
+  pub few_mails : length (mails stage.rows) < 2 ^ 31
+
+-- the place of the first seat with a number
+abbrev pub place_of : {A : Type 0} → List (Seat A) → ℕ → Option ℕ
+place_of [] who = None
+place_of (seat ∷ seats) who = if seat.who == who then Some 0 else option_map suc (place_of seats who)
+
+-- the row of an event of the actor in a seat, where these mails were sent before it
+abbrev pub row_in : {A M O : Type 0} → Table A M O → Seat A → List M → Event O → Row M O
+row_in table seat sent event = record { who = seat.who; event = event; sent = (acted table seat.actor (input_of sent event)).1 }
+
+-- the seat after an event of its actor
+abbrev pub seat_after : {A M O : Type 0} → Table A M O → Seat A → List M → Event O → Seat A
+seat_after table seat sent event = record { who = seat.who; actor = (acted table seat.actor (input_of sent event)).0 }
+
+-- What an action makes of the seats, and its row, where these mails were sent before it.
+pub record Makes {A M O : Type 0} (table : Table A M O) (sent : List M) (old new : List (Seat A)) (action : Action O) (row : Row M O) : Type 0 where
+  pub by_network : is_of_network action.event ≡ true → (row ≡ network action.event) × (new ≡ old)
+  pub by_actor : is_of_network action.event ≡ false → (place : ℕ) (seat : Seat A) → place_of old action.who ≡ Some place → slice_get old place ≡ Some seat →
+      (row ≡ row_in table seat sent action.event) × (new ≡ slice_set old place (seat_after table seat sent action.event))

@@ -1,0 +1,199 @@
+//! A row joins the journal, and what is kept beside it.
+ghost use Rattle.std.specs.Prelude.{◌≡◌, ℕ, ◌<◌, ◌≤◌, ◌+◌, ◌^◌, ◌++◌, ◌∷◌, [], ◌||◌, ◌&&◌, ◌==◌, nat_lt, length, replicate, OnOk};
+ghost use Rattle.std.specs.List.{list_any, prefix_len};
+ghost use Rattle.sc_actor.specs.Mail.{mails, numbered, is_crash};
+ghost use Rattle.sc_actor.specs.System.{numbers_of, is_go};
+ghost use Rattle.sc_replay.specs.Opens.{opens, opened, reopened, runs, without, with_copy, without_to};
+ghost use Rattle.sc_replay.specs.Stages.{IsUpToDate};
+
+use crate::pending::{is_crash, is_go, runs};
+use crate::stages::{OpenCopy, Stage};
+use sc_actor::{Event, Parcel, Row, Seat};
+use sc_base::{Dup, OutOfMemory};
+use std::alloc::Global;
+
+// How many of the copies come first with lower numbers.
+fn lower(pending: &[OpenCopy], number: u32) -> usize
+    ensures place { result ≡ prefix_len (λ copy. nat_lt copy.number number) pending.now }
+    ensures bound { result ≤ length pending.now }
+{
+    for i in 0..pending.len() {
+        if pending[i].number >= number {
+            return i;
+        }
+    }
+    pending.len()
+}
+
+// A copy of a mail is pending no more, if one was.
+fn close_one(pending: &mut Vec<OpenCopy>, number: u32)
+    ensures { pending.new.items ≡ without pending.old.items number }
+{
+    let place = lower(pending, number);
+    if place < pending.len() && pending[place].number == number {
+        pending.remove(place);
+    }
+}
+
+// One more copy is pending.
+fn open_one(pending: &mut Vec<OpenCopy>, copy: OpenCopy) -> Result<(), OutOfMemory>
+    ensures { OnOk result (pending.new.items ≡ with_copy pending.old.items copy) }
+{
+    let place = lower(pending, copy.number);
+    pending.insert(place, copy)?;
+    Ok(())
+}
+
+// The copies for an actor that crashed are pending no more.
+fn close_all(pending: &mut Vec<OpenCopy>, who: u32)
+    ensures { pending.new.items ≡ without_to pending.old.items who }
+{
+    pending.retain(|copy| copy.to != who);
+}
+
+// A mail is repeated, if it was sent to an actor that runs.
+fn repeat<A, M: Parcel>(
+    seats: &[Seat<A>],
+    crashed: &[u32],
+    mails: &[M],
+    pending: &mut Vec<OpenCopy>,
+    mail: u32,
+) -> Result<(), OutOfMemory>
+    ensures { OnOk result
+        (pending.new.items
+        ≡ reopened M.receiver (runs (numbers_of seats.now) crashed.now) pending.old.items mail
+        (numbered mails.now mail)) }
+{
+    if mail == 0 || mail as usize > mails.len() {
+        return Ok(());
+    }
+    let to = mails[mail as usize - 1].to();
+    if runs(seats, crashed, to) {
+        open_one(pending, OpenCopy { number: mail, to })?;
+    }
+    Ok(())
+}
+
+// What an event makes of the pending copies.
+fn note_event<A, M: Parcel, O>(
+    seats: &[Seat<A>],
+    crashed: &[u32],
+    mails: &[M],
+    pending: &mut Vec<OpenCopy>,
+    who: u32,
+    event: &Event<O>,
+) -> Result<(), OutOfMemory>
+    ensures { OnOk result
+        (pending.new.items
+        ≡ opened M.receiver (runs (numbers_of seats.now) crashed.now) mails.now pending.old.items who
+        event.now) }
+{
+    match event {
+        Event::Deliver(mail) | Event::Drop(mail) => close_one(pending, *mail),
+        Event::Again(mail) => repeat(seats, crashed, mails, pending, *mail)?,
+        Event::Crash => close_all(pending, who),
+        Event::Tick | Event::Go | Event::Told(_) => {}
+    }
+    Ok(())
+}
+
+// An actor joins those that were told to go.
+fn note_go<O>(gone: &mut Vec<u32>, who: u32, event: &Event<O>) -> Result<(), OutOfMemory>
+    ensures { OnOk result
+        ((number : ℕ) → list_any (λ n. n == number) gone.new.items
+        ≡ (list_any (λ n. n == number) gone.old.items || (who == number && is_go event.now))) }
+{
+    if is_go(event) {
+        gone.push(who)?;
+    }
+    Ok(())
+}
+
+// An actor joins those that crashed.
+fn note_crash<O>(crashed: &mut Vec<u32>, who: u32, event: &Event<O>) -> Result<(), OutOfMemory>
+    ensures { OnOk result
+        ((number : ℕ) → list_any (λ n. n == number) crashed.new.items
+        ≡ (list_any (λ n. n == number) crashed.old.items || (who == number && is_crash event.now))) }
+{
+    if is_crash(event) {
+        crashed.push(who)?;
+    }
+    Ok(())
+}
+
+// A copy each of mails that are sent to actors that run. The first has this number.
+fn add_open<A, M: Parcel>(
+    seats: &[Seat<A>],
+    crashed: &[u32],
+    pending: &mut Vec<OpenCopy>,
+    first: u32,
+    sent: &[M],
+) -> Result<(), OutOfMemory>
+    requires few { first + length sent.now < 2 ^ 32 }
+    ensures { OnOk result
+        (pending.new.items
+        ≡ pending.old.items
+        ++ opens M.receiver (runs (numbers_of seats.now) crashed.now) first sent.now
+        (replicate (length sent.now) 1)) }
+{
+    for i in 0..sent.len() {
+        let to = sent[i].to();
+        if runs(seats, crashed, to) {
+            let number = first + i as u32;
+            pending.push(OpenCopy { number, to })?;
+        }
+    }
+    Ok(())
+}
+
+/// Copies of the mails that are sent.
+pub fn add_mails<M: Dup + Drop>(
+    alloc: Global,
+    mails: &mut Vec<M>,
+    sent: &[M],
+) -> Result<(), OutOfMemory>
+    ensures { OnOk result (mails.new.items ≡ mails.old.items ++ sent.now) }
+{
+    for mail in sent {
+        mails.push(mail.dup(alloc)?)?;
+    }
+    Ok(())
+}
+
+/// Appends a row to the journal of a stage.
+pub fn append<A, M: Parcel + Drop, O: Drop>(
+    alloc: Global,
+    stage: &mut Stage<A, M, O>,
+    row: Row<M, O>,
+) -> Result<(), OutOfMemory>
+    requires kept { IsUpToDate M.receiver stage.old }
+    requires rows { length stage.old.rows + 1 < 2 ^ 31 }
+    requires mails { length (mails stage.old.rows) + length row.sent < 2 ^ 31 }
+    ensures kept { OnOk result (IsUpToDate M.receiver stage.new) }
+    ensures rows { OnOk result (stage.new.rows ≡ stage.old.rows ++ row ∷ []) }
+    ensures seats { stage.new.seats.items ≡ stage.old.seats.items }
+    ensures skipped { stage.new.skipped ≡ stage.old.skipped }
+    ensures unsettled { stage.new.unsettled ≡ stage.old.unsettled }
+{
+    let first = stage.mails.len() as u32 + 1;
+    note_event(
+        &stage.seats,
+        &stage.crashed,
+        &stage.mails,
+        &mut stage.pending,
+        row.who,
+        &row.event,
+    )?;
+    note_go(&mut stage.gone, row.who, &row.event)?;
+    note_crash(&mut stage.crashed, row.who, &row.event)?;
+    add_open(
+        &stage.seats,
+        &stage.crashed,
+        &mut stage.pending,
+        first,
+        row.sent.as_slice(),
+    )?;
+    add_mails(alloc, &mut stage.mails, row.sent.as_slice())?;
+    stage.rows.push(row)?;
+    Ok(())
+}

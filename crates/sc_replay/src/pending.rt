@@ -1,0 +1,155 @@
+//! Which mail is pending, by what a stage keeps.
+ghost use Rattle.std.specs.Prelude.{◌≡◌, ◌<◌, ◌%◌, ◌==◌, length, map, filter, is_none, None, IfSome, IsSomeAnd, true};
+ghost use Rattle.std.specs.List.{list_any};
+ghost use Rattle.sc_actor.specs.Mail.{numbered, may_get, is_crash, is_for, pending};
+ghost use Rattle.sc_actor.specs.System.{kth, numbers_of, has_gone, is_go};
+ghost use Rattle.sc_replay.specs.Actions.{is_number, picked_mail};
+ghost use Rattle.sc_replay.specs.Opens.{runs};
+ghost use Rattle.sc_replay.specs.Stages.{IsUpToDate};
+
+use crate::stages::{OpenCopy, Stage};
+use sc_actor::{Event, Parcel, Seat};
+
+/// Whether an event is a crash.
+pub fn is_crash<O>(event: &Event<O>) -> bool
+    ensures { result ≡ is_crash event.now }
+{
+    match event {
+        Event::Crash => true,
+        _ => false,
+    }
+}
+
+/// Whether an event tells to go.
+pub fn is_go<O>(event: &Event<O>) -> bool
+    ensures { result ≡ is_go event.now }
+{
+    match event {
+        Event::Go => true,
+        _ => false,
+    }
+}
+
+/// Whether a number is among these.
+fn is_among(numbers: &[u32], who: u32) -> bool
+    ensures { result ≡ list_any (λ number. number == who) numbers.now }
+{
+    numbers.iter().any(|number| *number == who)
+}
+
+fn has_seat<A>(seats: &[Seat<A>], who: u32) -> bool
+    ensures { result ≡ list_any (λ seat. seat.who == who) seats.now }
+{
+    seats.iter().any(|seat| seat.who == who)
+}
+
+/// Whether there is an actor with a number.
+pub fn is_actor<A>(seats: &[Seat<A>], who: u32) -> bool
+    ensures { result ≡ is_number (numbers_of seats.now) who }
+{
+    has_seat(seats, who)
+}
+
+/// Whether there is an actor with a number that is not among the crashed.
+pub fn runs<A>(seats: &[Seat<A>], crashed: &[u32], who: u32) -> bool
+    ensures { result ≡ runs (numbers_of seats.now) crashed.now who }
+{
+    is_actor(seats, who) && !is_among(crashed, who)
+}
+
+/// Whether an actor was told to go.
+pub fn has_gone<A, M: Parcel, O>(stage: &Stage<A, M, O>, who: u32) -> bool
+    requires { IsUpToDate M.receiver stage.now }
+    ensures { result ≡ has_gone stage.now.rows who }
+{
+    is_among(&stage.gone, who)
+}
+
+/// Whether there is an actor with a number that has not crashed.
+pub fn may_get<A, M: Parcel, O>(stage: &Stage<A, M, O>, who: u32) -> bool
+    requires { IsUpToDate M.receiver stage.now }
+    ensures { result ≡ may_get (numbers_of stage.now.seats.items) stage.now.rows who }
+{
+    runs(&stage.seats, &stage.crashed, who)
+}
+
+// The number of the k-th copy, from 1.
+fn kth_of_all(copies: &[OpenCopy], k: u64) -> Option<u32>
+    ensures { result ≡ kth (map (λ copy. copy.number) copies.now) k }
+{
+    if k == 0 || k > copies.len() as u64 {
+        return None;
+    }
+    Some(copies[k as usize - 1].number)
+}
+
+// The number of the k-th copy for one receiver, from 1.
+fn kth_for(copies: &[OpenCopy], who: u32, k: u64) -> Option<u32>
+    requires { 0 < k }
+    ensures { result
+        ≡ kth (map (λ copy. copy.number) (filter (λ copy. copy.to == who) copies.now)) k }
+{
+    let mut left = k;
+    for copy in copies {
+        if copy.to == who {
+            if left == 1 {
+                return Some(copy.number);
+            }
+            left -= 1;
+        }
+    }
+    None
+}
+
+/// The number of the k-th pending mail of a stage, from 1, of one actor or of all.
+pub fn waiting<A, M: Parcel, O>(stage: &Stage<A, M, O>, whose: Option<u32>, k: u64) -> Option<u32>
+    requires { IsUpToDate M.receiver stage.now }
+    ensures number { result
+        ≡ kth (pending M.receiver (numbers_of stage.now.seats.items) stage.now.rows whose) k }
+    ensures mail { IfSome result (λ number. IsSomeAnd (numbered stage.now.mails.items number)
+        (λ mail.
+        is_for M.receiver (numbers_of stage.now.seats.items) stage.now.rows whose mail ≡ true)) }
+{
+    if k == 0 {
+        return None;
+    }
+    match whose {
+        None => kth_of_all(&stage.pending, k),
+        Some(who) => kth_for(&stage.pending, who, k),
+    }
+}
+
+/// Whether a stage has no pending mail.
+pub fn is_quiet<A, M: Parcel, O>(stage: &Stage<A, M, O>) -> bool
+    requires { IsUpToDate M.receiver stage.now }
+    ensures { result
+        ≡ is_none
+        (kth (pending M.receiver (numbers_of stage.now.seats.items) stage.now.rows None) 1) }
+{
+    waiting(stage, None, 1).is_none()
+}
+
+// How many pending mails there are.
+fn count_pending<A, M: Parcel, O>(stage: &Stage<A, M, O>) -> usize
+    requires { IsUpToDate M.receiver stage.now }
+    ensures { result
+        ≡ length (pending M.receiver (numbers_of stage.now.seats.items) stage.now.rows None) }
+{
+    stage.pending.len()
+}
+
+/// The number of the pending mail at the place that a word gives, counted from 0.
+pub fn picked<A, M: Parcel, O>(stage: &Stage<A, M, O>, word: u32) -> Option<u32>
+    requires { IsUpToDate M.receiver stage.now }
+    ensures number { result
+        ≡ picked_mail M.receiver (numbers_of stage.now.seats.items) stage.now.rows word }
+    ensures mail { IfSome result (λ number. IsSomeAnd (numbered stage.now.mails.items number)
+        (λ mail.
+        is_for M.receiver (numbers_of stage.now.seats.items) stage.now.rows None mail ≡ true)) }
+{
+    let many = count_pending(stage);
+    if many == 0 {
+        return None;
+    }
+    waiting(stage, None, (word as usize % many) as u64 + 1)
+}

@@ -1,2 +1,0 @@
-mod Rising
-pub mod Totals

@@ -1,0 +1,50 @@
+//! The plan of a merge.
+ghost use Rattle.std.specs.Prelude.{◌≡◌, ◌<◌, ◌^◌, IfOk, true};
+ghost use Rattle.sc_member.specs.Union.{united};
+ghost use Rattle.sc_machine_table.specs.Plans.{can_merge, merged_succ, merged_core};
+
+use sc_base::{Dup, OutOfMemory, same_draw};
+use sc_cmd::{Core, Frozen, Link};
+use sc_member::Members;
+use std::alloc::Global;
+
+/// Whether a group of that record can take over its successor, which was frozen so: their arcs meet
+/// and are not longer than the ring, and together they have at most nine members.
+pub fn can_merge(core: &Core, frozen: &Frozen) -> bool
+    ensures { result ≡ can_merge core.now frozen.now }
+{
+    core.arc.join(&frozen.arc).is_ok() && core.members.count_with(&frozen.members) <= 9
+}
+
+/// The group after it took over its successor: it has both arcs as one and the members of both, and
+/// its successor is the other's; of two groups that make the ring it is its own. `can_merge` tells
+/// whether it can. Pairs and client table lie beside the record, and are no part of the plan.
+pub fn plan_merge(alloc: Global, core: &Core, frozen: &Frozen) -> Result<Core, OutOfMemory>
+    requires { can_merge core.now frozen.now ≡ true }
+    ensures { IfOk result (λ after. after ≡ merged_core core.now frozen.now) }
+{
+    let Ok(arc) = core.arc.join(&frozen.arc) else {
+        unreachable!();
+    };
+    let members = core.members.union(&frozen.members);
+    let succ = succ_of(core, frozen, members);
+    let mut after = core.dup(alloc)?;
+    after.arc = arc;
+    after.members = members;
+    after.succ = succ;
+    Ok(after)
+}
+
+/// Who stands after both: the successor's successor, or the group itself with all members.
+fn succ_of(core: &Core, frozen: &Frozen, members: Members) -> Link
+    requires { members ≡ united core.now.members frozen.now.members }
+    ensures { result ≡ merged_succ core.now frozen.now }
+{
+    if same_draw(frozen.succ.group, core.id) {
+        return Link {
+            group: core.id,
+            members,
+        };
+    }
+    frozen.succ
+}

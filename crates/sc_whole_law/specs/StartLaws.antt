@@ -1,0 +1,13 @@
+-- How every valid scenario begins.
+use Rattle.std.specs.Prelude.{◌≡◌, Option, None}
+use Rattle.sc_base.specs.declared.names.Draw.{Draw}
+use Rattle.sc_node_table.specs.Slots.{slots_ahead}
+use Rattle.sc_sound.specs.Players.{Ahead}
+use Rattle.sc_scenario.specs.Valid.{IsValid}
+use Rattle.sc_scenario.specs.declared.scenarios.Scenario.{Scenario}
+use Rattle.sc_whole_law.specs.Begins.{IsReady, section_op}
+
+-- each valid scenario is ready, with requests as its clients' sections say, for whichever groups nodes draw names
+abbrev pub ValidScenariosBeginWell : Type 0
+ValidScenariosBeginWell = (owner : Draw → Option Draw) → ((name : Draw) → name.node ≡ 0 → owner name ≡ None) → (ahead : Ahead) → ahead.slots ≡ slots_ahead
+    → (scenario : Scenario) → IsValid scenario → IsReady (record { owner = owner; request = section_op scenario }) ahead scenario

@@ -1,4 +1,0 @@
-mod Parses
-mod Plain
-mod Shapes
-mod Values
