@@ -73,7 +73,8 @@ impl ClientCore {
 
     /// Its requests, numbered from 1 by their places.
     pub fn requests(&self) -> &Sequence<Op>
-        ensures { result.now ≡ self.now.requests }
+        ensures same { result.now ≡ self.now.requests }
+        ensures few { length self.now.requests ≤ most_requests }
     {
         &self.requests
     }

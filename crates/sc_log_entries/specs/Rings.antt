@@ -18,10 +18,13 @@ use Rattle.sc_log_entries.specs.declared.Cut.{Cut}
 use Rattle.sc_log_entries.specs.declared.Division.{Division}
 use Rattle.sc_log_entries.specs.Births.{division_of}
 
+-- each cut has an arc of the ring
+abbrev pub HaveArcs : List Cut → Type 0
+HaveArcs ring = (cut : Cut) → Among cut ring → IsArc cut.arc × (cut.arc.lo < 2 ^ 32)
+
 -- the ring covers: each position lies in the arc of exactly one cut, and no group has two
 pub record Covers (ring : List Cut) : Type 0 where
-  -- each cut has an arc of the ring
-  pub arcs : (cut : Cut) → Among cut ring → IsArc cut.arc × (cut.arc.lo < 2 ^ 32)
+  pub arcs : HaveArcs ring
   -- each position lies in one
   pub some : (p : ℕ) → p < 2 ^ 32 → (cut : Cut) × Among cut ring × IsTrue (holds cut.arc p)
   -- and in no other

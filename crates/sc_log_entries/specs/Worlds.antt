@@ -1,5 +1,5 @@
 -- What the entries of all logs make of all groups, entry by entry.
-use Rattle.std.specs.Prelude.{Bool, List, [], ◌++◌, map, fold, find, if◌then◌else◌, Option, Some, None}
+use Rattle.std.specs.Prelude.{◌≡◌, Bool, List, [], ◌++◌, map, fold, find, if◌then◌else◌, Option, Some, None}
 use Rattle.std.specs.Option.{option_to_list}
 use Rattle.sc_base.specs.Same.{same_draw}
 use Rattle.sc_base.specs.declared.names.Draw.{Draw}
@@ -15,7 +15,7 @@ use Rattle.sc_log_entries.specs.declared.Cut.{Cut}
 use Rattle.sc_log_entries.specs.declared.LogEntry.{LogEntry}
 use Rattle.sc_log_entries.specs.declared.Transaction.{Transaction}
 use Rattle.sc_log_entries.specs.Decisions.{transactions_after}
-use Rattle.sc_log_entries.specs.Rings.{first_cut, ring_after}
+use Rattle.sc_log_entries.specs.Rings.{Covers, first_cut, ring_after}
 
 -- all groups, after some entries
 pub record StoreWorld : Type 0 where
@@ -73,3 +73,7 @@ world_after = fold told
 -- what the entries make of the groups of a scenario
 abbrev pub world_of : List Base → List LogEntry → StoreWorld
 world_of bases = world_after (first_world bases)
+
+-- the ring covers after each first part of the entries
+abbrev pub CoverThroughout : List Base → List LogEntry → Type 0
+CoverThroughout bases entries = (before later : List LogEntry) → entries ≡ before ++ later → Covers (world_of bases before).ring

@@ -26,7 +26,7 @@ use Rattle.sc_log_law.proofs.Findings.{told_rows}
 use Rattle.sc_log_entries.proofs.Names.{draw_cases}
 
 -- entries that are allowed one after another, in two parts
-allowed_parts : (sources : Sources) (w : ToldWorld) (entries more : List LogEntry) → AreAllowed sources w (entries ++ more) → AreAllowed sources w entries × AreAllowed sources (told_after w entries) more
+pub allowed_parts : (sources : Sources) (w : ToldWorld) (entries more : List LogEntry) → AreAllowed sources w (entries ++ more) → AreAllowed sources w entries × AreAllowed sources (told_after w entries) more
 allowed_parts sources w [] more a = (tt, a)
 allowed_parts sources w (e ∷ entries) more a = let (first, rest) = allowed_parts sources (told_on w e) entries more a.1 in ((a.0, first), rest)
 

@@ -20,10 +20,13 @@ use Rattle.sc_paxos_law.proofs.Among.{Among-left}
 use Rattle.sc_sound.specs.Players.{Ahead}
 use Rattle.sc_scenario.specs.declared.scenarios.Scenario.{Scenario}
 use Rattle.sc_hist_law.specs.Worlds.{BeginBare}
-use Rattle.sc_ring_law.specs.Allowed.{Sources}
+use Rattle.sc_log_entries.specs.Worlds.{CoverThroughout}
+use Rattle.sc_ring_law.specs.Allowed.{Sources, AreAllowed, first_told}
+use Rattle.sc_ring_law.proofs.Sound.{entries_keep_the_ring}
+use Rattle.sc_log_law.proofs.Allowing.{allowed_parts}
 use Rattle.sc_ring_law.specs.Laws.{BeginInPlace}
 use Rattle.sc_log_law.specs.OneMap.{AllowedEntriesMakeOneMap}
-use Rattle.sc_sound.specs.GroupsOf.{history_at}
+use Rattle.sc_sound.specs.GroupsOf.{entries_at, history_at}
 use Rattle.sc_sound.specs.Requests.{IsRequest, issue_row}
 use Rattle.sc_sound.specs.Soundness.{AnswersRequests, told_row, IsTimely, KeepsRealTime, IsSound}
 use Rattle.sc_log_law.specs.Descent.{Rows}
@@ -33,7 +36,7 @@ use Rattle.sc_log_law.specs.Beside.{IsIssuedIn, IsDecidedBefore, HoldsBeside}
 use Rattle.sc_log_law.specs.Laws.{JournalsInTurnAreSound}
 use Rattle.sc_log_law.proofs.Children.{state_append}
 use Rattle.sc_log_law.proofs.Parts.{in_turn_parts}
-use Rattle.sc_log_law.proofs.Findings.{entries_tell_one_map, entries_are_logs}
+use Rattle.sc_log_law.proofs.Findings.{entries_tell_one_map, entries_are_logs, entries_are_allowed}
 use Rattle.sc_log_law.proofs.Histories.{history_is_told, told_rows_stay}
 use Rattle.sc_log_law.proofs.Notes.{replied_noted}
 use Rattle.sc_log_law.proofs.Times.{among_place, one_place, told_in_order, issue_within, issue_stays}
@@ -166,12 +169,18 @@ module _ (law : AllowedEntriesMakeOneMap) (sources : Sources) (ahead : Ahead) (s
             absurd (omega (arith, order, before, le, one_issue, after)))
       ]
 
+  rings : CoverThroughout bases (entries_at ahead bases rows)
+  rings before later are =
+      let allowed = entries_are_allowed sources ahead bases start rows turn in
+      (entries_keep_the_ring sources bases before start (allowed_parts sources (first_told bases) before later (subst (AreAllowed sources (first_told bases)) are allowed)).0).covers
+
   pub sound_rows : IsSound ahead scenario rows more
   sound_rows = record {
     one_log = λ base a. (let v = beside.values base a in record { one_value = v.one_value; is_log = v.is_log; longest = v.longest; grows = stay.logs base a });
     states = λ base a. (entries_are_logs sources ahead bases start rows turn).states base.core.id;
     have_run = beside.have_run;
     whole = map.map;
+    rings = rings;
     answers = answers;
     timely = timely;
     real_time = real_time;

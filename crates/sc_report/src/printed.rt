@@ -212,7 +212,7 @@ fn add_counts(
     all.push(count_line(alloc, b"rows ", summary.rows as u64)?)?;
     all.push(count_line(alloc, b"mail ", summary.mail as u64)?)?;
     all.push(count_line(alloc, b"delivered ", summary.delivered as u64)?)?;
-    all.push(count_line(alloc, b"skipped ", summary.skipped as u64)?)?;
+    all.push(count_line(alloc, b"skipped ", summary.skipped)?)?;
     all.push(quiet_line(alloc, summary.quiet)?)?;
     Ok(())
 }

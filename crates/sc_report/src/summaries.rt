@@ -41,7 +41,7 @@ pub struct Summary {
     /// How many deliveries there were.
     pub delivered: u32,
     /// How many schedule lines were skipped.
-    pub skipped: u32,
+    pub skipped: u64,
     /// Whether no mail is pending.
     pub quiet: bool,
 }

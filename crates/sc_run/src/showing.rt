@@ -6,6 +6,7 @@ ghost use Rattle.sc_scan.specs.Text.{scan_lines};
 ghost use Rattle.sc_scenario.specs.Valid.{IsValid};
 ghost use Rattle.sc_sound.specs.GroupsOf.{entries_at, world_at};
 ghost use Rattle.sc_sound.specs.Players.{as_nodes};
+ghost use Rattle.sc_sound.specs.Soundness.{IsSoundThroughout};
 ghost use Rattle.sc_run.specs.Run.{Comes};
 ghost use Rattle.sc_run.specs.Shown.{ShowsScan};
 
@@ -44,7 +45,8 @@ fn lines_of(
     rows: &[Row<Mail, OrderLine>],
     sight: Sight,
 ) -> Result<Sequence<ReportLine>, OutOfMemory>
-    requires { 1 ≤ sight.most }
+    requires some { 1 ≤ sight.most }
+    requires sound { IsSoundThroughout as_nodes scenario.now rows.now }
     ensures lines { IfOk result (λ lines. lines ≡
         scan_lines sight.most (length (take sight.rows rows.now))
         (scan_of (world_at as_nodes scenario.now.groups (take sight.rows rows.now))

@@ -2,6 +2,7 @@
 ghost use Rattle.std.specs.Prelude.{◌≡◌, ◌<◌, ◌^◌, map, IfOk};
 ghost use Rattle.sc_base.specs.Arc.{IsArc};
 ghost use Rattle.sc_log_entries.specs.Effective.{effective};
+ghost use Rattle.sc_log_entries.specs.Worlds.{CoverThroughout};
 ghost use Rattle.sc_sound.specs.Players.{as_nodes};
 ghost use Rattle.sc_sound.specs.GroupsOf.{entries_at, world_at};
 ghost use Rattle.sc_scan.specs.Scan.{entries_in, pairs_in, scan_of, shown};
@@ -73,6 +74,7 @@ fn scan_of(
     entries: &[LogEntry],
     arc: &RingArc,
 ) -> Result<Vec<Shown>, OutOfMemory>
+    requires { CoverThroughout bases.now (entries_at as_nodes bases.now rows.now) }
     ensures scan { IfOk result
         (λ scan. scan.items ≡ scan_of world.now (entries_in entries.now) arc.now) }
     ensures arc { IsArc arc.now × (arc.now.lo < 2 ^ 32) }
@@ -86,9 +88,9 @@ fn scan_of(
     Ok(scan)
 }
 
-/// What an arc of the circle holds after some rows, part by part, from the arc's start on. The rows
-/// are gone through once, whatever groups there are. Refused for want of memory, and where an entry
-/// would leave a cut that is no arc.
+/// What an arc of the circle holds after some rows, part by part, from the arc's start on, where the
+/// ring covers after each of their entries. The rows are gone through once, whatever groups there
+/// are. Refused only for want of memory.
 pub fn scan(
     alloc: Global,
     bases: &[Base],

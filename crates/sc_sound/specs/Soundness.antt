@@ -22,9 +22,9 @@ use Rattle.sc_scenario.specs.declared.scenarios.Scenario.{Scenario}
 use Rattle.sc_log_entries.specs.declared.Cut.{Cut}
 use Rattle.sc_log_entries.specs.Rings.{Covers}
 use Rattle.sc_log_entries.specs.Parts.{IsPlaced, ServesItsCut, HoldsItsPart}
-use Rattle.sc_log_entries.specs.Worlds.{StoreWorld, named_group}
+use Rattle.sc_log_entries.specs.Worlds.{StoreWorld, named_group, CoverThroughout}
 use Rattle.sc_sound.specs.Accepts.{accepts}
-use Rattle.sc_sound.specs.GroupsOf.{groups_at, log_at, state_at, world_at, history_at}
+use Rattle.sc_sound.specs.GroupsOf.{groups_at, entries_at, log_at, state_at, world_at, history_at}
 use Rattle.sc_sound.specs.Logs.{rule_of, IsChosenIn, decided_log}
 use Rattle.sc_sound.specs.Requests.{IsRequest, issue_row, kept_reply, answer_row}
 
@@ -123,6 +123,8 @@ pub record IsSound (ahead : Ahead) (scenario : Scenario) (rows more : List (Row 
   pub have_run : AllHaveRun ahead scenario rows
   -- (c), (d), (e) the groups together are one map
   pub whole : IsOneMap (world_at ahead scenario.groups rows)
+  -- and the ring covered after each entry before
+  pub rings : CoverThroughout scenario.groups (entries_at ahead scenario.groups rows)
   -- (f) the history is of the scenario's requests, with the replies that clients keep
   pub answers : AnswersRequests ahead scenario rows
   -- (g) each entry stands between its issue and its answer

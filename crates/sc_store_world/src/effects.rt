@@ -1,8 +1,10 @@
 //! Effects, and what they decide.
 ghost use Rattle.std.specs.Prelude.{◌≡◌};
+ghost use Rattle.std.specs.Option.{option_copied};
 ghost use Rattle.sc_log_entries.specs.Births.{division_in, division_of};
+ghost use Rattle.sc_log_entries.specs.Rings.{decided_by};
 
-use sc_cmd::{Body, Command, Core, Effect, Lock};
+use sc_cmd::{Body, Command, Core, Effect, Lock, Outcome};
 use sc_log_entries::Division;
 
 // The division that a group coordinates, if it does.
@@ -41,6 +43,16 @@ pub(crate) fn division_of(core: &Core, command: &Command, effect: &Effect) -> Op
             }
             None
         }
+        _ => None,
+    }
+}
+
+/// What an entry decides for its group as coordinator: by its participant's vote or its watcher's.
+pub(crate) fn decided_by<'a>(command: &Command, effect: &'a Effect) -> Option<&'a Outcome>
+    ensures { option_copied result ≡ decided_by command.now effect.now }
+{
+    match command {
+        Command::RecordVote { .. } | Command::RecordWatch { .. } => effect.outcome(),
         _ => None,
     }
 }

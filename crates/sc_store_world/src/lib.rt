@@ -4,11 +4,14 @@
 #![tactic(auto)]
 
 mod effects;
+mod faults;
 mod groups;
 mod rings;
+mod spans;
 mod tellings;
 mod worlds;
 
+pub use faults::TellFault;
 pub use rings::{first_cuts, ring_after};
 pub use tellings::{decision, tell};
 pub use worlds::{StoreWorld, world_of};

@@ -1,11 +1,13 @@
 //! The ring, as a list of cuts.
-ghost use Rattle.std.specs.Prelude.{◌≡◌, ◌++◌, ◌∷◌, [], map, not, filter, find, if◌then◌else◌, IfOk, OnOk};
+ghost use Rattle.std.specs.Prelude.{◌≡◌, ◌++◌, ⊥, Some, map, not, filter, find, IfOk, OnOk, MatchResult};
 ghost use Rattle.std.specs.List.{flat_map};
 ghost use Rattle.std.specs.Option.{option_copied};
-ghost use Rattle.sc_base.specs.Arc.{offset, before, from, joined};
-ghost use Rattle.sc_log_entries.specs.Rings.{first_cut, is_cut_of, arc_in, recut, parts_of, both_arcs, ring_merged, ring_moved, ring_divided, ring_decided, decided_by, ring_after};
+ghost use Rattle.sc_log_entries.specs.Rings.{HaveArcs, first_cut, is_cut_of, arc_in, recut, parts_of, both_arcs, ring_moved, ring_decided, ring_divided, decided_by, ring_after};
+ghost use Rattle.sc_store_world.specs.declared.faults.TellFault.TheVariants.{NoArc};
 
-use crate::effects::division_of;
+use crate::effects::{decided_by, division_of};
+use crate::faults::TellFault;
+use crate::spans::{Span, Stretch, cuts_of, spans_of};
 use sc_base::{Draw, OutOfMemory, RingArc, same_draw};
 use sc_cmd::{Base, Command, Core, Effect, Outcome};
 use sc_log_entries::{Cut, Division};
@@ -25,69 +27,28 @@ pub fn first_cuts(alloc: Global, bases: &[Base]) -> Result<Vec<Cut>, OutOfMemory
     Ok(ring)
 }
 
-fn is_cut_of(group: Draw, cut: &Cut) -> bool
-    ensures { result ≡ is_cut_of group cut.now }
-{
-    same_draw(cut.group, group)
-}
-
-// ---- arcs; where there would be no arc, there is no answer
-
-fn arc_of(lo: u32, len: u64) -> Result<RingArc, OutOfMemory>
-    ensures { IfOk result (λ arc. arc ≡ record { lo = lo; len = len }) }
-{
-    match RingArc::try_new(lo, len) {
-        Ok(arc) => Ok(arc),
-        Err(_) => Err(OutOfMemory),
-    }
-}
-
-fn offset(arc: RingArc, at: u32) -> u64
-    ensures { result ≡ offset arc at }
-{
-    at.wrapping_sub(arc.lo()) as u64
-}
-
-fn before(arc: RingArc, at: u32) -> Result<RingArc, OutOfMemory>
-    ensures { IfOk result (λ part. part ≡ before arc at) }
-{
-    arc_of(arc.lo(), offset(arc, at))
-}
-
-fn from(arc: RingArc, at: u32) -> Result<RingArc, OutOfMemory>
-    ensures { IfOk result (λ part. part ≡ from arc at) }
-{
-    arc_of(at, arc.len().saturating_sub(offset(arc, at)))
-}
-
-fn joined(arc: RingArc, next: RingArc) -> Result<RingArc, OutOfMemory>
-    ensures { IfOk result (λ whole. whole ≡ joined arc next) }
-{
-    arc_of(arc.lo(), arc.len() + next.len())
-}
-
 // ---- a split
 
-fn divide_cut(
-    ring: &mut Vec<Cut>,
+fn divide(
+    after: &mut Vec<Span>,
     group: Draw,
     division: Division,
-    cut: &Cut,
+    span: Span,
 ) -> Result<(), OutOfMemory>
-    ensures { OnOk result (ring.new.items ≡ ring.old.items ++ parts_of group division cut.now) }
+    ensures { OnOk result (after.new.items ≡ after.old.items ++ parts_of group division span) }
 {
-    if is_cut_of(group, cut) {
-        ring.push(Cut {
-            arc: before(cut.arc, division.at)?,
-            group: cut.group,
+    if span.is_of(group) {
+        after.push(Span {
+            arc: span.arc.before(division.at),
+            group: span.group,
         })?;
-        ring.push(Cut {
-            arc: from(cut.arc, division.at)?,
+        after.push(Span {
+            arc: span.arc.from(division.at),
             group: division.child,
         })?;
         return Ok(());
     }
-    ring.push(*cut)?;
+    after.push(span)?;
     Ok(())
 }
 
@@ -95,13 +56,13 @@ fn divided(
     alloc: Global,
     group: Draw,
     division: Division,
-    ring: &[Cut],
-) -> Result<Vec<Cut>, OutOfMemory>
-    ensures { IfOk result (λ after. after.items ≡ flat_map (parts_of group division) ring.now) }
+    spans: &[Span],
+) -> Result<Vec<Span>, OutOfMemory>
+    ensures { IfOk result (λ after. after.items ≡ flat_map (parts_of group division) spans.now) }
 {
     let mut after = Vec::new(alloc);
-    for cut in ring {
-        divide_cut(&mut after, group, division, cut)?;
+    for span in spans {
+        divide(&mut after, group, division, *span)?;
     }
     Ok(after)
 }
@@ -123,112 +84,78 @@ fn arc_in(group: Draw, ring: &[Cut]) -> Option<RingArc>
     }
 }
 
-fn both_arcs(arc: Option<RingArc>, next: Option<RingArc>) -> Result<Option<RingArc>, OutOfMemory>
-    ensures { IfOk result (λ whole. whole ≡ both_arcs arc next) }
+fn both_arcs(arc: Option<RingArc>, next: Option<RingArc>) -> Option<Stretch>
+    ensures { result ≡ both_arcs arc next }
 {
     match arc {
         Some(arc) => match next {
-            Some(next) => Ok(Some(joined(arc, next)?)),
-            None => Ok(None),
+            Some(next) => Some(Stretch::joined(arc, next)),
+            None => None,
         },
-        None => Ok(None),
+        None => None,
     }
-}
-
-fn with_arc(group: Draw, arc: RingArc, cut: &Cut) -> Cut
-    ensures { result ≡ (if is_cut_of group cut.now then record cut.now { arc = arc } else cut.now) }
-{
-    if is_cut_of(group, cut) {
-        return Cut {
-            arc,
-            group: cut.group,
-        };
-    }
-    *cut
-}
-
-fn recut(alloc: Global, group: Draw, arc: RingArc, ring: &[Cut]) -> Result<Vec<Cut>, OutOfMemory>
-    ensures { IfOk result (λ after. after.items ≡ recut group arc ring.now) }
-{
-    let mut after = Vec::new(alloc);
-    for cut in ring {
-        after.push(with_arc(group, arc, cut))?;
-    }
-    Ok(after)
-}
-
-fn without(alloc: Global, group: Draw, ring: &[Cut]) -> Result<Vec<Cut>, OutOfMemory>
-    ensures { IfOk result (λ after. after.items ≡
-        filter (λ cut. not (is_cut_of group cut)) ring.now) }
-{
-    let mut after = Vec::new(alloc);
-    for cut in ring {
-        if !is_cut_of(group, cut) {
-            after.push(*cut)?;
-        }
-    }
-    Ok(after)
 }
 
 fn merged(
     alloc: Global,
-    whole: Option<RingArc>,
+    whole: Stretch,
     coordinator: Draw,
     participant: Draw,
-    ring: Vec<Cut>,
-) -> Result<Vec<Cut>, OutOfMemory>
+    ring: &[Cut],
+) -> Result<Vec<Span>, OutOfMemory>
     ensures { IfOk result (λ after. after.items ≡
-        ring_merged whole coordinator participant ring.items) }
+        recut coordinator whole (filter (λ cut. not (is_cut_of participant cut)) ring.now)) }
 {
-    match whole {
-        None => Ok(ring),
-        Some(whole) => {
-            let kept = without(alloc, participant, &ring)?;
-            recut(alloc, coordinator, whole, &kept)
+    let mut after = Vec::new(alloc);
+    for cut in ring {
+        let span = Span::of(cut);
+        if !span.is_of(participant) {
+            after.push(span.with_arc(coordinator, whole))?;
         }
     }
+    Ok(after)
 }
 
 fn moved(
     alloc: Global,
     at: u32,
-    whole: Option<RingArc>,
+    whole: Stretch,
     coordinator: Draw,
     participant: Draw,
-    ring: Vec<Cut>,
-) -> Result<Vec<Cut>, OutOfMemory>
+    ring: &[Cut],
+) -> Result<Vec<Span>, OutOfMemory>
     ensures { IfOk result (λ after. after.items ≡
-        ring_moved at whole coordinator participant ring.items) }
+        ring_moved at (Some whole) coordinator participant ring.now) }
 {
-    match whole {
-        None => Ok(ring),
-        Some(whole) => {
-            let with_next = recut(alloc, participant, from(whole, at)?, &ring)?;
-            recut(alloc, coordinator, before(whole, at)?, &with_next)
-        }
+    let mut after = Vec::new(alloc);
+    for cut in ring {
+        let span = Span::of(cut).with_arc(participant, whole.from(at));
+        after.push(span.with_arc(coordinator, whole.before(at)))?;
     }
+    Ok(after)
 }
 
-fn decided(
+fn after_outcome(
     alloc: Global,
     outcome: &Outcome,
     coordinator: Draw,
     participant: Draw,
-    ring: Vec<Cut>,
-) -> Result<Vec<Cut>, OutOfMemory>
+    ring: &[Cut],
+) -> Result<Vec<Span>, OutOfMemory>
     ensures { IfOk result (λ after. after.items ≡
-        ring_decided (Some outcome.now) coordinator participant ring.items) }
+        ring_decided (Some outcome.now) coordinator participant ring.now) }
 {
+    let whole = both_arcs(arc_in(coordinator, ring), arc_in(participant, ring));
     match outcome {
-        Outcome::Merged { .. } => {
-            let whole = both_arcs(arc_in(coordinator, &ring), arc_in(participant, &ring))?;
-            merged(alloc, whole, coordinator, participant, ring)
-        }
-        Outcome::Moved { at, .. } => {
-            let whole = both_arcs(arc_in(coordinator, &ring), arc_in(participant, &ring))?;
-            moved(alloc, *at, whole, coordinator, participant, ring)
-        }
-        Outcome::Abort | Outcome::Migrated { .. } | Outcome::Divided => Ok(ring),
+        Outcome::Merged { .. } => match whole {
+            Some(whole) => merged(alloc, whole, coordinator, participant, ring),
+            None => spans_of(alloc, ring),
+        },
+        Outcome::Moved { at, .. } => match whole {
+            Some(whole) => moved(alloc, *at, whole, coordinator, participant, ring),
+            None => spans_of(alloc, ring),
+        },
+        Outcome::Abort | Outcome::Migrated { .. } | Outcome::Divided => spans_of(alloc, ring),
     }
 }
 
@@ -238,20 +165,30 @@ fn decided(
 fn after_decision(
     alloc: Global,
     core: &Core,
-    command: &Command,
-    effect: &Effect,
-    ring: Vec<Cut>,
-) -> Result<Vec<Cut>, OutOfMemory>
+    outcome: Option<&Outcome>,
+    ring: &[Cut],
+) -> Result<Vec<Span>, OutOfMemory>
     ensures { IfOk result (λ after. after.items ≡
-        ring_decided (decided_by command.now effect.now) core.now.id core.now.succ.group
-        ring.items) }
+        ring_decided (option_copied outcome) core.now.id core.now.succ.group ring.now) }
 {
-    match command {
-        Command::RecordVote { .. } | Command::RecordWatch { .. } => match effect.outcome() {
-            Some(outcome) => decided(alloc, outcome, core.id, core.succ.group, ring),
-            None => Ok(ring),
-        },
-        _ => Ok(ring),
+    match outcome {
+        Some(outcome) => after_outcome(alloc, outcome, core.id, core.succ.group, ring),
+        None => spans_of(alloc, ring),
+    }
+}
+
+fn after_division(
+    alloc: Global,
+    core: &Core,
+    division: Option<Division>,
+    spans: Vec<Span>,
+) -> Result<Vec<Span>, OutOfMemory>
+    ensures { IfOk result (λ after. after.items ≡
+        ring_divided division core.now.id spans.items) }
+{
+    match division {
+        Some(division) => divided(alloc, core.id, division, &spans),
+        None => Ok(spans),
     }
 }
 
@@ -263,13 +200,18 @@ pub fn ring_after(
     command: &Command,
     effect: &Effect,
     ring: Vec<Cut>,
-) -> Result<Vec<Cut>, OutOfMemory>
-    ensures { IfOk result (λ after. after.items ≡
-        ring_after core.now command.now effect.now ring.items) }
+) -> Result<Vec<Cut>, TellFault>
+    ensures { MatchResult result
+        (λ after. after.items ≡ ring_after core.now command.now effect.now ring.items)
+        (λ fault. fault ≡ NoArc →
+            HaveArcs (ring_after core.now command.now effect.now ring.items) → ⊥) }
 {
-    let after = after_decision(alloc, core, command, effect, ring)?;
-    match division_of(core, command, effect) {
-        None => Ok(after),
-        Some(division) => divided(alloc, core.id, division, &after),
+    let outcome = decided_by(command, effect);
+    let division = division_of(core, command, effect);
+    if outcome.is_none() && division.is_none() {
+        return Ok(ring);
     }
+    let decided = after_decision(alloc, core, outcome, ring.as_slice())?;
+    let after = after_division(alloc, core, division, decided)?;
+    cuts_of(alloc, after.as_slice())
 }

@@ -1,17 +1,18 @@
 //! All groups, after some entries.
-ghost use Rattle.std.specs.Prelude.{◌≡◌, ◌++◌, Some, find, map, if◌then◌else◌, IfOk, OnOk};
+ghost use Rattle.std.specs.Prelude.{◌≡◌, ◌++◌, ⊥, Some, find, map, if◌then◌else◌, IfOk, OnOk, MatchResult};
 ghost use Rattle.std.specs.Option.{option_map, option_copied};
 ghost use Rattle.sc_cmd.specs.declared.commands.Command.TheVariants.{Finish};
 ghost use Rattle.sc_machine_table.specs.Group.{Group, base_of};
 ghost use Rattle.sc_machine_table.specs.Machine.{applied};
 ghost use Rattle.sc_machine_table.specs.Logs.{entry_of};
 ghost use Rattle.sc_log_entries.specs.Effective.{is_commit, effective, effective_by, after_outcome};
-ghost use Rattle.sc_log_entries.specs.Rings.{ring_after};
-ghost use Rattle.sc_log_entries.specs.Worlds.{first_world, named_group, told, with_result, world_of};
+ghost use Rattle.sc_log_entries.specs.Rings.{HaveArcs, ring_after};
+ghost use Rattle.sc_log_entries.specs.Worlds.{CoverThroughout, first_world, named_group, told, with_result, world_of};
 ghost use Rattle.sc_store_world.specs.Places.{IsFirstNamed};
+ghost use Rattle.sc_store_world.specs.declared.faults.TellFault.TheVariants.{NoArc};
 
 use crate::groups::{again, born, execute, is_named, place_of};
-use crate::{decision, first_cuts, ring_after, tell};
+use crate::{TellFault, decision, first_cuts, ring_after, tell};
 use sc_base::{Draw, Dup, OutOfMemory};
 use sc_cmd::{Base, Command, Core, Effect, Lock, Outcome};
 use sc_ideal::Entry;
@@ -81,9 +82,11 @@ fn change_ring(
     core: &Core,
     command: &Command,
     effect: &Effect,
-) -> Result<(), OutOfMemory>
-    ensures { OnOk result (ring.new.items ≡
-        ring_after core.now command.now effect.now ring.old.items) }
+) -> Result<(), TellFault>
+    ensures { MatchResult result
+        (λ _. ring.new.items ≡ ring_after core.now command.now effect.now ring.old.items)
+        (λ fault. fault ≡ NoArc →
+            HaveArcs (ring_after core.now command.now effect.now ring.old.items) → ⊥) }
 {
     let old = mem::replace(ring, Vec::new(alloc));
     *ring = ring_after(alloc, core, command, effect, old)?;
@@ -106,8 +109,9 @@ impl StoreWorld {
 
     /// One more entry is told. Refused for want of memory, and where the entry would leave a cut
     /// that is no arc; then the world may only be dropped.
-    pub fn tell(&mut self, entry: &LogEntry) -> Result<(), OutOfMemory>
-        ensures { OnOk result (self.new ≡ told self.old entry.now) }
+    pub fn tell(&mut self, entry: &LogEntry) -> Result<(), TellFault>
+        ensures { MatchResult result (λ _. self.new ≡ told self.old entry.now)
+            (λ fault. fault ≡ NoArc → HaveArcs (told self.old entry.now).ring → ⊥) }
     {
         match place_of(self.groups.as_slice(), entry.group) {
             None => Ok(()),
@@ -118,10 +122,15 @@ impl StoreWorld {
         }
     }
 
-    fn execute(&mut self, name: Draw, at: usize, command: &Command) -> Result<(), OutOfMemory>
+    fn execute(&mut self, name: Draw, at: usize, command: &Command) -> Result<(), TellFault>
         requires { IsFirstNamed name self.old.groups at }
-        ensures { OnOk result ((group : Group) → named_group name self.old.groups ≡ Some group →
-            self.new ≡ with_result self.old group command.now (applied group command.now)) }
+        ensures { MatchResult result
+            (λ _. (group : Group) → named_group name self.old.groups ≡ Some group →
+                self.new ≡ with_result self.old group command.now (applied group command.now))
+            (λ fault. fault ≡ NoArc →
+                (group : Group) → named_group name self.old.groups ≡ Some group →
+                HaveArcs (with_result self.old group command.now (applied group command.now)).ring →
+                ⊥) }
     {
         let (core, effect) = execute(self.alloc, &mut self.groups, at, command)?;
         tell(self.alloc, &mut self.transactions, &core, command, &effect)?;
@@ -234,18 +243,23 @@ fn after_outcome(
     }
 }
 
-/// What these entries make of the groups of a scenario. Refused for want of memory, and where an
-/// entry would leave a cut that is no arc.
+/// What these entries make of the groups of a scenario, where the ring covers after each of them.
+/// Refused only for want of memory.
 pub fn world_of(
     alloc: Global,
     bases: &[Base],
     entries: &[LogEntry],
 ) -> Result<StoreWorld, OutOfMemory>
+    requires { CoverThroughout bases.now entries.now }
     ensures { IfOk result (λ world. world ≡ world_of bases.now entries.now) }
 {
     let mut world = StoreWorld::first(alloc, bases)?;
     for entry in entries {
-        world.tell(entry)?;
+        match world.tell(entry) {
+            Ok(()) => {}
+            Err(TellFault::OutOfMemory) => return Err(OutOfMemory),
+            Err(TellFault::NoArc) => unreachable!(),
+        }
     }
     Ok(world)
 }

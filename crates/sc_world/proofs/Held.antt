@@ -1,8 +1,9 @@
 -- What a replay leaves is what a world holds.
-use Rattle.std.proofs.Common.{◌≡◌, List, map, ◌∙◌, ap}
+use Rattle.std.proofs.Common.{◌≡◌, ◌<◌, ◌^◌, List, length, map, ◌∙◌, ap}
 use Rattle.sc_cmd.specs.declared.orders.OrderLine.{OrderLine}
 use Rattle.sc_mail.specs.declared.bodies.Mail.{Mail}
 use Rattle.sc_actor.specs.declared.rows.Row.{Row}
+use Rattle.sc_actor.specs.Mail.{mails}
 use Rattle.sc_chance.specs.Words.{two_words}
 use Rattle.sc_replay.specs.declared.judging.Replayed.{Replayed}
 use Rattle.sc_replay.specs.Replays.{Leaves}
@@ -12,11 +13,13 @@ use Rattle.sc_sound.specs.Soundness.{IsSoundThroughout}
 use Rattle.sc_world.specs.Worlds.{WorldHolds}
 
 -- what a replay leaves is what a world holds, where each first part of the rows is sound
-pub holds : (scenario : Scenario) (rows : List (Row Mail OrderLine)) (parties : List Player) (left : Replayed Player) → IsSoundThroughout as_nodes scenario rows →
+pub holds : (scenario : Scenario) (rows : List (Row Mail OrderLine)) (parties : List Player) (left : Replayed Player) → IsSoundThroughout as_nodes scenario rows → length rows < 2 ^ 31 → length (mails rows) < 2 ^ 31 →
     parties ≡ map (λ seat. seat.actor) left.seats.items → Leaves (system_of as_nodes two_words scenario) (schedule scenario) rows left → WorldHolds scenario rows parties left.skipped left.quiet
-holds scenario rows parties left sound are leaves = record {
+holds scenario rows parties left sound few_rows few_mails are leaves = record {
   lawful = leaves.replayed.lawful;
   sound = sound;
+  few_rows = few_rows;
+  few_mails = few_mails;
   parties_are = are ∙ ap (map (λ seat. seat.actor)) leaves.replayed.actors;
   skips_are = leaves.replayed.skips_are;
   quiet_is = leaves.quiet_now;

@@ -1,8 +1,9 @@
 -- What a world stands for, and what it holds of it.
-use Rattle.std.specs.Prelude.{◌≡◌, ℕ, Bool, List, Option, Some, None}
+use Rattle.std.specs.Prelude.{◌≡◌, ℕ, ◌<◌, ◌^◌, Bool, List, length, Option, Some, None}
 use Rattle.sc_cmd.specs.declared.orders.OrderLine.{OrderLine}
 use Rattle.sc_mail.specs.declared.bodies.Mail.{Mail}
 use Rattle.sc_actor.specs.declared.rows.Row.{Row}
+use Rattle.sc_actor.specs.Mail.{mails}
 use Rattle.sc_actor.specs.Walk.{skipped, is_quiet}
 use Rattle.sc_scenario.specs.declared.scenarios.Scenario.{Scenario}
 use Rattle.sc_sound.specs.Players.{system_of, schedule, Lawful, parties, Player, as_nodes}
@@ -15,10 +16,12 @@ pub record Standing : Type 0 where
   pub scenario : Scenario
   pub rows : List (Row Mail OrderLine)
 
--- what a world holds: rows that are lawful and of which each first part is sound, the parties as these leave them, how many lines were skipped, and whether no mail is pending
+-- what a world holds: rows that are lawful and of which each first part is sound, fewer than 2^31 as are their mails, the parties as these leave them, how many lines were skipped, and whether no mail is pending
 pub record WorldHolds (scenario : Scenario) (rows : List (Row Mail OrderLine)) (left : List Player) (skips : ℕ) (quiet : Bool) : Type 0 where
   pub lawful : Lawful as_nodes two_words scenario rows
   pub sound : IsSoundThroughout as_nodes scenario rows
+  pub few_rows : length rows < 2 ^ 31
+  pub few_mails : length (mails rows) < 2 ^ 31
   pub parties_are : left ≡ parties as_nodes scenario rows
   pub skips_are : skips ≡ skipped (system_of as_nodes two_words scenario) (schedule scenario) rows
   pub quiet_is : quiet ≡ is_quiet (system_of as_nodes two_words scenario) rows

@@ -1,7 +1,8 @@
 //! What is counted for the summary of a journal.
-ghost use Rattle.std.specs.Prelude.{◌≡◌, ◌++◌, map, length, count_by, IfOk, OnOk, slice_get};
+ghost use Rattle.std.specs.Prelude.{◌≡◌, ◌<◌, ◌≤◌, ◌^◌, ◌++◌, map, length, count_by, IfOk, OnOk, slice_get};
 ghost use Rattle.std.specs.List.{flat_map};
 ghost use Rattle.sc_actor.specs.Mail.{is_delivery, mails};
+ghost use Rattle.sc_base.specs.Limits.{most_requests};
 ghost use Rattle.sc_sound.specs.Summary.{asked_by, asked_from, asked_after, got_of};
 
 use crate::party::Party;
@@ -13,16 +14,6 @@ use sc_mail::Mail;
 use sc_report::{Asked, Progress};
 use sc_sound::got_by;
 use std::alloc::Global;
-
-/// A count that a report can tell: more than 2^32 - 1 rows or mails have no room in memory.
-pub(crate) fn small(n: usize) -> Result<u32, OutOfMemory>
-    ensures { IfOk result (λ m. m ≡ n) }
-{
-    if n > 4_294_967_295 {
-        return Err(OutOfMemory);
-    }
-    Ok(n as u32)
-}
 
 fn got_at(alloc: Global, client: &ClientCore, i: usize, seq: u32) -> Result<Progress, OutOfMemory>
     ensures { IfOk result (λ got. got ≡ got_of (slice_get client.now.replies i) client.now seq) }
@@ -37,9 +28,10 @@ fn got_at(alloc: Global, client: &ClientCore, i: usize, seq: u32) -> Result<Prog
 
 // The request after so many.
 fn asked_at(alloc: Global, client: &ClientCore, i: usize, op: &Op) -> Result<Asked, OutOfMemory>
+    requires { i < most_requests }
     ensures { IfOk result (λ asked. asked ≡ asked_after client.now i op.now) }
 {
-    let seq = small(i.saturating_add(1))?;
+    let seq = i as u32 + 1;
     let got = got_at(alloc, client, i, seq)?;
     Ok(Asked {
         client: client.me(),
@@ -55,6 +47,7 @@ fn add_client(
     client: &ClientCore,
     ops: &[Op],
 ) -> Result<(), OutOfMemory>
+    requires { length ops.now ≤ most_requests }
     ensures { OnOk result (asked.new ≡ asked.old ++ asked_from client.now 0 ops.now) }
 {
     for i in 0..ops.len() {
@@ -93,34 +86,29 @@ fn is_delivery(event: &Event<OrderLine>) -> bool
 }
 
 /// How many rows deliver a mail.
-pub(crate) fn deliveries(rows: &[Row<Mail, OrderLine>]) -> Result<u32, OutOfMemory>
-    ensures { IfOk result (λ n. n ≡ count_by (λ row. is_delivery row.event) rows.now) }
+pub(crate) fn deliveries(rows: &[Row<Mail, OrderLine>]) -> u32
+    requires { length rows.now < 2 ^ 31 }
+    ensures { result ≡ count_by (λ row. is_delivery row.event) rows.now }
 {
     let mut total = 0u32;
     for row in rows {
         if is_delivery(&row.event) {
-            total = match total.checked_add(1) {
-                Some(sum) => sum,
-                None => return Err(OutOfMemory),
-            };
+            total += 1;
         }
     }
-    Ok(total)
+    total
 }
 
 /// How many mails the rows send.
-pub(crate) fn mail_count(rows: &[Row<Mail, OrderLine>]) -> Result<u32, OutOfMemory>
-    ensures { IfOk result (λ n. n ≡ length (mails rows.now)) }
+pub(crate) fn mail_count(rows: &[Row<Mail, OrderLine>]) -> u32
+    requires { length (mails rows.now) < 2 ^ 31 }
+    ensures { result ≡ length (mails rows.now) }
 {
     let mut total = 0u32;
     for row in rows {
-        let more = small(row.sent.len())?;
-        total = match total.checked_add(more) {
-            Some(sum) => sum,
-            None => return Err(OutOfMemory),
-        };
+        total += row.sent.len() as u32;
     }
-    Ok(total)
+    total
 }
 
 /// The actors without their numbers.

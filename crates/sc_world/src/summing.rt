@@ -1,13 +1,16 @@
 //! The summary of a replayed journal.
-ghost use Rattle.std.specs.Prelude.{◌≡◌, ◌≤◌, length, fold, IfOk, OnOk};
+ghost use Rattle.std.specs.Prelude.{◌≡◌, ◌<◌, ◌≤◌, ◌^◌, length, fold, IfOk, OnOk};
 ghost use Rattle.std.specs.Option.{option_to_list};
+ghost use Rattle.sc_actor.specs.Mail.{mails};
 ghost use Rattle.sc_actor.specs.Walk.{is_quiet, skipped};
+ghost use Rattle.sc_log_entries.specs.Worlds.{CoverThroughout};
 ghost use Rattle.sc_sound.specs.Players.{system_of, schedule, parties, as_nodes};
-ghost use Rattle.sc_sound.specs.GroupsOf.{world_at};
+ghost use Rattle.sc_sound.specs.GroupsOf.{entries_at, world_at};
+ghost use Rattle.sc_sound.specs.Soundness.{IsSoundThroughout};
 ghost use Rattle.sc_world.specs.Summary.{cut_route, place_in, placed, ring_lines, summary_of};
 ghost use Rattle.sc_chance.specs.Words.{two_words};
 
-use crate::counting::{all_asked, deliveries, mail_count, small};
+use crate::counting::{all_asked, deliveries, mail_count};
 use crate::orders::{order_count, orders_told};
 use crate::party::Party;
 use crate::telling::store_world;
@@ -80,6 +83,7 @@ fn ring_of(
     groups: &[Base],
     rows: &[Row<Mail, OrderLine>],
 ) -> Result<Sequence<Route>, OutOfMemory>
+    requires { CoverThroughout groups.now (entries_at as_nodes groups.now rows.now) }
     ensures { IfOk result (λ ring. ring ≡ ring_lines (world_at as_nodes groups.now rows.now)) }
 {
     let world = store_world(alloc, groups, rows)?;
@@ -87,8 +91,9 @@ fn ring_of(
     Ok(Sequence::from_vec(lines))
 }
 
-/// What the report tells of a journal, with the parties that its rows leave, the lines that were
-/// skipped, and whether no mail is pending. Refused only for want of memory.
+/// What the report tells of a journal of which each first part is sound, with the parties that its
+/// rows leave, the lines that were skipped, and whether no mail is pending; its rows and their mails
+/// are fewer than 2^31 each. Refused only for want of memory.
 pub fn sum_up(
     alloc: Global,
     scenario: &Scenario,
@@ -101,11 +106,11 @@ pub fn sum_up(
     requires skipped { skips ≡
         skipped (system_of as_nodes two_words scenario.now) (schedule scenario.now) journal.now }
     requires quiet { quiet ≡ is_quiet (system_of as_nodes two_words scenario.now) journal.now }
+    requires sound { IsSoundThroughout as_nodes scenario.now journal.now }
+    requires few_rows { length journal.now < 2 ^ 31 }
+    requires few_mails { length (mails journal.now) < 2 ^ 31 }
     ensures { IfOk result (λ told. told ≡ summary_of scenario.now journal.now) }
 {
-    if skips > 4_294_967_295 {
-        return Err(OutOfMemory);
-    }
     let rows = journal.as_slice();
     Ok(Summary {
         version: scenario.version,
@@ -113,10 +118,10 @@ pub fn sum_up(
         asked: all_asked(alloc, left.as_slice())?,
         orders: orders_told(alloc, order_count(scenario.lines.as_slice()), rows)?,
         ring: ring_of(alloc, scenario.groups.as_slice(), rows)?,
-        rows: small(rows.len())?,
-        mail: mail_count(rows)?,
-        delivered: deliveries(rows)?,
-        skipped: skips as u32,
+        rows: rows.len() as u32,
+        mail: mail_count(rows),
+        delivered: deliveries(rows),
+        skipped: skips,
         quiet,
     })
 }

@@ -1,14 +1,15 @@
 //! What the rows of a journal tell: each group's decided log, the decided ring, the history, and
 //! what was decided of each group. Read from the mail that the rows deliver and send, never from
-//! what an actor holds; any rows may be asked, lawful or not.
+//! what an actor holds.
 ghost use Rattle.std.specs.Prelude.{◌≡◌, IfOk};
 ghost use Rattle.std.specs.Option.{option_map};
 ghost use Rattle.sc_machine_table.specs.Group.{base_of};
 ghost use Rattle.sc_log_entries.specs.Effective.{effective};
 ghost use Rattle.sc_log_entries.specs.Rings.{Covers};
+ghost use Rattle.sc_log_entries.specs.Worlds.{CoverThroughout};
 ghost use Rattle.sc_ideal.specs.History.{Legal};
 ghost use Rattle.sc_sound.specs.Players.{as_nodes};
-ghost use Rattle.sc_sound.specs.GroupsOf.{log_at, ring_at, history_at, world_at};
+ghost use Rattle.sc_sound.specs.GroupsOf.{entries_at, log_at, ring_at, history_at, world_at};
 
 use crate::worlds::World;
 use sc_actor::Row;
@@ -21,13 +22,14 @@ use sc_mail::Mail;
 use sc_store_world::{StoreWorld, world_of};
 use std::alloc::Global;
 
-/// What the entries of rows make of the groups that the rows begin with. Refused for want of
-/// memory, and where an entry would leave a cut that is no arc.
+/// What the entries of rows make of the groups that the rows begin with, where the ring covers after
+/// each of them. Refused only for want of memory.
 pub(crate) fn store_world(
     alloc: Global,
     groups: &[Base],
     rows: &[Row<Mail, OrderLine>],
 ) -> Result<StoreWorld, OutOfMemory>
+    requires { CoverThroughout groups.now (entries_at as_nodes groups.now rows.now) }
     ensures { IfOk result (λ world. world ≡ world_at as_nodes groups.now rows.now) }
 {
     let entries = entries_of(alloc, groups, rows)?;

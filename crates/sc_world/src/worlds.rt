@@ -14,7 +14,7 @@ use std::marker::Model;
 
 /// A scenario and a lawful journal of it, of which each first part is sound, replayed: the nodes and
 /// then the clients, as their rows leave them, how many lines of the schedule were skipped, and
-/// whether no mail is pending.
+/// whether no mail is pending. Its rows and their mails are fewer than 2^31 each.
 ///
 /// Contracts see the scenario and the rows that it refers to; that these are lawful and sound, every
 /// world says (`stands`).

@@ -4,5 +4,5 @@ use Rattle.sc_log_entries.specs.Rings.{parts_of}
 use Rattle.sc_store_world.proofs.rings.divided.Given as goal
 
 -- the parts so far
-abbrev pub invariant-loop-cut : goal.invariant-loop-cut
-invariant-loop-cut l = l.after.items ≡ flat_map (parts_of l.group l.division) (take l.cut-index l.ring)
+abbrev pub invariant-loop-span : goal.invariant-loop-span
+invariant-loop-span l = l.after.items ≡ flat_map (parts_of l.group l.division) (take l.span-index l.spans)

@@ -12,7 +12,7 @@ invariant_of-result c =
     let leaves : Leaves s lines c.as_slice.result.now c.in-Some.left = subst (IsReplayed s lines c.as_slice.result.now) c.in-Some.is c.in_ok-left_by.ensures in
     let here : Leaves s lines c.args.rows.now c.in-Some.left = subst (λ rows. Leaves s lines rows c.in-Some.left) c.as_slice.ensures leaves in
     let sound = c.valid_journals_are_sound.ensures as_nodes refl two_words c.args.scenario.now c.requires.valid c.args.rows.now here.replayed.lawful in
-    holds c.args.scenario.now c.args.rows.now c.in_ok-parties-in-Some.parties c.in-Some.left sound c.in_ok-parties-in-Some.ensures here
+    holds c.args.scenario.now c.args.rows.now c.in_ok-parties-in-Some.parties c.in-Some.left sound c.requires.few_rows c.requires.few_mails c.in_ok-parties-in-Some.ensures here
 
 pub returns-in_ok-parties-in-Some : goal.returns-in_ok-parties-in-Some
 returns-in_ok-parties-in-Some c =

@@ -1,0 +1,22 @@
+//! Why entries are not told.
+
+use sc_base::OutOfMemory;
+
+/// Why an entry is not told.
+#[derive(Clone, Copy, Debug, PartialEq, Eq)]
+pub enum TellFault {
+    /// The entry would leave a cut that is no arc of the ring. No entry of a lawful journal does.
+    NoArc,
+    OutOfMemory,
+}
+
+impl From<OutOfMemory> for TellFault {
+    ghost use Rattle.std.specs.Prelude.{◌≡◌};
+    ghost use Rattle.sc_store_world.specs.declared.faults.TellFault.TheVariants.{OutOfMemory};
+
+    ghost from_gives = { λ _ fault. fault ≡ OutOfMemory };
+
+    fn from(_short: OutOfMemory) -> TellFault {
+        TellFault::OutOfMemory
+    }
+}

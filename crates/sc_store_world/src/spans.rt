@@ -1,0 +1,164 @@
+//! Cuts while the ring is changed: their arcs have any length, so that a change needs no test. What
+//! comes of it is tested once, when it becomes the ring.
+ghost use Rattle.std.specs.Prelude.{◌≡◌, ⊥, if◌then◌else◌, IfOk, MatchOption, MatchResult};
+ghost use Rattle.sc_base.specs.Arc.{IsArc, offset, before, from, joined};
+ghost use Rattle.sc_log_entries.specs.Rings.{HaveArcs, is_cut_of};
+ghost use Rattle.sc_store_world.specs.declared.faults.TellFault.TheVariants.{NoArc};
+
+use crate::faults::TellFault;
+use sc_base::{Draw, OutOfMemory, RingArc, same_draw};
+use sc_log_entries::Cut;
+use std::alloc::Global;
+use std::marker::Model;
+
+/// The positions from `lo` on, `len` of them: an arc where they are 1 to 2^32.
+#[derive(Clone, Copy)]
+pub(crate) struct Stretch {
+    lo: u32,
+    len: u64,
+}
+
+impl Model for Stretch {
+    ghost use Rattle.sc_base.specs.Arc.{Arc};
+
+    ghost Value = { Arc };
+
+    ghost view = { λ s. record { lo = s.lo; len = s.len } };
+
+    ghost inverse = { λ arc. record { lo = arc.lo; len = arc.len } };
+}
+
+impl Stretch {
+    /// The arc.
+    pub(crate) fn of(arc: RingArc) -> Stretch
+        ensures { result ≡ arc }
+    {
+        Stretch {
+            lo: arc.lo(),
+            len: arc.len(),
+        }
+    }
+
+    /// Two arcs as one.
+    pub(crate) fn joined(arc: RingArc, next: RingArc) -> Stretch
+        ensures { result ≡ joined arc next }
+    {
+        Stretch {
+            lo: arc.lo(),
+            len: arc.len() + next.len(),
+        }
+    }
+
+    fn offset(self, at: u32) -> u64
+        ensures { result ≡ offset self at }
+    {
+        at.wrapping_sub(self.lo) as u64
+    }
+
+    /// The part before a position.
+    pub(crate) fn before(self, at: u32) -> Stretch
+        ensures { result ≡ before self at }
+    {
+        Stretch {
+            lo: self.lo,
+            len: self.offset(at),
+        }
+    }
+
+    /// The part from a position on.
+    pub(crate) fn from(self, at: u32) -> Stretch
+        ensures { result ≡ from self at }
+    {
+        Stretch {
+            lo: at,
+            len: self.len.saturating_sub(self.offset(at)),
+        }
+    }
+}
+
+/// A cut of the ring, or what is to be one.
+#[derive(Clone, Copy)]
+pub(crate) struct Span {
+    pub(crate) arc: Stretch,
+    pub(crate) group: Draw,
+}
+
+impl Model for Span {
+    ghost use Rattle.sc_log_entries.specs.declared.Cut.{Cut};
+
+    ghost Value = { Cut };
+
+    ghost view = { λ s. record { arc = s.arc; group = s.group } };
+
+    ghost inverse = { λ cut. record { arc = cut.arc; group = cut.group } };
+}
+
+impl Span {
+    /// The cut.
+    pub(crate) fn of(cut: &Cut) -> Span
+        ensures { result ≡ cut.now }
+    {
+        Span {
+            arc: Stretch::of(cut.arc),
+            group: cut.group,
+        }
+    }
+
+    /// Whether it is a group's.
+    pub(crate) fn is_of(&self, group: Draw) -> bool
+        ensures { result ≡ is_cut_of group self.now }
+    {
+        same_draw(self.group, group)
+    }
+
+    /// With another arc, if it is the group's.
+    pub(crate) fn with_arc(self, group: Draw, arc: Stretch) -> Span
+        ensures { result ≡ (if is_cut_of group self then record self { arc = arc } else self) }
+    {
+        if self.is_of(group) {
+            return Span {
+                arc,
+                group: self.group,
+            };
+        }
+        self
+    }
+}
+
+/// The ring, to be changed.
+pub(crate) fn spans_of(alloc: Global, ring: &[Cut]) -> Result<Vec<Span>, OutOfMemory>
+    ensures { IfOk result (λ spans. spans.items ≡ ring.now) }
+{
+    let mut spans = Vec::new(alloc);
+    for cut in ring {
+        spans.push(Span::of(cut))?;
+    }
+    Ok(spans)
+}
+
+fn cut_of(span: &Span) -> Option<Cut>
+    ensures { MatchOption result (λ cut. cut ≡ span.now) (IsArc span.now.arc → ⊥) }
+{
+    match RingArc::try_new(span.arc.lo, span.arc.len) {
+        Ok(arc) => Some(Cut {
+            arc,
+            group: span.group,
+        }),
+        Err(_) => None,
+    }
+}
+
+/// The ring after a change, if each cut is an arc.
+pub(crate) fn cuts_of(alloc: Global, spans: &[Span]) -> Result<Vec<Cut>, TellFault>
+    ensures { MatchResult result (λ ring. ring.items ≡ spans.now)
+        (λ fault. fault ≡ NoArc → HaveArcs spans.now → ⊥) }
+{
+    let mut ring = Vec::new(alloc);
+    for span in spans {
+        match cut_of(span) {
+            Some(cut) => ring.push(cut)?,
+            None => return Err(TellFault::NoArc),
+        }
+    }
+    Ok(ring)
+}
