@@ -75,7 +75,3 @@ comes_ended Shows scenario cut quiet skips journal parties text e lines journal_
   reports = record { lawful = e.lawful; whole = e.whole; within = e.within; sound = e.sound; refuses = e.refuses; lines = lines; journal_is = journal_is; parties_are = parties_is ∙ e.parties_are };
   said_is = ap said_of e.cut_is;
 })
-
--- the text about a journal that is full
-pub comes_full : (Shows : List (Row Mail OrderLine) → List (List ℕ) → Type 0) (scenario : Scenario) (journal : List (Row Mail OrderLine)) (text : Text) → HasFilled scenario journal_limit journal → TellsFull journal text → Comes Shows scenario Filled text
-comes_full Shows scenario journal text filled tells = inr (record { journal = journal; filled = filled; tells = tells; said_is = refl })

@@ -2,6 +2,8 @@
 //! them.
 ghost use Rattle.std.specs.Prelude.{◌≡◌};
 ghost use Rattle.sc_scenario.specs.Valid.{IsValid};
+ghost use Rattle.sc_sound.specs.Players.{as_nodes};
+ghost use Rattle.sc_sound.specs.Soundness.{IsSoundThroughout};
 
 use crate::gates::Open;
 use crate::storm_tests::{has_cover, has_legal};
@@ -76,6 +78,7 @@ pub fn played<R: Abort + Threads + Wait + Sync>(
     scenario: &Scenario,
 ) -> Journal<Mail, OrderLine>
     requires { IsValid scenario.now }
+    ensures { IsSoundThroughout as_nodes scenario.now result }
 {
     let left = play_whole(rt, alloc, Way::Runs, scenario, 1 << 30, &Open).expect(rt, "memory");
     let Left {
@@ -84,8 +87,10 @@ pub fn played<R: Abort + Threads + Wait + Sync>(
         parties,
     } = left;
     forget(parties);
-    assert!(rt; matches!(played, Played::Ended { .. }));
-    journal
+    match played {
+        Played::Ended { .. } => journal,
+        _ => panic!(rt; "it did not end"),
+    }
 }
 
 /// The scenario that some text is.

@@ -2,7 +2,10 @@
 //! into which their histories are put from the beginning; and the same after each row of a merge, of
 //! a boundary that moves and of a member that is handed over.
 ghost use Rattle.std.specs.Prelude.{◌<◌};
+ghost use Rattle.sc_log_entries.specs.Worlds.{CoverThroughout};
 ghost use Rattle.sc_scenario.specs.Valid.{IsValid};
+ghost use Rattle.sc_sound.specs.GroupsOf.{entries_at};
+ghost use Rattle.sc_sound.specs.Players.{as_nodes};
 
 use crate::replay_tests::{played, scenario_of};
 use crate::run_tests::{CUT_SHORT, Case, FIRST, check_all};
@@ -291,7 +294,9 @@ fn shows(scan: &[Shown], pairs: &[(Key, Value)]) -> bool {
 }
 
 // Whether the scan of the whole circle after some rows is the map after their history.
-fn is_map(rt: &impl Abort, alloc: Global, bases: &[Base], rows: &[Row<Mail, OrderLine>]) -> bool {
+fn is_map(rt: &impl Abort, alloc: Global, bases: &[Base], rows: &[Row<Mail, OrderLine>]) -> bool
+    requires { CoverThroughout bases.now (entries_at as_nodes bases.now rows.now) }
+{
     let whole = RingArc::try_new(7, 1 << 32).expect(rt, "an arc");
     let scan = scan(alloc, bases, rows, &whole).expect(rt, "memory");
     let entries = entries_of(alloc, bases, rows).expect(rt, "memory");
