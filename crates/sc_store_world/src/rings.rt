@@ -1,5 +1,5 @@
 //! The ring, as a list of cuts.
-ghost use Rattle.std.specs.Prelude.{◌≡◌, ◌++◌, ⊥, Some, map, not, filter, find, IfOk, OnOk, MatchResult};
+ghost use Rattle.std.specs.Prelude.{◌≡◌, ◌++◌, Some, map, not, filter, find, IfOk, OnOk, MatchResult};
 ghost use Rattle.std.specs.List.{flat_map};
 ghost use Rattle.std.specs.Option.{option_copied};
 ghost use Rattle.sc_log_entries.specs.Rings.{HaveArcs, first_cut, is_cut_of, arc_in, recut, parts_of, both_arcs, ring_moved, ring_decided, ring_divided, decided_by, ring_after};

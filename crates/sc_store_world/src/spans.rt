@@ -1,6 +1,6 @@
 //! Cuts while the ring is changed: their arcs have any length, so that a change needs no test. What
 //! comes of it is tested once, when it becomes the ring.
-ghost use Rattle.std.specs.Prelude.{◌≡◌, ⊥, if◌then◌else◌, IfOk, MatchOption, MatchResult};
+ghost use Rattle.std.specs.Prelude.{◌≡◌, ◌++◌, ◌∷◌, [], if◌then◌else◌, IfOk, OnOk, MatchOption, MatchResult};
 ghost use Rattle.sc_base.specs.Arc.{IsArc, offset, before, from, joined};
 ghost use Rattle.sc_log_entries.specs.Rings.{HaveArcs, is_cut_of};
 ghost use Rattle.sc_store_world.specs.declared.faults.TellFault.TheVariants.{NoArc};
@@ -148,6 +148,13 @@ fn cut_of(span: &Span) -> Option<Cut>
     }
 }
 
+fn add(ring: &mut Vec<Cut>, cut: Cut) -> Result<(), OutOfMemory>
+    ensures { OnOk result (ring.new.items ≡ ring.old.items ++ cut ∷ []) }
+{
+    ring.push(cut)?;
+    Ok(())
+}
+
 /// The ring after a change, if each cut is an arc.
 pub(crate) fn cuts_of(alloc: Global, spans: &[Span]) -> Result<Vec<Cut>, TellFault>
     ensures { MatchResult result (λ ring. ring.items ≡ spans.now)
@@ -156,7 +163,7 @@ pub(crate) fn cuts_of(alloc: Global, spans: &[Span]) -> Result<Vec<Cut>, TellFau
     let mut ring = Vec::new(alloc);
     for span in spans {
         match cut_of(span) {
-            Some(cut) => ring.push(cut)?,
+            Some(cut) => add(&mut ring, cut)?,
             None => return Err(TellFault::NoArc),
         }
     }

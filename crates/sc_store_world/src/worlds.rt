@@ -1,5 +1,5 @@
 //! All groups, after some entries.
-ghost use Rattle.std.specs.Prelude.{◌≡◌, ◌++◌, ⊥, Some, find, map, if◌then◌else◌, IfOk, OnOk, MatchResult};
+ghost use Rattle.std.specs.Prelude.{◌≡◌, ◌++◌, Some, find, map, if◌then◌else◌, IfOk, OnOk, MatchResult};
 ghost use Rattle.std.specs.Option.{option_map, option_copied};
 ghost use Rattle.sc_cmd.specs.declared.commands.Command.TheVariants.{Finish};
 ghost use Rattle.sc_machine_table.specs.Group.{Group, base_of};
