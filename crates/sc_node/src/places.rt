@@ -30,7 +30,7 @@ fn first_at<H: Holder>(holder: &H, group: Draw) -> Option<usize>
 }
 
 /// The place of a group's replica, if there is one.
-#[tactic(auto, using(crate::proofs::Standing::place_is))]
+#[tactic(auto, using(crate::proofs::PlacesStanding::place_is))]
 pub fn replica_place<H: Holder>(holder: &H, group: Draw) -> Option<usize>
     ensures { IsPlaceOf group (H.node holder.now).replicas result }
 {
@@ -38,7 +38,7 @@ pub fn replica_place<H: Holder>(holder: &H, group: Draw) -> Option<usize>
 }
 
 /// Whether there is a replica of a group.
-#[tactic(auto, using(crate::proofs::Standing::known_by))]
+#[tactic(auto, using(crate::proofs::PlacesStanding::known_by))]
 pub fn has_replica<H: Holder>(holder: &H, group: Draw) -> bool
     ensures { result ≡ is_some (replica_of group (H.node holder.now).replicas) }
 {
