@@ -1,6 +1,7 @@
 -- A list whose first items were changed, so many of them.
-use Rattle.std.proofs.Common.{◌≡◌, ℕ, zero, suc, ◌+◌, ◌<◌, ◌≤◌, List, [], ◌∷◌, map, length, get_or, set, Option, Some, None, refl, ap, sym, ◌∙◌, arith}
+use Rattle.std.proofs.Common.{◌≡◌, ℕ, zero, suc, ◌+◌, ◌<◌, ◌≤◌, List, [], ◌∷◌, map, length, get_or, set, Option, Some, None, inl, inr, refl, ap, sym, ◌∙◌, arith}
 use Rattle.std.specs.Prelude.{slice_get}
+use Rattle.sc_base.specs.Among.{Among}
 
 -- the first items are changed, and the others are as they were
 abbrev pub changed : {X : Type 0} → (X → X) → ℕ → List X → List X
@@ -72,3 +73,9 @@ pub put-same : {X : Type 0} (xs : List X) (i : ℕ) (x : X) → slice_get xs i �
 put-same [] i x is = refl
 put-same {X} (y ∷ ys) zero x is = ap (λ (z : X). z ∷ ys) (ap (λ (o : Option X). elim o [ None ↦ x | Some z ↦ z ]) (sym is))
 put-same (y ∷ ys) (suc i) x is = ap (λ zs. y ∷ zs) (put-same ys i x is)
+
+-- an item at a place of a list is among it
+pub among_at : {X : Type 0} (xs : List X) (i : ℕ) (x : X) → i < length xs → x ≡ get_or xs i x → Among x xs
+among_at [] i x lt is = absurd (omega (arith, lt))
+among_at (y ∷ xs) zero x lt is = inl (sym is)
+among_at (y ∷ xs) (suc i) x lt is = inr (among_at xs i x (omega (arith, lt)) is)

@@ -1,3 +1,5 @@
+pub mod Changed
 pub mod Changes
 pub mod Executing
 pub mod Naming
+pub mod Telling

@@ -169,7 +169,7 @@ fn after_decision(
     ring: &[Cut],
 ) -> Result<Vec<Span>, OutOfMemory>
     ensures { IfOk result (λ after. after.items ≡
-        ring_decided (option_copied outcome) core.now.id core.now.succ.group ring.now) }
+        ring_decided (option_copied outcome.entry) core.now.id core.now.succ.group ring.now) }
 {
     match outcome {
         Some(outcome) => after_outcome(alloc, outcome, core.id, core.succ.group, ring),

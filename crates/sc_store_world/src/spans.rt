@@ -137,7 +137,7 @@ pub(crate) fn spans_of(alloc: Global, ring: &[Cut]) -> Result<Vec<Span>, OutOfMe
 }
 
 fn cut_of(span: &Span) -> Option<Cut>
-    ensures { MatchOption result (λ cut. cut ≡ span.now) (IsArc span.now.arc → ⊥) }
+    ensures { MatchOption result (IsArc span.now.arc → ⊥) (λ cut. cut ≡ span.now) }
 {
     match RingArc::try_new(span.arc.lo, span.arc.len) {
         Ok(arc) => Some(Cut {

@@ -89,8 +89,13 @@ fn change_ring(
             HaveArcs (ring_after core.now command.now effect.now ring.old.items) → ⊥) }
 {
     let old = mem::replace(ring, Vec::new(alloc));
-    *ring = ring_after(alloc, core, command, effect, old)?;
-    Ok(())
+    match ring_after(alloc, core, command, effect, old) {
+        Ok(after) => {
+            *ring = after;
+            Ok(())
+        }
+        Err(fault) => Err(fault),
+    }
 }
 
 impl StoreWorld {
@@ -115,10 +120,7 @@ impl StoreWorld {
     {
         match place_of(self.groups.as_slice(), entry.group) {
             None => Ok(()),
-            Some(at) => {
-                self.execute(entry.group, at, &entry.command)?;
-                Ok(())
-            }
+            Some(at) => self.execute(entry.group, at, &entry.command),
         }
     }
 
@@ -134,7 +136,10 @@ impl StoreWorld {
     {
         let (core, effect) = execute(self.alloc, &mut self.groups, at, command)?;
         tell(self.alloc, &mut self.transactions, &core, command, &effect)?;
-        change_ring(self.alloc, &mut self.ring, &core, command, &effect)?;
+        match change_ring(self.alloc, &mut self.ring, &core, command, &effect) {
+            Ok(()) => {}
+            Err(fault) => return Err(fault),
+        }
         note(self.alloc, &mut self.history, command, effect)?;
         Ok(())
     }
