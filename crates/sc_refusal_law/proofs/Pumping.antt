@@ -27,8 +27,7 @@ use Rattle.sc_node_table.specs.Replica.{ReplicaState, Place, name_of, next, sett
 use Rattle.sc_law_lemmas.proofs.Ways.{either_way}
 use Rattle.sc_refusal_law.specs.Causes.{LacksKey}
 use Rattle.sc_refusal_law.proofs.Keeping.{Kept, KeptAll, KeptOne, DueAll, Flying, MustKept, with_calls, with_acts, must_kept}
-use Rattle.sc_refusal_law.proofs.Plain.{sent_one}
-use Rattle.sc_refusal_law.proofs.Standing.{CauseSo, Caused, AllCaused, caused_plain, FineAs, Fine, resent, with_all}
+use Rattle.sc_refusal_law.proofs.Standing.{CauseSo, AllCaused, answer_caused, FineAs, Fine, resent, with_all}
 use Rattle.sc_law_lemmas.proofs.Calls.{next_found}
 
 -- why a call is turned down
@@ -49,12 +48,12 @@ module _ (start : ReplicaState) (A : Command → Type 0) (G : Draw → Type 0) (
   -- ---- the calls at the head that the group does not serve
 
   -- a call that the executed state does not serve is answered with cause
-  pub lacking : (entries : List Command) (group : Group) (client seq : ℕ) (op : Op) (answer : AnswerBody) → group ≡ state_after start.group entries → LacksKey group op answer → CauseSo start A G W Q entries refused true client seq op answer
-  lacking entries group client seq op (Says.Value reply) is l = tt
-  lacking entries group client seq op (Says.NotLeader hint) is l = absurd l
-  lacking entries group client seq op (Says.NotMine arc succ) is l = inr (refl, subst (λ g. LacksKey g op (Says.NotMine arc succ)) is l)
-  lacking entries group client seq op (Says.Gone into) is l = inr (refl, subst (λ g. LacksKey g op (Says.Gone into)) is l)
-  lacking entries group client seq op (Says.Stale last) is l = absurd l
+  pub lacking : (entries : List Command) (group : Group) (op : Op) (answer : AnswerBody) → group ≡ state_after start.group entries → LacksKey group op answer → CauseSo start A G W Q entries refused true op answer
+  lacking entries group op (Says.Value reply) is l = absurd l
+  lacking entries group op (Says.NotLeader hint) is l = absurd l
+  lacking entries group op (Says.NotMine arc succ) is l = (refl, subst (λ g. LacksKey g op (Says.NotMine arc succ)) is l)
+  lacking entries group op (Says.Gone into) is l = (refl, subst (λ g. LacksKey g op (Says.Gone into)) is l)
+  lacking entries group op (Says.Stale last) is l = absurd l
 
   module _ (entries : List Command) (me : ℕ) (idle : Bool) (group : Group) (is : group ≡ state_after start.group entries) (own : group.core.id ≡ start.group.core.id) where
     abbrev C : List Mail → Type 0
@@ -66,13 +65,13 @@ module _ (start : ReplicaState) (A : Command → Type 0) (G : Draw → Type 0) (
     turned_one : (command : Command) (answer : AnswerBody) (mails : List Mail) → Kept A G command → waits idle group.core.lock command ≡ false → turned_down group.core command ≡ Some answer → C mails → C (answered me group.core.id answer command mails)
     unfolding answered
     turned_one (Call client seq op) answer mails k w e c =
-        sent_one (Caused start A G W Q entries refused true) (caused_plain start A G W Q entries refused true) mails (record { from = me; to = client_actor client; body = Answer group.core.id seq answer }) (record {
+        answer_caused start A G W Q entries refused true me (client_actor client) group.core.id seq answer mails (record {
           own = own;
           client = client;
           op = op;
           receiver = refl;
           was_asked = k;
-          cause = lacking entries group client seq op answer is (refused_so group.core.gone group op answer refl (not-false (serves_calls group.core.lock) w) e);
+          cause = lacking entries group op answer is (refused_so group.core.gone group op answer refl (not-false (serves_calls group.core.lock) w) e);
         }) c
     turned_one _ answer mails k w e c = c
 

@@ -48,8 +48,8 @@ use Rattle.sc_node_table.specs.Transactions.{noted_outcome, standing_vote, sent_
 use Rattle.sc_law_lemmas.proofs.Ways.{either_way}
 use Rattle.sc_refusal_law.specs.Causes.{LacksKey}
 use Rattle.sc_refusal_law.proofs.Keeping.{Kept, Due, with_calls, with_acts, without_kept}
-use Rattle.sc_refusal_law.proofs.Plain.{sent_one, again_plain, last_plain, reminders_plain, vote_plain, watched_plain, next_plain}
-use Rattle.sc_refusal_law.proofs.Standing.{CauseSo, Caused, CausedAnswer, caused_plain, stopped_caused, FineAs, Fine, resent, with_plain}
+use Rattle.sc_refusal_law.proofs.Plain.{again_plain, last_plain, reminders_plain, vote_plain, watched_plain, next_plain}
+use Rattle.sc_refusal_law.proofs.Standing.{CauseSo, CausedAnswer, AllCaused, plain_caused, answer_caused, stopped_caused, FineAs, Fine, resent, with_plain}
 use Rattle.sc_refusal_law.proofs.Locking.{allowed}
 use Rattle.sc_refusal_law.proofs.Stopping.{elected_fine}
 use Rattle.sc_refusal_law.proofs.Pumping.{lacking, pumped_fine}
@@ -93,14 +93,13 @@ module _ (start : ReplicaState) (A : Command → Type 0) (G : Draw → Type 0) (
 
   -- one answer behind the mails
   said_fine : (refused : Bool) (client seq : ℕ) (op : Op) (answer : AnswerBody) (r : ReplicaState) (mails : List Mail) (f : FineAs start A G W Q refused true (r, mails)) → A (Call client seq op)
-      → CauseSo start A G W Q f.1.entries refused true client seq op answer → After (r, sent r.me (client_actor client) (Answer (name_of r) seq answer) mails)
+      → CauseSo start A G W Q f.1.entries refused true op answer → After (r, sent r.me (client_actor client) (Answer (name_of r) seq answer) mails)
   said_fine refused client seq op answer r mails f a c =
       let caused : CausedAnswer start A G W Q f.1.entries refused true (client_actor client) (name_of r) seq answer = record { own = f.1.name_is; client = client; op = op; receiver = refl; was_asked = a; cause = c } in (
         refused,
         (
           f.0,
-          resent start A G W Q refused true r mails _ f.1
-              (sent_one (Caused start A G W Q f.1.entries refused true) (caused_plain start A G W Q f.1.entries refused true) mails (record { from = r.me; to = client_actor client; body = Answer (name_of r) seq answer }) caused f.1.sent),
+          resent start A G W Q refused true r mails _ f.1 (answer_caused start A G W Q f.1.entries refused true r.me (client_actor client) (name_of r) seq answer mails caused f.1.sent),
         ),
       )
 
@@ -117,8 +116,8 @@ module _ (start : ReplicaState) (A : Command → Type 0) (G : Draw → Type 0) (
   answer_fine client seq op (Says.Stale last) r mails a u f = absurd u
   answer_fine client seq op (Says.NotLeader hint) r mails a u f = said_fine true client seq op (Says.NotLeader hint) r mails (idle_fine r mails u f) a refl
   answer_fine client seq op (Says.NotMine arc succ) r mails a u f =
-      said_fine false client seq op (Says.NotMine arc succ) r mails f a (lacking start A G W Q false f.1.entries r.group client seq op (Says.NotMine arc succ) f.1.group_is u)
-  answer_fine client seq op (Says.Gone into) r mails a u f = said_fine false client seq op (Says.Gone into) r mails f a (lacking start A G W Q false f.1.entries r.group client seq op (Says.Gone into) f.1.group_is u)
+      said_fine false client seq op (Says.NotMine arc succ) r mails f a (lacking start A G W Q false f.1.entries r.group op (Says.NotMine arc succ) f.1.group_is u)
+  answer_fine client seq op (Says.Gone into) r mails a u f = said_fine false client seq op (Says.Gone into) r mails f a (lacking start A G W Q false f.1.entries r.group op (Says.Gone into) f.1.group_is u)
 
   requested_by : (o : Option AnswerBody) (client seq : ℕ) (op : Op) (r : ReplicaState) (mails : List Mail) → A (Call client seq op) → ((answer : AnswerBody) → o ≡ Some answer → Untaken r op answer) → F (r, mails) → After (requested o client seq op (r, mails))
   unfolding requested
@@ -180,7 +179,7 @@ module _ (start : ReplicaState) (A : Command → Type 0) (G : Draw → Type 0) (
   reminded_fine r mails g t f =
       let s = f.1 in
       let said : F (r, reminders r.group.core.lock r.me r.group mails) =
-      (f.0, resent start A G W Q false true r mails _ s (reminders_plain (Caused start A G W Q s.entries false true) (caused_plain start A G W Q s.entries false true) r.group.core.lock r.me r.group mails s.sent)) in
+      (f.0, resent start A G W Q false true r mails _ s (reminders_plain (AllCaused start A G W Q s.entries false true) (plain_caused start A G W Q s.entries false true) r.group.core.lock r.me r.group mails s.sent)) in
       waited_fine r.group.core.lock r (reminders r.group.core.lock r.me r.group mails) refl g t said
 
   -- ---- the parties of a transaction
@@ -190,7 +189,7 @@ module _ (start : ReplicaState) (A : Command → Type 0) (G : Draw → Type 0) (
 
   offered_fine : (o : Option Past) (from : ℕ) (tx : Draw) (offer : Offer) (place : Place) → F place → F (offered_by o from tx offer place)
   offered_fine (Some vote) from tx offer (r, mails) f =
-      (f.0, resent start A G W Q false true r mails _ f.1 (vote_plain (Caused start A G W Q f.1.entries false true) (caused_plain start A G W Q f.1.entries false true) r.me r.group from tx offer vote mails f.1.sent))
+      (f.0, resent start A G W Q false true r mails _ f.1 (vote_plain (AllCaused start A G W Q f.1.entries false true) (plain_caused start A G W Q f.1.entries false true) r.me r.group from tx offer vote mails f.1.sent))
   offered_fine None from tx offer (r, mails) f =
       either_way F r.running (act_queued (Prepared tx offer) (r, mails)) (sent_elsewhere from tx offer.coord (r, mails)) (queued_act (Prepared tx offer) r mails tt tt f) (elsewhere_sent from tx offer.coord (r, mails) f)
 
@@ -200,7 +199,7 @@ module _ (start : ReplicaState) (A : Command → Type 0) (G : Draw → Type 0) (
 
   watched_by_fine : (o : Option Past) (from : ℕ) (tx : Draw) (watch : Watch) (place : Place) → F place → F (watched_by o from tx watch place)
   watched_by_fine (Some vote) from tx watch (r, mails) f =
-      (f.0, resent start A G W Q false true r mails _ f.1 (watched_plain (Caused start A G W Q f.1.entries false true) (caused_plain start A G W Q f.1.entries false true) r.me from tx watch vote mails f.1.sent))
+      (f.0, resent start A G W Q false true r mails _ f.1 (watched_plain (AllCaused start A G W Q f.1.entries false true) (plain_caused start A G W Q f.1.entries false true) r.me from tx watch vote mails f.1.sent))
   watched_by_fine None from tx watch (r, mails) f =
       either_way F r.running (act_queued (Watched tx watch) (r, mails)) (sent_elsewhere from tx watch.coord (r, mails)) (queued_act (Watched tx watch) r mails tt tt f) (elsewhere_sent from tx watch.coord (r, mails) f)
 
@@ -243,7 +242,7 @@ module _ (start : ReplicaState) (A : Command → Type 0) (G : Draw → Type 0) (
   elsewhere_fine from tx hint r mails f =
       let s = f.1 in
       either_way F (settled r) (r, asked_next r.group.core.lock r.me r.group.core from tx hint mails) (r, mails)
-      (f.0, resent start A G W Q false true r mails _ s (next_plain (Caused start A G W Q s.entries false true) (caused_plain start A G W Q s.entries false true) r.group.core.lock r.me r.group.core from tx hint mails s.sent)) f
+      (f.0, resent start A G W Q false true r mails _ s (next_plain (AllCaused start A G W Q s.entries false true) (plain_caused start A G W Q s.entries false true) r.group.core.lock r.me r.group.core from tx hint mails s.sent)) f
 
   pub outcome_fine : (tx : Draw) (outcome : Outcome) (r : ReplicaState) (mails : List Mail) → F (r, mails) → F (outcome_row tx outcome (r, mails))
   unfolding outcome_row
@@ -295,6 +294,6 @@ module _ (start : ReplicaState) (A : Command → Type 0) (G : Draw → Type 0) (
       (cond_both (not (settled r)) (elected (r, mails)) _ F (λ _. elected_fine start A G W Q true r mails f)
       (λ e. either_way F (is_idle r) (pumped (wishing on drawer (reminded (r, last)))) (pumped (wishing on drawer (reminded (r, again))))
       (pumped_fine start A G W Q false (wishing on drawer (reminded (r, last))) (wishing_fine on drawer (reminded (r, last))
-      (reminded_fine r last (g (not-false (settled r) e)) (t (not-false (settled r) e)) (f.0, resent start A G W Q false true r mails last s (last_plain (Caused start A G W Q s.entries false true) (caused_plain start A G W Q s.entries false true) (entry_at (next r - 1) r.log) r mails s.sent)))))
+      (reminded_fine r last (g (not-false (settled r) e)) (t (not-false (settled r) e)) (f.0, resent start A G W Q false true r mails last s (last_plain (AllCaused start A G W Q s.entries false true) (plain_caused start A G W Q s.entries false true) (entry_at (next r - 1) r.log) r mails s.sent)))))
       (pumped_fine start A G W Q false (wishing on drawer (reminded (r, again))) (wishing_fine on drawer (reminded (r, again))
-      (reminded_fine r again (g (not-false (settled r) e)) (t (not-false (settled r) e)) (f.0, resent start A G W Q false true r mails again s (again_plain (Caused start A G W Q s.entries false true) (caused_plain start A G W Q s.entries false true) r (next r) r.sets mails s.sent)))))))
+      (reminded_fine r again (g (not-false (settled r) e)) (t (not-false (settled r) e)) (f.0, resent start A G W Q false true r mails again s (again_plain (AllCaused start A G W Q s.entries false true) (plain_caused start A G W Q s.entries false true) r (next r) r.sets mails s.sent)))))))
