@@ -1,5 +1,5 @@
 -- What executed calls are answered: each by its effect on the state that it met, one behind another.
-use Rattle.std.proofs.Common.{◌≡◌, ◌<◌, ℕ, nat_lt, eqb, Bool, true, false, cond, List, [], ◌∷◌, ◌++◌, Option, Some, None, refl, sym, ap, subst, ◌∙◌, arith, append-nil, append_assoc}
+use Rattle.std.proofs.Common.{◌≡◌, ◌<◌, ℕ, nat_lt, eqb, true, List, [], ◌∷◌, ◌++◌, Option, Some, None, refl, sym, ap, subst, ◌∙◌, arith, append-nil, append_assoc}
 use Rattle.std.specs.FinMap.{get}
 use Rattle.std.proofs.lemmas.Bool.{cond_both, ltb-false, eqb-false}
 use Rattle.sc_base.specs.Among.{Each}
@@ -29,7 +29,7 @@ use Rattle.sc_node_table.specs.Mails.{answered}
 use Rattle.sc_node_table.specs.Pump.{serves_calls}
 use Rattle.sc_node_table.specs.Queues.{put_back}
 use Rattle.sc_node_table.specs.Replica.{Place, name_of}
-use Rattle.sc_refusal_law.specs.Causes.{HasCauseAtEntry, IsRefusedAtEntry, RefusesCall, answers_in, effect_answers, entry_answers}
+use Rattle.sc_refusal_law.specs.Causes.{HasCauseAtEntry, RefusesCall, answers_in, effect_answers, entry_answers}
 use Rattle.sc_refusal_law.proofs.Plain.{answer_adds}
 
 -- ---- the effect of a call

@@ -1,41 +1,32 @@
 -- What an execution answers has its cause in the state before the entry, and what the replica is after it stands behind one entry more.
-use Rattle.std.proofs.Common.{◌≡◌, ◌<◌, ◌≤◌, ℕ, ◌&&◌, ◌||◌, nat_lt, eqb, Bool, true, false, cond, List, [], ◌∷◌, ◌++◌, Option, Some, None, inl, refl, sym, ap, subst, ◌∙◌, arith}
+use Rattle.std.proofs.Common.{◌≡◌, ◌≤◌, ℕ, ◌&&◌, ◌||◌, eqb, Bool, true, false, cond, List, [], ◌∷◌, ◌++◌, Option, Some, None, refl, sym, ap, subst, ◌∙◌, arith}
 use Rattle.std.specs.List.{list_any}
 use Rattle.std.specs.Option.{option_map}
 use Rattle.sc_paxos_words.specs.Leaders.{LeaderState, flight_at}
 use Rattle.sc_paxos_words.specs.declared.flights.Flight.{Flight}
 use Rattle.sc_node_table.specs.Sameness.{same_command}
-use Rattle.std.specs.FinMap.{get}
-use Rattle.std.proofs.lemmas.Bool.{cond_both, ltb-false, eqb-false, eqb-true, eq-eqb, or_parts, or_left, and_parts, true≢false}
-use Rattle.sc_base.specs.Limits.{client_actor}
+use Rattle.std.proofs.lemmas.Bool.{cond_both, eqb-true, eq-eqb, or_parts, or_left, and_parts, true≢false}
 use Rattle.sc_base.specs.declared.names.Ballot.{Ballot}
 use Rattle.sc_base.specs.declared.names.Draw.{Draw}
-use Rattle.sc_base.specs.declared.ops.Noted.{Noted}
-use Rattle.sc_base.specs.declared.ops.Op.{Op}
-use Rattle.sc_ideal.specs.IdealStore.{key_of, reply_of, holds_key}
 use Rattle.sc_cmd.specs.declared.commands.Command.{Command}
 use Rattle.sc_cmd.specs.declared.commands.Command.TheVariants.{Noop, Call, Join, Leave, Split, Begin, Prepared, RecordVote, GiveUp, Finish, Watched, RecordWatch}
-use Rattle.sc_cmd.specs.declared.cores.Lock.{Lock}
-use Rattle.sc_cmd.specs.declared.cores.Lock.TheVariants.{Free, Coordinating, Promised, Watching}
 use Rattle.sc_cmd.specs.declared.effects.Effect.{Effect}
-use Rattle.sc_cmd.specs.declared.effects.Effect.TheVariants as Was
 use Rattle.sc_cmd.specs.declared.links.Route.{Route}
 use Rattle.sc_cmd.specs.declared.orders.ToldResult.{ToldResult}
 use Rattle.sc_mail.specs.declared.bodies.AnswerBody.{AnswerBody}
 use Rattle.sc_mail.specs.declared.bodies.AnswerBody.TheVariants as Says
 use Rattle.sc_mail.specs.declared.bodies.Mail.{Mail}
-use Rattle.sc_mail.specs.declared.bodies.MailBody.TheVariants.{Answer, Learn}
+use Rattle.sc_mail.specs.declared.bodies.MailBody.TheVariants.{Learn}
 use Rattle.sc_member.specs.Roster.{is_member, least_of}
 use Rattle.sc_machine_table.specs.Group.{Group}
 use Rattle.sc_machine_table.specs.Logs.{state_after}
-use Rattle.sc_machine_table.specs.Machine.{applied, called, served, served_by_note}
+use Rattle.sc_machine_table.specs.Machine.{applied}
 use Rattle.sc_machine_table.proofs.LogLemmas.{state_push}
 use Rattle.sc_paxos_words.specs.Logs.{LogState}
 use Rattle.sc_node_table.specs.declared.Before.{Before}
 use Rattle.sc_node_table.specs.Election.{elected, ended, stopped}
 use Rattle.sc_node_table.specs.Execute.{entered, answer_of, told_call, order_result, told_effect, announced, learnt_to, welcomed, slot_lost, landed, left_gone, left, is_among, looked_for, looked, executed_one, next_child, has_room, next_ready, ending, executed_ready, all_ready, executed}
 use Rattle.sc_node_table.specs.Mails.{sent_others, answer_to, order_number}
-use Rattle.sc_node_table.specs.Pump.{serves_calls}
 use Rattle.sc_node_table.specs.Queues.{put_back}
 use Rattle.sc_node_table.specs.Replica.{ReplicaState, Place, Executed, childless, name_of, next, members, flying, forgotten}
 use Rattle.sc_node_table.specs.Slots.{at_slot}
@@ -67,7 +58,7 @@ pub entered_name : (command : Command) (r : ReplicaState) → name_of (entered c
 unfolding entered forgotten
 entered_name command r = (entry_turns r.group command).name
 
-module _ (start : ReplicaState) (A : Command → Type 0) (G : Draw → Type 0) (W : Ballot → Draw → ℕ) (Q : Type 0) (numbered : 1 ≤ start.me) where
+module _ (start : ReplicaState) (A : Command → Type 0) (G : Draw → ℕ → Type 0) (W : Ballot → Draw → ℕ) (Q : Type 0) (numbered : 1 ≤ start.me) where
   -- while entries are executed no other leader is named, and no call that is not executed is turned down
   abbrev F : Place → Type 0
   F place = FineAs start A G W Q false false place
@@ -122,7 +113,7 @@ module _ (start : ReplicaState) (A : Command → Type 0) (G : Draw → Type 0) (
 
   -- ---- what is said of it
 
-  back_fine : (command : Command) (r : ReplicaState) (mails : List Mail) → Kept A G command → Due A G command → F (r, mails) → F (put_back command r, mails)
+  back_fine : (command : Command) (r : ReplicaState) (mails : List Mail) → Kept A G command → Due A G command r.acts → F (r, mails) → F (put_back command r, mails)
   unfolding put_back
   back_fine Noop r mails k d f = (back_kept A G Noop r k d f.0, f.1)
   back_fine (Call client seq op) r mails k d f = (back_kept A G (Call client seq op) r k d f.0, f.1)
@@ -172,13 +163,13 @@ module _ (start : ReplicaState) (A : Command → Type 0) (G : Draw → Type 0) (
   )
 
   -- what loses its slot goes back, and may
-  lost_fine : (counted : Bool) (slot : ℕ) (command : Command) (o : Option Command) (place : Place) → KeptOne A G o → ((other : Command) → o ≡ Some other → counted ≡ false → same_command other command ≡ false → Due A G other) → F place → F (slot_lost counted command o place.0, place.1)
+  lost_fine : (counted : Bool) (slot : ℕ) (command : Command) (o : Option Command) (place : Place) → KeptOne A G o → ((other : Command) → o ≡ Some other → counted ≡ false → same_command other command ≡ false → Due A G other place.0.acts) → F place → F (slot_lost counted command o place.0, place.1)
   lost_fine counted slot command None (r, mails) k d f = f
   lost_fine counted slot command (Some other) (r, mails) k d f =
       cond_both (counted || same_command other command) r (put_back other r) (λ (x : ReplicaState). F (x, mails)) (λ _. f)
       (λ e. (let parts = or_parts counted (same_command other command) e in back_fine other r mails k (d other refl parts.0 parts.1) f))
 
-  landed_fine : (counted : Bool) (slot : ℕ) (command : Command) (place : Place) → KeptOne A G (flying place.0 slot) → ((other : Command) → flying place.0 slot ≡ Some other → counted ≡ false → same_command other command ≡ false → Due A G other) → F place → F (landed counted slot command place)
+  landed_fine : (counted : Bool) (slot : ℕ) (command : Command) (place : Place) → KeptOne A G (flying place.0 slot) → ((other : Command) → flying place.0 slot ≡ Some other → counted ≡ false → same_command other command ≡ false → Due A G other place.0.acts) → F place → F (landed counted slot command place)
   unfolding landed
   landed_fine counted slot command (r, mails) k d f = lost_fine counted slot command (flying r slot) (cleared slot (r, mails)) k d (cleared_fine slot (r, mails) f)
 
@@ -261,7 +252,7 @@ module _ (start : ReplicaState) (A : Command → Type 0) (G : Draw → Type 0) (
 
   -- a learnt command may take the slot of another, which may then go back
   abbrev pub MayLose : Bool → Command → ReplicaState → Type 0
-  MayLose counted command r = (other : Command) → flying r (next r) ≡ Some other → counted ≡ false → same_command other command ≡ false → Due A G other
+  MayLose counted command r = (other : Command) → flying r (next r) ≡ Some other → counted ≡ false → same_command other command ≡ false → Due A G other r.acts
 
   -- after an entry that was announced
   one_fine : (counted : Bool) (command : Command) (r : ReplicaState) (mails : List Mail) → MayLose counted command r → F (announced counted (applied r.group command).1 command (entered command r, mails)) → Past (executed_one counted command (r, mails))
@@ -276,9 +267,11 @@ module _ (start : ReplicaState) (A : Command → Type 0) (G : Draw → Type 0) (
       let place4 : Place = welcomed counted (members r) place3 in
       let f4 : F place4 = welcomed_place F (welcomed_fine start A G W Q false false) counted (members r) place3 f3 in
       let place5 : Place = landed counted (next r) command place4 in
-      let leads : place4.0.leader ≡ r.leader = same_leader counted effect command r mails in
+      let as_it_was = same_leader counted effect command r mails in
+      let leads : place4.0.leader ≡ r.leader = as_it_was.0 in
+      let acts : place4.0.acts ≡ r.acts = as_it_was.1 in
       let flies : flying place4.0 (next r) ≡ flying r (next r) = ap (λ (leader : LeaderState Command). option_map (λ (flight : Flight Command). flight.value) (flight_at (next r) leader.flights)) leads in
-      let f5 : F place5 = landed_fine counted (next r) command place4 (flying_kept A G place4.0 (next r) f4.0) (λ other e. d other (sym flies ∙ e)) f4 in
+      let f5 : F place5 = landed_fine counted (next r) command place4 (flying_kept A G place4.0 (next r) f4.0) (λ other e learns apart. subst (Due A G other) (sym acts) (d other (sym flies ∙ e) learns apart)) f4 in
       left_past place5 f5
 
   -- a counted one

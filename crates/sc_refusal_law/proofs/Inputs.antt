@@ -1,5 +1,5 @@
 -- All inputs of a replica: each answer has its cause, and a replica that runs takes a request.
-use Rattle.std.proofs.Common.{◌≡◌, ℕ, ◌≤◌, nat_lt, eqb, Bool, true, false, List, [], ◌∷◌, Option, Some, None, refl, sym, ap, ◌∙◌, subst, inl, inr, arith, true≢false}
+use Rattle.std.proofs.Common.{◌≡◌, ℕ, ◌+◌, ◌≤◌, nat_lt, eqb, Bool, true, false, List, [], ◌∷◌, Option, Some, None, refl, sym, ap, ◌∙◌, subst, inl, inr, arith, true≢false}
 use Rattle.std.proofs.lemmas.Bool.{cond_both, eqb-true}
 use Rattle.sc_base.specs.Among.{Each}
 use Rattle.sc_base.specs.Drawing.{Drawer}
@@ -28,7 +28,7 @@ use Rattle.sc_node_table.specs.Rows.{refused_at, queued, requested, request_row,
 use Rattle.sc_node_table.specs.Execute.{entered, announced, executed}
 use Rattle.sc_node_table.specs.Mails.{sent}
 use Rattle.sc_law_lemmas.proofs.Ways.{either_way}
-use Rattle.sc_refusal_law.specs.Causes.{IsBroughtBy, HasCauseAtEntry, StepHasCauses, StepsHaveCauses, IsNotLeader, RunningReplicasTakeRequests, at_node, entry_answers, is_answer, taught_by}
+use Rattle.sc_refusal_law.specs.Causes.{IsBroughtBy, HasCauseAtEntry, StepHasCauses, StepsHaveCauses, IsNotLeader, RunningReplicasTakeRequests, at_node, ends_queued, entry_answers, is_answer, taught_by}
 use Rattle.sc_refusal_law.proofs.Keeping.{Kept, Due}
 use Rattle.sc_refusal_law.proofs.Locking.{allowed}
 use Rattle.sc_refusal_law.proofs.Standing.{Caused, CausedBody, AllCaused, none_caused, plain_caused, FineAs, Fine}
@@ -50,8 +50,8 @@ module _ (r : ReplicaState) (W : Ballot → Draw → ℕ) (Q : Type 0) (numbered
     abbrev A1 : Command → Type 0
     A1 command = A r got W Q within command
 
-    abbrev G1 : Draw → Type 0
-    G1 tx = G r got W Q within tx
+    abbrev G1 : Draw → ℕ → Type 0
+    G1 tx count = G r got W Q within tx count
 
     -- a mail that teaches nothing
     abbrev Taught : MailBody → List Command
@@ -67,8 +67,9 @@ module _ (r : ReplicaState) (W : Ballot → Draw → ℕ) (Q : Type 0) (numbered
     begin = first r got W Q within true
 
     -- what was in flight at the slot of a learnt command may go back
-    loses : (group : Draw) (slot : ℕ) (command : Command) → Learn group slot command ≡ mail.body → slot ≡ next r → (other : Command) → flying r (next r) ≡ Some other → same_command other command ≡ false → Due A1 G1 other
-    loses group slot command e is (GiveUp tx) flies apart = inr (inr (record { mail = mail; brought = refl; group = group; slot = slot; learnt = command; body = sym e; flies = flies; is_next = is; other = apart }))
+    loses : (group : Draw) (slot : ℕ) (command : Command) → Learn group slot command ≡ mail.body → slot ≡ next r → (other : Command) → flying r (next r) ≡ Some other → same_command other command ≡ false → Due A1 G1 other r.acts
+    loses group slot command e is (GiveUp tx) flies apart =
+        (ends_queued tx r.acts + 1, omega arith, inr (omega arith, inr (record { mail = mail; brought = refl; group = group; slot = slot; learnt = command; body = sym e; flies = flies; is_next = is; other = apart })))
     loses group slot command e is (Call client seq op) flies apart = tt
     loses group slot command e is Noop flies apart = tt
     loses group slot command e is (Join node order) flies apart = tt
@@ -146,7 +147,7 @@ module _ (r : ReplicaState) (W : Ballot → Draw → ℕ) (Q : Type 0) (numbered
       shown r Tick W Q within _ refl (
         false,
         tick_fine r (A r Tick W Q within) (G r Tick W Q within) W Q on drawer r []
-            (λ leads tx body order heard lock long. inr (inl (record { tick = refl; leads = leads; body = body; order = order; heard = heard; locked = lock; long = long }))) (counts refl) (first r Tick W Q within true),
+            (λ leads tx body order heard lock long none. (ends_queued tx r.acts + 1, omega arith, inr (omega arith, inl (record { tick = refl; leads = leads; body = body; order = order; heard = heard; locked = lock; long = long; none = none })))) (counts refl) (first r Tick W Q within true),
       )
   step_shown on drawer (Given.Told line) counts =
       shown r (Tells line) W Q within _ refl (false, order_fine r (A r (Tells line) W Q within) (G r (Tells line) W Q within) W Q drawer line r [] (first r (Tells line) W Q within true))
@@ -167,8 +168,8 @@ module _ (r : ReplicaState) where
   abbrev Any : Command → Type 0
   Any command = Unit {0}
 
-  abbrev Ever : Draw → Type 0
-  Ever tx = Unit {0}
+  abbrev Ever : Draw → ℕ → Type 0
+  Ever tx count = Unit {0}
 
   abbrev Unnamed : Mail → Type 0
   Unnamed mail = IsNotLeader mail.body → ⊥
@@ -209,34 +210,16 @@ module _ (r : ReplicaState) where
   any_kept (Watched tx watch) = tt
   any_kept (RecordWatch tx vote by) = tt
 
-  any_due : (command : Command) → Due Any Ever command
-  any_due (GiveUp tx) = tt
-  any_due (Call client seq op) = tt
-  any_due Noop = tt
-  any_due (Join node order) = tt
-  any_due (Leave node order) = tt
-  any_due (Split at child order) = tt
-  any_due (Begin tx body order) = tt
-  any_due (Prepared tx offer) = tt
-  any_due (RecordVote tx vote by) = tt
-  any_due (Finish tx outcome) = tt
-  any_due (Watched tx watch) = tt
-  any_due (RecordWatch tx vote by) = tt
-
   each_any : {X : Type 0} (of : X → Command) (xs : List X) → Each (λ x. Kept Any Ever (of x)) xs
   each_any of [] = tt
   each_any of (x ∷ xs) = (any_kept (of x), each_any of xs)
-
-  any_dues : (commands : List Command) → Each (Due Any Ever) commands
-  any_dues [] = tt
-  any_dues (command ∷ commands) = (any_due command, any_dues commands)
 
   begins : FineAs r Any Ever W0 ⊥ false true (r, [])
   begins = (
     record {
       calls = each_any (λ command. command) r.calls;
       acts = each_any (λ command. command) r.acts;
-      due = any_dues r.acts;
+      due = λ tx. (ends_queued tx r.acts, omega arith, tt);
       flights = each_any (λ flight. flight.value) r.leader.flights;
       ready = each_any (λ counted. counted.1) r.ready;
       reports = each_any (λ report. report.value) r.leader.reports;

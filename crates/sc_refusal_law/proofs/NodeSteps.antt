@@ -36,7 +36,7 @@ use Rattle.sc_node_table.specs.Rows.{tick_row, looked_up, made_by, mailed, stepp
 use Rattle.sc_node_table.specs.Slots.{slots_ahead}
 use Rattle.sc_law_lemmas.proofs.Ways.{either_way}
 use Rattle.sc_refusal_law.specs.Causes.{at_node}
-use Rattle.sc_refusal_law.specs.NodeCauses.{AreSentBy, IsSentBy, MayGiveUpAt, AnswersHaveCauses, ActsHaveCauses, NodeHasCauses, NodesHaveCauses, counted_ticks, replica_for, takers}
+use Rattle.sc_refusal_law.specs.NodeCauses.{AreSentBy, IsSentBy, MayGiveUpAt, ActsHaveCauses, NodeHasCauses, NodesHaveCauses, counted_ticks, replica_for, takers}
 use Rattle.sc_refusal_law.proofs.Joining.{tick_behind}
 use Rattle.sc_refusal_law.proofs.Steps.{Shows}
 use Rattle.sc_refusal_law.proofs.Inputs.{still_step, step_shown}
@@ -276,11 +276,11 @@ module _ (node : NodeState) (numbered : Each (λ (r : ReplicaState). 1 ≤ r.me)
   step_acts : (drawer : Drawer) (input : ReplicaInput) (r : ReplicaState) → Among r node.replicas → Among r (takers node (at_node input)) → Among (own_step drawer input r).0 after.replicas → May (at_node input) (own_step drawer input r).0
   step_acts drawer input r stood takes stands tx queued =
       let s = shows drawer input r stood in
-      record { replica = r; became = record { stood = stood; stands = stands; same = s.name_is }; may = inr (takes, s.causes.acts tx queued) }
+      record { replica = r; became = record { stood = stood; stands = stands; same = s.name_is }; may = inr (takes, s.causes.acts tx) }
 
   -- one that takes no step
   still_acts : (input : Input Mail OrderLine) (r : ReplicaState) → Among r node.replicas → Among r after.replicas → May input r
-  still_acts input r stood stands tx queued = record { replica = r; became = record { stood = stood; stands = stands; same = refl }; may = inl queued }
+  still_acts input r stood stands tx queued = record { replica = r; became = record { stood = stood; stands = stands; same = refl }; may = inl (omega arith) }
 
   -- what holds of a replica that stands after the step
   abbrev T : Input Mail OrderLine → ReplicaState → Type 0

@@ -1,5 +1,5 @@
 -- What is sent is no answer but where a client is answered: all other mail keeps what such mail leaves as it is.
-use Rattle.std.proofs.Common.{◌≡◌, ◌∙◌, ap, refl, append-nil, ℕ, zero, suc, ◌+◌, ◌-◌, nat_lt, eqb, Bool, true, false, cond, List, [], ◌∷◌, ◌++◌, Option, Some, None}
+use Rattle.std.proofs.Common.{◌≡◌, ◌∙◌, ap, refl, append-nil, ℕ, zero, suc, ◌+◌, ◌-◌, nat_lt, eqb, Bool, false, cond, List, [], ◌∷◌, ◌++◌, Option, Some, None}
 use Rattle.std.proofs.lemmas.Bool.{cond_both}
 use Rattle.std.proofs.lemmas.List.Elements.{filter-append}
 use Rattle.sc_base.specs.Same.{same_draw}
@@ -32,7 +32,6 @@ use Rattle.sc_mail.specs.declared.bodies.MailBody.{MailBody}
 use Rattle.sc_mail.specs.declared.bodies.MailBody.TheVariants.{Answer, Accept, Learn, TxVote, TxOutcome, TxWatched, Told}
 use Rattle.sc_machine_table.specs.Group.{Group}
 use Rattle.sc_machine_table.specs.Plans.{frozen_of}
-use Rattle.sc_paxos_words.proofs.ListLemmas.{Each-append}
 use Rattle.sc_paxos_words.specs.Logs.{entry_at}
 use Rattle.sc_node_table.specs.declared.Before.{Before}
 use Rattle.sc_node_table.specs.Mails.{sent, sent_all, sent_others, told_order}

@@ -17,7 +17,7 @@ use Rattle.sc_mail.specs.declared.bodies.Mail.{Mail}
 use Rattle.sc_mail.specs.declared.bodies.MailBody.{MailBody}
 use Rattle.sc_mail.specs.declared.bodies.MailBody.TheVariants.{Prepare}
 use Rattle.sc_member.specs.Roster.{is_member, least_of}
-use Rattle.sc_paxos_words.proofs.ListLemmas.{Each-among, Each-weaker}
+use Rattle.sc_paxos_words.proofs.ListLemmas.{Each-weaker}
 use Rattle.sc_machine_table.specs.Group.{Group}
 use Rattle.sc_machine_table.specs.Logs.{state_after}
 use Rattle.sc_machine_table.specs.Machine.{applied}
@@ -28,8 +28,8 @@ use Rattle.sc_node_table.specs.Install.{jumped}
 use Rattle.sc_node_table.specs.Replica.{ReplicaState, Place, name_of, next, listed, members, last_slot, forgotten}
 use Rattle.sc_node_table.specs.Rows.{looked_up, took_over, install_row}
 use Rattle.sc_law_lemmas.proofs.Ways.{either_way}
-use Rattle.sc_refusal_law.specs.Causes.{IsHeldOrBrought, LeadsNoMore, HasCauseAtEntry, HasCauseAfter, AnswersCall, AnswersInTurn, IfAnswer, LacksKey, MayGiveUp, IsTakenOver, StepHasCauses, entry_answers, log_with, log_after, taught}
-use Rattle.sc_refusal_law.proofs.Keeping.{Kept, Due, Holds}
+use Rattle.sc_refusal_law.specs.Causes.{IsHeldOrBrought, LeadsNoMore, HasCauseAtEntry, HasCauseAfter, AnswersCall, AnswersInTurn, IfAnswer, LacksKey, MayGiveUp, IsTakenOver, StepHasCauses, ends_queued, entry_answers, log_with, log_after, taught}
+use Rattle.sc_refusal_law.proofs.Keeping.{Kept, DueAll, Holds}
 use Rattle.sc_refusal_law.proofs.Answering.{IfCall, entries_each}
 use Rattle.sc_refusal_law.proofs.Executing.{entered_me, entered_name}
 use Rattle.sc_refusal_law.proofs.Locking.{allowed, entry_turns, still_allowed}
@@ -41,8 +41,8 @@ module _ (start : ReplicaState) (input : Input Mail OrderLine) (W : Ballot → D
   abbrev pub A : Command → Type 0
   A command = IsHeldOrBrought start input command
 
-  abbrev pub G : Draw → Type 0
-  G tx = MayGiveUp start.waits start input tx
+  abbrev pub G : Draw → ℕ → Type 0
+  G tx count = MayGiveUp start.waits start input tx count
 
   abbrev F : Bool → Bool → Place → Type 0
   F refused turned place = FineAs start A G W Q refused turned place
@@ -75,29 +75,18 @@ module _ (start : ReplicaState) (input : Input Mail OrderLine) (W : Ballot → D
   each_made of (x ∷ xs) f = (kept_asked (of x) (f (of x) (inl refl)), each_made of xs (λ other among. f other (inr among)))
 
   -- what is queued may be
-  due_queued : (command : Command) → Among command start.acts → Due A G command
-  due_queued (GiveUp tx) a = inl a
-  due_queued (Call client seq op) a = tt
-  due_queued Noop a = tt
-  due_queued (Join node order) a = tt
-  due_queued (Leave node order) a = tt
-  due_queued (Split at child order) a = tt
-  due_queued (Begin tx body order) a = tt
-  due_queued (Prepared tx offer) a = tt
-  due_queued (RecordVote tx vote by) a = tt
-  due_queued (Finish tx outcome) a = tt
-  due_queued (Watched tx watch) a = tt
-  due_queued (RecordWatch tx vote by) a = tt
+  fewer_may : (tx : Draw) (fewer count : ℕ) → fewer ≤ count → G tx count → G tx fewer
+  fewer_may tx fewer count few (inl most) = inl (omega (arith, few, most))
+  fewer_may tx fewer count few (inr more) = let most = more.0 in inr (omega (arith, few, most), more.1)
 
-  each_due : (commands : List Command) → ((command : Command) → Among command commands → Among command start.acts) → Each (Due A G) commands
-  each_due [] f = tt
-  each_due (command ∷ commands) f = (due_queued command (f command (inl refl)), each_due commands (λ other among. f other (inr among)))
+  may : (acts : List Command) → DueAll A G acts → (tx : Draw) → G tx (ends_queued tx acts)
+  may acts d tx = let p = d tx in fewer_may tx (ends_queued tx acts) p.0 p.1 p.2
 
   held : Holds A G start
   held = record {
     calls = each_kept start.calls (λ command among. inl (inl among));
     acts = each_kept start.acts (λ command among. inl (inr (inl among)));
-    due = each_due start.acts (λ command among. among);
+    due = λ tx. (ends_queued tx start.acts, omega arith, inl (omega arith));
     flights = each_made (λ flight. flight.value) start.leader.flights (λ command among. inl (inr (inr (inl among))));
     ready = each_made (λ counted. counted.1) start.ready (λ command among. inl (inr (inr (inr (inl among)))));
     reports = each_made (λ report. report.value) start.leader.reports (λ command among. inl (inr (inr (inr (inr among)))));
@@ -165,7 +154,7 @@ module _ (start : ReplicaState) (input : Input Mail OrderLine) (W : Ballot → D
       learns = inl (sym none);
       executed = inl (record { group = f.1.group_is; log = f.1.log_is });
       answers = in_turn start after f.1.entries refused refl refl (λ e. inl (f.1.out e)) f.1.group_is mails f.1.sent;
-      acts = λ tx among. Each-among (Due A G) after.acts (GiveUp tx) f.0.due among;
+      acts = may after.acts f.0.due;
     };
     me_is = f.1.me_is;
     name_is = f.1.name_is;
@@ -181,7 +170,7 @@ module _ (start : ReplicaState) (input : Input Mail OrderLine) (W : Ballot → D
       learns = inr (refl, refl);
       executed = inl (record { group = refl; log = refl });
       answers = in_turn start start [] false refl refl (λ e. cc) refl mails c;
-      acts = λ tx among. inl among;
+      acts = λ tx. inl (omega arith);
     };
     me_is = refl;
     name_is = refl;
@@ -227,7 +216,7 @@ module _ (start : ReplicaState) (input : Input Mail OrderLine) (W : Ballot → D
           learns = inl (ap listed taught_so);
           executed = inl (record { group = f.1.group_is ∙ ap (λ (g : Group). state_after g f.1.entries) group; log = f.1.log_is ∙ ap (λ (l : LogState Command). log_after l f.1.entries) log });
           answers = subst (λ (g : Group). AnswersInTurn start input after g f.1.entries mails) group turn;
-          acts = λ tx among. Each-among (Due A G) after.acts (GiveUp tx) f.0.due among;
+          acts = may after.acts f.0.due;
         };
         me_is = f.1.me_is ∙ entered_me command start;
         name_is = f.1.name_is ∙ entered_name command start;
@@ -330,9 +319,9 @@ module _ (start : ReplicaState) (input : Input Mail OrderLine) (W : Ballot → D
       told : refused ≡ true → (start.running ≡ true) × (before.calls ≡ [])
       sent : Saying mails
 
-    kept_act : {acts : List Command} → (acts ≡ []) ⊎ (acts ≡ start.acts) → (tx : Draw) → Among (GiveUp tx) acts → G tx
-    kept_act (inl none) tx among = absurd (subst (Among (GiveUp tx)) none among)
-    kept_act (inr same) tx among = inl (subst (Among (GiveUp tx)) same among)
+    kept_act : {acts : List Command} → (acts ≡ []) ⊎ (acts ≡ start.acts) → (tx : Draw) → G tx (ends_queued tx acts)
+    kept_act (inl none) tx = subst (λ acts. G tx (ends_queued tx acts)) (sym none) (inl (omega arith))
+    kept_act (inr same) tx = subst (λ acts. G tx (ends_queued tx acts)) (sym same) (inl (omega arith))
 
     why_stopped : (before : ReplicaState) (place : Place) → IsTakenOver input → IsLooked before place → (start.running ≡ true) × (before.calls ≡ []) → LeadsNoMore start input place.0
     why_stopped before place over is ran = elim is.out [ inl idle ↦ inl idle | inr anew ↦ inr (record { ran = ran.0; over = over; empty = is.calls ∙ ran.1; anew = anew }) ]
@@ -351,7 +340,7 @@ module _ (start : ReplicaState) (input : Input Mail OrderLine) (W : Ballot → D
             learns = inr (refl, refl);
             executed = inr (refl, refl, over);
             answers = told_mails place.0 (λ e. why_stopped jump place over is (h.told e)) place.1 is.sent;
-            acts = λ tx among. kept_act h.acts tx (subst (λ acts. Among (GiveUp tx) acts) is.acts among);
+            acts = λ tx. subst (λ acts. G tx (ends_queued tx acts)) (sym is.acts) (kept_act h.acts tx);
           };
           me_is = is.me ∙ h.me;
           name_is = is.name ∙ h.name;

@@ -20,11 +20,11 @@ use Rattle.sc_node_table.specs.Install.{install_to, asked_to_promise, welcomed_a
 use Rattle.sc_node_table.specs.Mails.{sent, answered, answered_all, told_order, dismissed, dismissed_all}
 use Rattle.sc_node_table.specs.Replica.{ReplicaState, Place, name_of, next, under_way}
 use Rattle.sc_law_lemmas.proofs.Ways.{either_way}
-use Rattle.sc_refusal_law.proofs.Keeping.{Kept, KeptAll, way_kept}
+use Rattle.sc_refusal_law.proofs.Keeping.{Kept, KeptAll, way_kept, fewer_due}
 use Rattle.sc_refusal_law.proofs.Plain.{told_plain}
 use Rattle.sc_refusal_law.proofs.Standing.{CauseSo, AllCaused, plain_caused, answer_caused, stopped_caused, Stands, FineAs, Fine, with_plain, with_all}
 
-module _ (start : ReplicaState) (A : Command → Type 0) (G : Draw → Type 0) (W : Ballot → Draw → ℕ) (Q : Type 0) where
+module _ (start : ReplicaState) (A : Command → Type 0) (G : Draw → ℕ → Type 0) (W : Ballot → Draw → ℕ) (Q : Type 0) where
   abbrev F : Bool → Bool → Place → Type 0
   F refused turned place = FineAs start A G W Q refused turned place
 
@@ -80,7 +80,7 @@ module _ (start : ReplicaState) (A : Command → Type 0) (G : Draw → Type 0) (
   unfolding ended
   ended_fine refused turned refused' turned' hint answer r mails f later causes =
       let first = answers_caused f.1.entries refused' turned' r.me (name_of r) f.1.name_is answer causes (under_way r) mails (way_kept A G r f.0) (later mails f.1.sent) in (
-        record { calls = tt; acts = tt; due = tt; flights = tt; ready = tt; reports = tt },
+        record { calls = tt; acts = tt; due = fewer_due A G r.acts [] (λ tx. omega arith) f.0.due; flights = tt; ready = tt; reports = tt },
         record {
           entries = f.1.entries;
           me_is = f.1.me_is;

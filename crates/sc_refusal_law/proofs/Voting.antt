@@ -1,13 +1,12 @@
 -- The rows of Paxos: what a replica makes of promises, votes and executed entries that it is sent.
-use Rattle.std.proofs.Common.{◌≡◌, ◌≤◌, ℕ, ◌&&◌, not, nat_le, nat_lt, eqb, Bool, true, false, List, Option, Some, None, refl, sym, subst}
-use Rattle.std.proofs.lemmas.Bool.{cond_both, eqb-true}
+use Rattle.std.proofs.Common.{◌≡◌, ◌≤◌, ℕ, ◌&&◌, not, nat_le, eqb, Bool, true, false, List, Option, Some, None, refl, sym, subst}
 use Rattle.sc_base.specs.Among.{Each}
 use Rattle.sc_base.specs.Same.{same_ballot}
 use Rattle.sc_base.specs.declared.names.Ballot.{Ballot}
 use Rattle.sc_base.specs.declared.names.Draw.{Draw}
 use Rattle.sc_cmd.specs.declared.commands.Command.{Command}
 use Rattle.sc_mail.specs.declared.bodies.Mail.{Mail}
-use Rattle.sc_mail.specs.declared.bodies.MailBody.TheVariants.{Promise, Accepted, Nack, Ask}
+use Rattle.sc_mail.specs.declared.bodies.MailBody.TheVariants.{Promise, Accepted, Nack}
 use Rattle.sc_member.specs.Roster.{is_member}
 use Rattle.sc_member.specs.Majority.{is_majority}
 use Rattle.sc_paxos_words.proofs.ListLemmas.{Each-append}
@@ -25,13 +24,13 @@ use Rattle.sc_paxos_words.specs.Acceptors.{AcceptorState}
 use Rattle.sc_paxos_words.specs.Leaders.{LeaderState, flight_at, promise_counted}
 use Rattle.sc_paxos_words.specs.Votes.{kept_voters, voters_after, tallied, vote_at, counted}
 use Rattle.sc_node_table.specs.Slots.{with_slot}
-use Rattle.sc_node_table.specs.Replica.{ReplicaState, Place, Executed, childless, name_of, next, set_at, last_slot}
+use Rattle.sc_node_table.specs.Replica.{ReplicaState, Place, Executed, childless, name_of, next, set_at}
 use Rattle.sc_node_table.specs.Mails.{sent}
 use Rattle.sc_node_table.specs.Election.{saw}
 use Rattle.sc_node_table.specs.Execute.{executed, has_room}
 use Rattle.sc_node_table.specs.Install.{install_to}
 use Rattle.sc_node_table.specs.Pump.{pumped}
-use Rattle.sc_node_table.specs.Rows.{learn_row, most_taught, ask_row}
+use Rattle.sc_node_table.specs.Rows.{most_taught, ask_row}
 use Rattle.sc_node_table.specs.Voting.{hinted, promise_to, prepare_row, accepted_to, took, accept_row, leads, promise_row, readied, vote_tallied, voted, accepted_row, nack_row}
 use Rattle.sc_names_law.specs.Names.{Opt}
 use Rattle.sc_names_law.proofs.Lists.{opt_find, slot_with, flight_without, voters_with}
@@ -44,7 +43,7 @@ use Rattle.sc_refusal_law.proofs.Stopping.{saw_fine, installed_fine}
 use Rattle.sc_refusal_law.proofs.Pumping.{pumped_fine}
 use Rattle.sc_refusal_law.proofs.Executing.{counted_fine, executed_fine}
 
-module _ (start : ReplicaState) (A : Command → Type 0) (G : Draw → Type 0) (W : Ballot → Draw → ℕ) (Q : Type 0) (numbered : 1 ≤ start.me) where
+module _ (start : ReplicaState) (A : Command → Type 0) (G : Draw → ℕ → Type 0) (W : Ballot → Draw → ℕ) (Q : Type 0) (numbered : 1 ≤ start.me) where
   -- whether or not another leader was named
   abbrev F : Bool → Place → Type 0
   F refused place = FineAs start A G W Q refused true place

@@ -1,6 +1,6 @@
 -- Why a replica refuses what it is asked: each refusal by its cause, in the state that was executed when it was made. One step may execute several entries.
 use Rattle.std.specs.FinMap.{get}
-use Rattle.std.specs.Prelude.{◌≡◌, ℕ, ◌+◌, ◌<◌, ◌≤◌, Bool, true, false, List, [], ◌∷◌, ◌++◌, filter, map, Option, None, Some, ◌⊎◌}
+use Rattle.std.specs.Prelude.{◌≡◌, ℕ, ◌+◌, ◌<◌, ◌≤◌, Bool, true, false, List, [], ◌∷◌, ◌++◌, filter, length, map, Option, None, Some, ◌⊎◌}
 use Rattle.sc_base.specs.Among.{Among, Each}
 use Rattle.sc_base.specs.Drawing.{Drawer}
 use Rattle.sc_base.specs.Limits.{client_actor}
@@ -28,6 +28,7 @@ use Rattle.sc_machine_table.specs.Machine.{applied}
 use Rattle.sc_paxos_words.specs.Logs.{LogState, next_of, log_cut}
 use Rattle.sc_node_table.specs.declared.ReplicaInput.{ReplicaInput}
 use Rattle.sc_node_table.specs.declared.ReplicaInput.TheVariants as Given
+use Rattle.sc_node_table.specs.Acts.{has_act, is_giving_up}
 use Rattle.sc_node_table.specs.Execute.{answer_of, with_entry}
 use Rattle.sc_node_table.specs.Mails.{answered}
 use Rattle.sc_node_table.specs.Pump.{serves_calls}
@@ -256,7 +257,11 @@ pub record AnswersInTurn (r : ReplicaState) (input : Input Mail OrderLine) (afte
 
 -- ---- when a coordinator gives up
 
--- a settled coordinator gives up at a tick, after so many ticks before it
+-- how many ends of waiting of a transaction are queued
+abbrev pub ends_queued : Draw → List Command → ℕ
+ends_queued tx acts = length (filter (is_giving_up tx) acts)
+
+-- a settled coordinator gives up at a tick, after so many ticks before it, where no end of this waiting is queued, in flight or ready
 pub record IsImpatient (ticks : ℕ) (r : ReplicaState) (input : Input Mail OrderLine) (tx : Draw) : Type 0 where
   pub tick : input ≡ Tick
   pub leads : settled r ≡ true
@@ -265,6 +270,7 @@ pub record IsImpatient (ticks : ℕ) (r : ReplicaState) (input : Input Mail Orde
   pub heard : Option Heard
   pub locked : r.group.core.lock ≡ Coordinating tx body order heard
   pub long : patience ≤ ticks + 1
+  pub none : has_act (GiveUp tx) r ≡ false
 
 -- a command goes back from a flight: another was learnt at its slot, the next one
 pub record LostItsSlot (r : ReplicaState) (input : Input Mail OrderLine) (command : Command) : Type 0 where
@@ -278,20 +284,20 @@ pub record LostItsSlot (r : ReplicaState) (input : Input Mail OrderLine) (comman
   pub is_next : slot ≡ next r
   pub other : same_command command learnt ≡ false
 
--- an end of waiting that is queued was queued before, or is put there anew, after so many ticks, or goes back from a flight
-abbrev pub MayGiveUp : ℕ → ReplicaState → Input Mail OrderLine → Draw → Type 0
-MayGiveUp ticks r input tx = Among (GiveUp tx) r.acts ⊎ IsImpatient ticks r input tx ⊎ LostItsSlot r input (GiveUp tx)
+-- so many ends of waiting may be queued: no more than before, or one more, which is put there anew, after so many ticks, or goes back from a flight
+abbrev pub MayGiveUp : ℕ → ReplicaState → Input Mail OrderLine → Draw → ℕ → Type 0
+MayGiveUp ticks r input tx count = (count ≤ ends_queued tx r.acts) ⊎ ((count ≤ ends_queued tx r.acts + 1) × (IsImpatient ticks r input tx ⊎ LostItsSlot r input (GiveUp tx)))
 
 -- ---- the laws
 
--- a step of a replica executes what it is taught and what it has counted, unless it takes a state over; each of its answers is to a call that was asked, with its cause, and each end of waiting that is queued after it has its own
+-- a step of a replica executes what it is taught and what it has counted, unless it takes a state over; each of its answers is to a call that was asked, with its cause, and of each transaction no more ends of waiting are queued after it than may be
 pub record StepHasCauses (r : ReplicaState) (input : Input Mail OrderLine) (step : Place) : Type 0 where
   pub learnt : List Command
   pub counted : List Command
   pub learns : LearnsFirst input learnt counted
   pub executed : HasExecuted r step.0 (learnt ++ counted) ⊎ ((learnt ≡ []) × (counted ≡ []) × IsTakenOver input)
   pub answers : AnswersInTurn r input step.0 (state_after r.group learnt) counted step.1
-  pub acts : (tx : Draw) → Among (GiveUp tx) step.0.acts → MayGiveUp r.waits r input tx
+  pub acts : (tx : Draw) → MayGiveUp r.waits r input tx (ends_queued tx step.0.acts)
 
 -- the input of a node that is this one of its replicas
 abbrev pub at_node : ReplicaInput → Input Mail OrderLine

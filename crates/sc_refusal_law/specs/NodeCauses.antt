@@ -14,7 +14,7 @@ use Rattle.sc_mail.specs.declared.bodies.Mail.{Mail}
 use Rattle.sc_mail.specs.declared.bodies.MailBody.TheVariants.{Request}
 use Rattle.sc_node_table.specs.Node.{NodeState, group_of_mail, group_of_order, replica_of, node_table}
 use Rattle.sc_node_table.specs.Replica.{ReplicaState, name_of, listed}
-use Rattle.sc_refusal_law.specs.Causes.{IfAnswer, MayGiveUp, StepHasCauses}
+use Rattle.sc_refusal_law.specs.Causes.{IfAnswer, MayGiveUp, StepHasCauses, ends_queued}
 
 -- the replica of a group that an input is for, if it is for one and there is a replica
 abbrev pub replica_for : Option Draw → List ReplicaState → List ReplicaState
@@ -57,13 +57,13 @@ AreSentBy node after input [] mails = Each (λ (mail : Mail). IfAnswer (λ group
 AreSentBy node after input (replica ∷ replicas) mails =
     (part : List Mail) × (rest : List Mail) × (mails ≡ part ++ rest) × IsSentBy node after input replica part × AreSentBy node after input replicas rest
 
--- a replica may give up after a node's step: that of its group may have before it, or may now if it took the input, after so many ticks
+-- a replica may have ends of waiting queued after a node's step: no more than that of its group had before it, or as many as it may if it took the input, after so many ticks
 pub record MayGiveUpAt (ticks : ReplicaState → Draw → ℕ) (node after : NodeState) (input : Input Mail OrderLine) (later : ReplicaState) (tx : Draw) : Type 0 where
   pub replica : ReplicaState
   pub became : Became node after replica later
   pub may :
-      Among (GiveUp tx) replica.acts
-      ⊎ (Among replica (takers node input) × MayGiveUp (ticks replica tx) replica input tx)
+      (ends_queued tx later.acts ≤ ends_queued tx replica.acts)
+      ⊎ (Among replica (takers node input) × MayGiveUp (ticks replica tx) replica input tx (ends_queued tx later.acts))
 
 -- the answers of a node's step have causes: its mails are what the replicas send that take the input
 abbrev pub AnswersHaveCauses : NodeState → Input Mail OrderLine → NodeState → List Mail → Type 0

@@ -19,9 +19,9 @@ use sc_queue_law::queues_keep_one_call;
 /// group is gone; Stale where its table holds a greater number of the client, which is carried. Of
 /// another call NotMine and Gone come so of the state that the step leaves, and NotLeader where the
 /// replica does not run after the step, or was stopped by a state that it took over and elected
-/// anew. An end of waiting that is queued was queued before, or is put there at a tick of a settled
-/// coordinator that has counted its ticks, or goes back from a flight whose slot another command
-/// took.
+/// anew. After a step no more ends of waiting of a transaction are queued than before, or one more:
+/// it is put there at a tick of a settled coordinator that has counted its ticks, where none was
+/// queued, in flight or ready, or it goes back from a flight whose slot another command took.
 pub fn refusals_have_causes()
     ensures { StepsHaveCauses }
 {}
@@ -30,8 +30,8 @@ pub fn refusals_have_causes()
 /// policy or without, or takes an order. Its mails are what the replicas that take the input send
 /// in their steps, one behind another; or the node has no replica of the group that a request is
 /// for, and answers this at its client, in the group's name, that it does not lead, and names no
-/// other. Each end of waiting that a replica has queued after the step has its cause at the replica
-/// of that group before it.
+/// other. The ends of waiting that a replica has queued after the step have their cause at the
+/// replica of that group before it.
 pub fn nodes_have_causes()
     ensures { NodesHaveCauses }
 {}
