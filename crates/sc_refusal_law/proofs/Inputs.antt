@@ -174,8 +174,8 @@ module _ (r : ReplicaState) where
   abbrev Unnamed : Mail → Type 0
   Unnamed mail = IsNotLeader mail.body → ⊥
 
-  abbrev W0 : Ballot → Draw → ℕ
-  W0 ballot tx = 0
+  abbrev no_ticks : Ballot → Draw → ℕ
+  no_ticks ballot tx = 0
 
   -- what is no answer names no leader
   plain_unnamed : (mail : Mail) → is_answer mail.body ≡ false → Unnamed mail
@@ -186,14 +186,14 @@ module _ (r : ReplicaState) where
   entry_unnamed to from group entries client seq op answer c (g, s, hint, e) =
       let same : answer ≡ Says.NotLeader hint = cc in subst (λ a. HasCauseAtEntry r.group entries client seq op a) same c
 
-  none_named : (entries : List Command) (mail : Mail) → Caused r Any Ever W0 ⊥ entries false true mail → Unnamed mail
-  none_named entries mail c named = (let caused = subst (CausedBody r Any Ever W0 ⊥ entries false true mail.to) named.3 c in let never : false ≡ true = caused.cause in cc)
+  none_named : (entries : List Command) (mail : Mail) → Caused r Any Ever no_ticks ⊥ entries false true mail → Unnamed mail
+  none_named entries mail c named = (let caused = subst (CausedBody r Any Ever no_ticks ⊥ entries false true mail.to) named.3 c in let never : false ≡ true = caused.cause in cc)
 
-  sent_unnamed : (entries : List Command) (mails : List Mail) → AllCaused r Any Ever W0 ⊥ entries false true mails → Each Unnamed mails
+  sent_unnamed : (entries : List Command) (mails : List Mail) → AllCaused r Any Ever no_ticks ⊥ entries false true mails → Each Unnamed mails
   sent_unnamed entries mails c =
       let first : Each Unnamed (entry_answers r.me (name_of r) r.group entries) =
       entries_each Any r.me (name_of r) r.group Unnamed entries (Each-from (IfCall Any) entries (λ command among client seq op e. tt)) (λ client seq op answer a cause. entry_unnamed (client_actor client) r.me (name_of r) entries client seq op answer cause) in
-      let others : Each Unnamed c.others = Each-weaker (Caused r Any Ever W0 ⊥ entries false true) Unnamed (λ mail k. none_named entries mail k) c.others c.causes in
+      let others : Each Unnamed c.others = Each-weaker (Caused r Any Ever no_ticks ⊥ entries false true) Unnamed (λ mail k. none_named entries mail k) c.others c.causes in
       all_from_answers Unnamed plain_unnamed mails (subst (Each Unnamed) (sym c.are) (Each-append Unnamed (entry_answers r.me (name_of r) r.group entries) c.others first others))
 
   any_kept : (command : Command) → Kept Any Ever command
@@ -214,7 +214,7 @@ module _ (r : ReplicaState) where
   each_any of [] = tt
   each_any of (x ∷ xs) = (any_kept (of x), each_any of xs)
 
-  begins : FineAs r Any Ever W0 ⊥ false true (r, [])
+  begins : FineAs r Any Ever no_ticks ⊥ false true (r, [])
   begins = (
     record {
       calls = each_any (λ command. command) r.calls;
@@ -224,23 +224,23 @@ module _ (r : ReplicaState) where
       ready = each_any (λ counted. counted.1) r.ready;
       reports = each_any (λ report. report.value) r.leader.reports;
     },
-    record { entries = []; me_is = refl; name_is = refl; group_is = refl; log_is = refl; out = λ e. cc; patient = λ never. absurd never; sent = none_caused r Any Ever W0 ⊥ false true },
+    record { entries = []; me_is = refl; name_is = refl; group_is = refl; log_is = refl; out = λ e. cc; patient = λ never. absurd never; sent = none_caused r Any Ever no_ticks ⊥ false true },
   )
 
   -- what a running replica refuses for is another thing
-  not_named : (seq : ℕ) (op : Op) (answer : AnswerBody) (group : Draw) → Untaken r Any Ever W0 ⊥ r op answer → r.running ≡ true → IsNotLeader (Answer group seq answer) → ⊥
+  not_named : (seq : ℕ) (op : Op) (answer : AnswerBody) (group : Draw) → Untaken r Any Ever no_ticks ⊥ r op answer → r.running ≡ true → IsNotLeader (Answer group seq answer) → ⊥
   not_named seq op answer group u runs (g, s, hint, e) =
       let same : answer ≡ Says.NotLeader hint = cc in
-      let idle : r.running ≡ false = subst (Untaken r Any Ever W0 ⊥ r op) same u in absurd (true≢false (sym runs ∙ idle))
+      let idle : r.running ≡ false = subst (Untaken r Any Ever no_ticks ⊥ r op) same u in absurd (true≢false (sym runs ∙ idle))
 
-  taken : (o : Option AnswerBody) (client seq : ℕ) (op : Op) → ((answer : AnswerBody) → o ≡ Some answer → Untaken r Any Ever W0 ⊥ r op answer) → r.running ≡ true → Each Unnamed (requested o client seq op (r, [])).1
+  taken : (o : Option AnswerBody) (client seq : ℕ) (op : Op) → ((answer : AnswerBody) → o ≡ Some answer → Untaken r Any Ever no_ticks ⊥ r op answer) → r.running ≡ true → Each Unnamed (requested o client seq op (r, [])).1
   unfolding requested
   taken (Some answer) client seq op u runs = (not_named seq op answer (name_of r) (u answer refl) runs, tt)
   taken None client seq op u runs =
-      let f = queued_so r Any Ever W0 ⊥ (call_of r.calls client) client seq op r [] tt begins in
+      let f = queued_so r Any Ever no_ticks ⊥ (call_of r.calls client) client seq op r [] tt begins in
       sent_unnamed f.1.entries (queued (call_of r.calls client) client seq op (r, [])).1 f.1.sent
 
 pub requests_are_taken : RunningReplicasTakeRequests
 unfolding stepped mailed request_row
 requests_are_taken on drawer r from to group client seq op runs =
-    taken r (refused_at r.group.core.gone op r) client seq op (λ answer e. refusal_by r (Any r) (Ever r) (W0 r) ⊥ r.group.core.gone r op answer refl e) runs
+    taken r (refused_at r.group.core.gone op r) client seq op (λ answer e. refusal_by r (Any r) (Ever r) (no_ticks r) ⊥ r.group.core.gone r op answer refl e) runs
