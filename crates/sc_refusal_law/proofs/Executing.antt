@@ -1,41 +1,32 @@
 -- What an execution answers has its cause in the state before the entry, and what the replica is after it stands behind one entry more.
-use Rattle.std.proofs.Common.{◌≡◌, ◌<◌, ◌≤◌, ℕ, ◌&&◌, ◌||◌, nat_lt, eqb, Bool, true, false, cond, List, [], ◌∷◌, ◌++◌, Option, Some, None, inl, refl, sym, ap, subst, ◌∙◌, arith}
+use Rattle.std.proofs.Common.{◌≡◌, ◌≤◌, ℕ, ◌&&◌, ◌||◌, eqb, Bool, true, false, cond, List, [], ◌∷◌, ◌++◌, Option, Some, None, refl, sym, ap, subst, ◌∙◌, arith}
 use Rattle.std.specs.List.{list_any}
 use Rattle.std.specs.Option.{option_map}
 use Rattle.sc_paxos_words.specs.Leaders.{LeaderState, flight_at}
 use Rattle.sc_paxos_words.specs.declared.flights.Flight.{Flight}
 use Rattle.sc_node_table.specs.Sameness.{same_command}
-use Rattle.std.specs.FinMap.{get}
-use Rattle.std.proofs.lemmas.Bool.{cond_both, ltb-false, eqb-false, eqb-true, eq-eqb, or_parts, or_left, and_parts, true≢false}
-use Rattle.sc_base.specs.Limits.{client_actor}
+use Rattle.std.proofs.lemmas.Bool.{cond_both, eqb-true, eq-eqb, or_parts, or_left, and_parts, true≢false}
 use Rattle.sc_base.specs.declared.names.Ballot.{Ballot}
 use Rattle.sc_base.specs.declared.names.Draw.{Draw}
-use Rattle.sc_base.specs.declared.ops.Noted.{Noted}
-use Rattle.sc_base.specs.declared.ops.Op.{Op}
-use Rattle.sc_ideal.specs.IdealStore.{key_of, reply_of, holds_key}
 use Rattle.sc_cmd.specs.declared.commands.Command.{Command}
 use Rattle.sc_cmd.specs.declared.commands.Command.TheVariants.{Noop, Call, Join, Leave, Split, Begin, Prepared, RecordVote, GiveUp, Finish, Watched, RecordWatch}
-use Rattle.sc_cmd.specs.declared.cores.Lock.{Lock}
-use Rattle.sc_cmd.specs.declared.cores.Lock.TheVariants.{Free, Coordinating, Promised, Watching}
 use Rattle.sc_cmd.specs.declared.effects.Effect.{Effect}
-use Rattle.sc_cmd.specs.declared.effects.Effect.TheVariants as Was
 use Rattle.sc_cmd.specs.declared.links.Route.{Route}
 use Rattle.sc_cmd.specs.declared.orders.ToldResult.{ToldResult}
 use Rattle.sc_mail.specs.declared.bodies.AnswerBody.{AnswerBody}
 use Rattle.sc_mail.specs.declared.bodies.AnswerBody.TheVariants as Says
 use Rattle.sc_mail.specs.declared.bodies.Mail.{Mail}
-use Rattle.sc_mail.specs.declared.bodies.MailBody.TheVariants.{Answer, Learn}
+use Rattle.sc_mail.specs.declared.bodies.MailBody.TheVariants.{Learn}
 use Rattle.sc_member.specs.Roster.{is_member, least_of}
 use Rattle.sc_machine_table.specs.Group.{Group}
 use Rattle.sc_machine_table.specs.Logs.{state_after}
-use Rattle.sc_machine_table.specs.Machine.{applied, called, served, served_by_note}
+use Rattle.sc_machine_table.specs.Machine.{applied}
 use Rattle.sc_machine_table.proofs.LogLemmas.{state_push}
 use Rattle.sc_paxos_words.specs.Logs.{LogState}
 use Rattle.sc_node_table.specs.declared.Before.{Before}
 use Rattle.sc_node_table.specs.Election.{elected, ended, stopped}
 use Rattle.sc_node_table.specs.Execute.{entered, answer_of, told_call, order_result, told_effect, announced, learnt_to, welcomed, slot_lost, landed, left_gone, left, is_among, looked_for, looked, executed_one, next_child, has_room, next_ready, ending, executed_ready, all_ready, executed}
-use Rattle.sc_node_table.specs.Mails.{sent_others, order_number}
-use Rattle.sc_node_table.specs.Pump.{serves_calls}
+use Rattle.sc_node_table.specs.Mails.{sent_others, answer_to, order_number}
 use Rattle.sc_node_table.specs.Queues.{put_back}
 use Rattle.sc_node_table.specs.Replica.{ReplicaState, Place, Executed, childless, name_of, next, members, flying, forgotten}
 use Rattle.sc_node_table.specs.Slots.{at_slot}
@@ -43,63 +34,31 @@ use Rattle.sc_node_table.specs.Spoken.{before_of, spoken}
 use Rattle.sc_names_law.proofs.Lists.{opt_slot, slot_without, flight_without}
 use Rattle.sc_law_lemmas.proofs.Places.{welcomed_place, cleared}
 use Rattle.sc_law_lemmas.proofs.Ways.{either_way}
-use Rattle.sc_refusal_law.specs.Causes.{IsRefusedAtEntry, RefusesCall, log_with, log_after}
+use Rattle.sc_refusal_law.specs.Causes.{answers_in, effect_answers, log_with, log_after}
 use Rattle.sc_refusal_law.proofs.Keeping.{Kept, KeptOne, Due, Holds, back_kept, flying_kept}
-use Rattle.sc_refusal_law.proofs.Plain.{sent_one, others_plain, told_plain, spoken_plain}
-use Rattle.sc_refusal_law.proofs.Standing.{CauseSo, Caused, caused_plain, more_caused, turned_caused, FineAs, Fine, turned_fine, resent}
+use Rattle.sc_refusal_law.proofs.Plain.{others_plain, told_plain, spoken_plain}
+use Rattle.sc_refusal_law.proofs.Answering.{told_answers}
+use Rattle.sc_refusal_law.proofs.Standing.{AllCaused, plain_caused, entry_caused, turned_caused, StandsIn, FineAs, Fine, turned_fine, resent}
 use Rattle.sc_refusal_law.proofs.Locking.{entry_turns, still_allowed}
 use Rattle.sc_refusal_law.proofs.Stopping.{ended_fine, stopped_fine, elected_fine, welcomed_fine}
 use Rattle.sc_refusal_law.proofs.Deciding.{same_leader}
 use Rattle.sc_refusal_law.proofs.Pumping.{lacking, pumped_still}
-
--- ---- the effect of a call
-
--- a reply, or a refusal by the state before it
-abbrev IsCaused : Group → ℕ → ℕ → Op → AnswerBody → Type 0
-IsCaused group client seq op (Says.Value reply) = Unit {0}
-IsCaused group client seq op (Says.NotLeader hint) = ⊥
-IsCaused group client seq op (Says.NotMine arc succ) = RefusesCall group client seq op (Says.NotMine arc succ)
-IsCaused group client seq op (Says.Gone into) = RefusesCall group client seq op (Says.Gone into)
-IsCaused group client seq op (Says.Stale last) = RefusesCall group client seq op (Says.Stale last)
-
--- what an effect is answered with is caused
-abbrev Answers : Group → ℕ → ℕ → Op → Group × Effect → Type 0
-Answers group client seq op step = (answer : AnswerBody) → answer_of step.1 ≡ Some answer → IsCaused group client seq op answer
-
-by_note : (o : Option Noted) (group : Group) (client seq : ℕ) (op : Op) → get group.clients client ≡ o → Answers group client seq op (served_by_note o group client seq op)
-by_note None group client seq op e = λ answer a. (let same : Says.Value (reply_of op group.pairs) ≡ answer = cc in subst (IsCaused group client seq op) same tt)
-by_note (Some noted) group client seq op e =
-    cond_both (nat_lt noted.seq seq) _ _ (Answers group client seq op) (λ _ answer a. (let same : Says.Value (reply_of op group.pairs) ≡ answer = cc in subst (IsCaused group client seq op) same tt))
-    (λ h. cond_both (eqb noted.seq seq) (group, Was.Again noted.reply) (group, Was.Stale noted.seq) (Answers group client seq op)
-    (λ _ answer a. (let same : Says.Value noted.reply ≡ answer = cc in subst (IsCaused group client seq op) same tt))
-    (λ k answer a. (
-    let low = ltb-false noted.seq seq h in
-    let other = eqb-false noted.seq seq k in
-    let above : seq < noted.seq = omega (arith, low, other) in
-    let same : Says.Stale noted.seq ≡ answer = cc in subst (IsCaused group client seq op) same (noted, e, refl, above))))
-
-by_arc : (group : Group) (client seq : ℕ) (op : Op) → group.core.gone ≡ None → serves_calls group.core.lock ≡ true → Answers group client seq op (served group client seq op)
-by_arc group client seq op g l =
-    cond_both (holds_key group.core.arc (key_of op)) _ _ (Answers group client seq op) (λ _. by_note (get group.clients client) group client seq op refl)
-    (λ lacks answer a. (let same : Says.NotMine group.core.arc group.core.succ ≡ answer = cc in subst (IsCaused group client seq op) same (g, l, lacks, refl, refl)))
-
-by_lock : (gone : Option Route) (lock : Lock) (group : Group) (client seq : ℕ) (op : Op) → gone ≡ group.core.gone → lock ≡ group.core.lock → Answers group client seq op (called gone lock group client seq op)
-by_lock (Some into) lock group client seq op g l = λ answer a. (let same : Says.Gone into ≡ answer = cc in subst (IsCaused group client seq op) same (sym g))
-by_lock None Free group client seq op g l = by_arc group client seq op (sym g) (ap serves_calls (sym l))
-by_lock None (Watching tx watch) group client seq op g l = by_arc group client seq op (sym g) (ap serves_calls (sym l))
-by_lock None (Coordinating tx body order heard) group client seq op g l = λ answer a. cc
-by_lock None (Promised tx offer) group client seq op g l = λ answer a. cc
-
--- an executed call is answered by a reply, or refused by the state before it
-call_answers : (group : Group) (client seq : ℕ) (op : Op) → Answers group client seq op (applied group (Call client seq op))
-call_answers group client seq op = by_lock group.core.gone group.core.lock group client seq op refl refl
 
 -- the log after one entry more
 log_push : (log : LogState Command) (entries : List Command) (command : Command) → log_after log (entries ++ command ∷ []) ≡ log_with (log_after log entries) command
 log_push log [] command = refl
 log_push log (entry ∷ entries) command = log_push (log_with log entry) entries command
 
-module _ (start : ReplicaState) (A : Command → Type 0) (G : Draw → Type 0) (W : Ballot → Draw → ℕ) (Q : Type 0) (numbered : 1 ≤ start.me) where
+-- after an entry a replica has its number, and its group the name
+pub entered_me : (command : Command) (r : ReplicaState) → (entered command r).me ≡ r.me
+unfolding entered forgotten
+entered_me command r = refl
+
+pub entered_name : (command : Command) (r : ReplicaState) → name_of (entered command r) ≡ name_of r
+unfolding entered forgotten
+entered_name command r = (entry_turns r.group command).name
+
+module _ (start : ReplicaState) (A : Command → Type 0) (G : Draw → ℕ → Type 0) (W : Ballot → Draw → ℕ) (Q : Type 0) (numbered : 1 ≤ start.me) where
   -- while entries are executed no other leader is named, and no call that is not executed is turned down
   abbrev F : Place → Type 0
   F place = FineAs start A G W Q false false place
@@ -110,42 +69,51 @@ module _ (start : ReplicaState) (A : Command → Type 0) (G : Draw → Type 0) (
   unfolding entered forgotten
   kept_through command r h = record { calls = h.calls; acts = h.acts; due = h.due; flights = h.flights; ready = h.ready; reports = h.reports }
 
-  entered_fine : (command : Command) (r : ReplicaState) (mails : List Mail) → F (r, mails) → F (entered command r, mails)
+  -- ---- the answer to a counted call
+
+  -- one that has executed one entry more stands, with the mails that answer it
+  entered_stands : (command : Command) (r : ReplicaState) (mails more : List Mail) (f : F (r, mails)) → AllCaused start A G W Q (f.1.entries ++ command ∷ []) false false more → StandsIn start A G W Q false false (entered command r) more
   unfolding entered forgotten
-  entered_fine command r mails f =
-      let turns = entry_turns r.group command in (
-        kept_through command r f.0,
-        record {
-          entries = f.1.entries ++ command ∷ [];
-          me_is = f.1.me_is;
-          name_is = turns.name ∙ f.1.name_is;
-          group_is = ap (λ g. (applied g command).0) f.1.group_is ∙ sym (state_push start.group f.1.entries command);
-          log_is = ap (λ log. log_with log command) f.1.log_is ∙ sym (log_push start.log f.1.entries command);
-          out = f.1.out;
-          patient = λ q runs. still_allowed W r.leader.ballot r.group.core.lock (applied r.group command).0.core.lock r.waits turns.lock (f.1.patient q runs);
-          sent = more_caused start A G W Q f.1.entries (command ∷ []) false mails f.1.sent;
-        },
-      )
+  entered_stands command r mails more f s =
+      let turns = entry_turns r.group command in
+      record {
+        entries = f.1.entries ++ command ∷ [];
+        me_is = f.1.me_is;
+        name_is = turns.name ∙ f.1.name_is;
+        group_is = ap (λ g. (applied g command).0) f.1.group_is ∙ sym (state_push start.group f.1.entries command);
+        log_is = ap (λ log. log_with log command) f.1.log_is ∙ sym (log_push start.log f.1.entries command);
+        out = f.1.out;
+        patient = λ q runs. still_allowed W r.leader.ballot r.group.core.lock (applied r.group command).0.core.lock r.waits turns.lock (f.1.patient q runs);
+        sent = s;
+      }
 
-  -- ---- what its client is answered, by what was executed before it
+  -- the answer is by the effect on the state that the entry met
+  answers_so : (answer : Option AnswerBody) (command : Command) (r : ReplicaState) (mails : List Mail) (f : F (r, mails)) → answer ≡ answer_of (applied r.group command).1
+      → answers_in (told_call answer command (entered command r, mails)).1 ≡ answers_in mails ++ effect_answers start.me (name_of start) (answer_of (applied (state_after start.group f.1.entries) command).1) command
+  answers_so answer command r mails f e =
+      let here : answers_in (told_call answer command (entered command r, mails)).1 ≡ answers_in mails ++ effect_answers (entered command r).me (name_of (entered command r)) answer command = told_answers answer command (entered command r, mails) in
+      here
+      ∙ ap (λ (me : ℕ). answers_in mails ++ effect_answers me (name_of (entered command r)) answer command) (entered_me command r ∙ f.1.me_is)
+      ∙ ap (λ (name : Draw). answers_in mails ++ effect_answers start.me name answer command) (entered_name command r ∙ f.1.name_is)
+      ∙ ap (λ (o : Option AnswerBody). answers_in mails ++ effect_answers start.me (name_of start) o command) (e ∙ ap (λ (g : Group). answer_of (applied g command).1) f.1.group_is)
 
-  -- the entries of a place are these and one command, and those were executed to this state
-  record IsBehind (before : Group) (command : Command) (entries : List Command) : Type 0 where
-    front : List Command
-    are : entries ≡ front ++ command ∷ []
-    state : before ≡ state_after start.group front
+  told_by : (answer : Option AnswerBody) (command : Command) (r : ReplicaState) (mails : List Mail) (f : F (r, mails)) → Kept A G command
+      → AllCaused start A G W Q (f.1.entries ++ command ∷ []) false false (told_call answer command (entered command r, mails)).1 → F (told_call answer command (entered command r, mails))
+  unfolding told_call put_back
+  told_by (Some answer) (Call client seq op) r mails f k s =
+      (kept_through (Call client seq op) r f.0, entered_stands (Call client seq op) r mails (answer_to (entered (Call client seq op) r).me (name_of (entered (Call client seq op) r)) client seq answer mails) f s)
+  told_by None (Call client seq op) r mails f k s =
+      (back_kept A G (Call client seq op) (entered (Call client seq op) r) k tt (kept_through (Call client seq op) r f.0), entered_stands (Call client seq op) r mails mails f s)
+  told_by (Some answer) command r mails f k s = (kept_through command r f.0, entered_stands command r mails mails f s)
+  told_by None command r mails f k s = (kept_through command r f.0, entered_stands command r mails mails f s)
 
-  refused_so : (before : Group) (client seq : ℕ) (op : Op) (entries : List Command) (answer : AnswerBody) → IsBehind before (Call client seq op) entries → RefusesCall before client seq op answer → IsRefusedAtEntry start.group entries client seq op answer
-  refused_so before client seq op entries answer b c = record { front = b.front; rest = []; are = b.are; refuses = subst (λ g. RefusesCall g client seq op answer) b.state c }
+  told_fine : (answer : Option AnswerBody) (command : Command) (r : ReplicaState) (mails : List Mail) (f : F (r, mails)) → Kept A G command → answer ≡ answer_of (applied r.group command).1 → F (told_call answer command (entered command r, mails))
+  told_fine answer command r mails f k e =
+      told_by answer command r mails f k (entry_caused start A G W Q f.1.entries command mails (told_call answer command (entered command r, mails)).1 k (answers_so answer command r mails f e) f.1.sent)
 
-  caused_so : (before : Group) (client seq : ℕ) (op : Op) (entries : List Command) (answer : AnswerBody) → IsBehind before (Call client seq op) entries → IsCaused before client seq op answer → CauseSo start A G W Q entries false false client seq op answer
-  caused_so before client seq op entries (Says.Value reply) b c = tt
-  caused_so before client seq op entries (Says.NotLeader hint) b c = absurd c
-  caused_so before client seq op entries (Says.NotMine arc succ) b c = inl (refused_so before client seq op entries (Says.NotMine arc succ) b c)
-  caused_so before client seq op entries (Says.Gone into) b c = inl (refused_so before client seq op entries (Says.Gone into) b c)
-  caused_so before client seq op entries (Says.Stale last) b c = refused_so before client seq op entries (Says.Stale last) b c
+  -- ---- what is said of it
 
-  back_fine : (command : Command) (r : ReplicaState) (mails : List Mail) → Kept A G command → Due A G command → F (r, mails) → F (put_back command r, mails)
+  back_fine : (command : Command) (r : ReplicaState) (mails : List Mail) → Kept A G command → Due A G command r.acts → F (r, mails) → F (put_back command r, mails)
   unfolding put_back
   back_fine Noop r mails k d f = (back_kept A G Noop r k d f.0, f.1)
   back_fine (Call client seq op) r mails k d f = (back_kept A G (Call client seq op) r k d f.0, f.1)
@@ -160,48 +128,33 @@ module _ (start : ReplicaState) (A : Command → Type 0) (G : Draw → Type 0) (
   back_fine (Watched tx watch) r mails k d f = (back_kept A G (Watched tx watch) r k d f.0, f.1)
   back_fine (RecordWatch tx vote by) r mails k d f = (back_kept A G (RecordWatch tx vote by) r k d f.0, f.1)
 
-  told_fine : (before : Group) (answer : Option AnswerBody) (command : Command) (place : Place) (f : F place) → Kept A G command → IsBehind before command f.1.entries
-      → ((client seq : ℕ) (op : Op) (said : AnswerBody) → command ≡ Call client seq op → answer ≡ Some said → IsCaused before client seq op said) → F (told_call answer command place)
-  unfolding told_call
-  told_fine before (Some answer) (Call client seq op) (r, mails) f k b causes =
-      let s = f.1 in (
-        f.0,
-        resent start A G W Q false false r mails _ s
-            (sent_one (Caused start A G W Q s.entries false false) (caused_plain start A G W Q s.entries false false) mails (record { from = r.me; to = client_actor client; body = Answer (name_of r) seq answer })
-            (record { own = s.name_is; client = client; op = op; receiver = refl; was_asked = k; cause = caused_so before client seq op s.entries answer b (causes client seq op answer refl refl) }) s.sent),
-      )
-  told_fine before None (Call client seq op) (r, mails) f k b causes = back_fine (Call client seq op) r mails k tt f
-  told_fine before (Some answer) _ place f k b causes = f
-  told_fine before None _ place f k b causes = f
-
   effect_fine : (result : Option ToldResult) (command : Command) (place : Place) → F place → F (told_effect result command place)
   unfolding told_effect
   effect_fine None command place f = f
   effect_fine (Some result) command (r, mails) f =
-      (f.0, resent start A G W Q false false r mails _ f.1 (told_plain (Caused start A G W Q f.1.entries false false) (caused_plain start A G W Q f.1.entries false false) r.me (order_number command) result mails f.1.sent))
+      (f.0, resent start A G W Q false false r mails _ f.1 (told_plain (AllCaused start A G W Q f.1.entries false false) (plain_caused start A G W Q f.1.entries false false) r.me (order_number command) result mails f.1.sent))
 
-  -- a counted command is one that was kept
-  abbrev KeptIf : Bool → Command → Type 0
-  KeptIf counted command = counted ≡ true → Kept A G command
-
-  announced_fine : (before : Group) (counted : Bool) (command : Command) (place : Place) (f : F place) → KeptIf counted command → IsBehind before command f.1.entries → F (announced counted (applied before command).1 command place)
+  -- a counted entry, of a command that was kept
+  pub counted_fine : (command : Command) (r : ReplicaState) (mails : List Mail) → Kept A G command → F (r, mails) → F (announced true (applied r.group command).1 command (entered command r, mails))
   unfolding announced
-  announced_fine before counted command place f k b =
-      let effect : Effect = (applied before command).1 in
-      effect_fine (order_result command effect) command (cond counted (told_call (answer_of effect) command place) place)
-      (cond_both counted (told_call (answer_of effect) command place) place F
-      (λ e. told_fine before (answer_of effect) command place f (k e) b (λ client seq op said c a. call_answers before client seq op said (subst (λ x. answer_of (applied before x).1 ≡ Some said) c a))) (λ _. f))
+  counted_fine command r mails k f =
+      let effect : Effect = (applied r.group command).1 in effect_fine (order_result command effect) command (told_call (answer_of effect) command (entered command r, mails)) (told_fine (answer_of effect) command r mails f k refl)
+
+  -- one that is learnt is told to no client
+  pub learning_fine : (effect : Effect) (command : Command) (place : Place) → F place → F (announced false effect command place)
+  unfolding announced
+  learning_fine effect command place f = effect_fine (order_result command effect) command place f
 
   spoken_fine : (counted : Bool) (before : Before) (effect : Effect) (command : Command) (place : Place) → F place → F (spoken counted before effect command place)
   unfolding spoken
   spoken_fine counted before effect command (r, mails) f =
-      (f.0, resent start A G W Q false false r mails _ f.1 (spoken_plain (Caused start A G W Q f.1.entries false false) (caused_plain start A G W Q f.1.entries false false) counted r.me r.group before effect command mails f.1.sent))
+      (f.0, resent start A G W Q false false r mails _ f.1 (spoken_plain (AllCaused start A G W Q f.1.entries false false) (plain_caused start A G W Q f.1.entries false false) counted r.me r.group before effect command mails f.1.sent))
 
   learnt_fine : (counted : Bool) (nodes : List ℕ) (slot : ℕ) (command : Command) (place : Place) → F place → F (learnt_to counted nodes slot command place)
   unfolding learnt_to
   learnt_fine counted nodes slot command (r, mails) f =
       either_way F counted (r, sent_others r.me nodes (Learn (name_of r) slot command) mails) (r, mails)
-      (f.0, resent start A G W Q false false r mails _ f.1 (others_plain (Caused start A G W Q f.1.entries false false) (caused_plain start A G W Q f.1.entries false false) r.me nodes (Learn (name_of r) slot command) mails tt f.1.sent)) f
+      (f.0, resent start A G W Q false false r mails _ f.1 (others_plain (AllCaused start A G W Q f.1.entries false false) (plain_caused start A G W Q f.1.entries false false) r.me nodes (Learn (name_of r) slot command) mails tt f.1.sent)) f
 
   cleared_fine : (slot : ℕ) (place : Place) → F place → F (cleared slot place)
   cleared_fine slot (r, mails) f = (
@@ -210,13 +163,13 @@ module _ (start : ReplicaState) (A : Command → Type 0) (G : Draw → Type 0) (
   )
 
   -- what loses its slot goes back, and may
-  lost_fine : (counted : Bool) (slot : ℕ) (command : Command) (o : Option Command) (place : Place) → KeptOne A G o → ((other : Command) → o ≡ Some other → counted ≡ false → same_command other command ≡ false → Due A G other) → F place → F (slot_lost counted command o place.0, place.1)
+  lost_fine : (counted : Bool) (slot : ℕ) (command : Command) (o : Option Command) (place : Place) → KeptOne A G o → ((other : Command) → o ≡ Some other → counted ≡ false → same_command other command ≡ false → Due A G other place.0.acts) → F place → F (slot_lost counted command o place.0, place.1)
   lost_fine counted slot command None (r, mails) k d f = f
   lost_fine counted slot command (Some other) (r, mails) k d f =
       cond_both (counted || same_command other command) r (put_back other r) (λ (x : ReplicaState). F (x, mails)) (λ _. f)
       (λ e. (let parts = or_parts counted (same_command other command) e in back_fine other r mails k (d other refl parts.0 parts.1) f))
 
-  landed_fine : (counted : Bool) (slot : ℕ) (command : Command) (place : Place) → KeptOne A G (flying place.0 slot) → ((other : Command) → flying place.0 slot ≡ Some other → counted ≡ false → same_command other command ≡ false → Due A G other) → F place → F (landed counted slot command place)
+  landed_fine : (counted : Bool) (slot : ℕ) (command : Command) (place : Place) → KeptOne A G (flying place.0 slot) → ((other : Command) → flying place.0 slot ≡ Some other → counted ≡ false → same_command other command ≡ false → Due A G other place.0.acts) → F place → F (landed counted slot command place)
   unfolding landed
   landed_fine counted slot command (r, mails) k d f = lost_fine counted slot command (flying r slot) (cleared slot (r, mails)) k d (cleared_fine slot (r, mails) f)
 
@@ -274,7 +227,7 @@ module _ (start : ReplicaState) (A : Command → Type 0) (G : Draw → Type 0) (
       let place : Place = ended None (Says.Gone into) (r, mails) in
       let fine : FineAs start A G W Q false true place =
       ended_fine start A G W Q false false false true None (Says.Gone into) r mails f (λ ms c. turned_caused start A G W Q f.1.entries false false ms c)
-      (λ client seq op. lacking start A G W Q false f.1.entries r.group client seq op (Says.Gone into) f.1.group_is (sym g)) in
+      (λ op. lacking start A G W Q false f.1.entries r.group op (Says.Gone into) f.1.group_is (sym g)) in
       gone_looks Past into place.0 place.1 g (record { refused = false; turned = true; fine = fine; runs = λ e. cc })
 
   stopped_past : (r : ReplicaState) (mails : List Mail) → None ≡ r.group.core.gone → F (r, mails) → Past (looked (stopped (Some (least_of (members r))) (r, mails)))
@@ -299,17 +252,14 @@ module _ (start : ReplicaState) (A : Command → Type 0) (G : Draw → Type 0) (
 
   -- a learnt command may take the slot of another, which may then go back
   abbrev pub MayLose : Bool → Command → ReplicaState → Type 0
-  MayLose counted command r = (other : Command) → flying r (next r) ≡ Some other → counted ≡ false → same_command other command ≡ false → Due A G other
+  MayLose counted command r = (other : Command) → flying r (next r) ≡ Some other → counted ≡ false → same_command other command ≡ false → Due A G other r.acts
 
-  one_fine : (counted : Bool) (command : Command) (place : Place) → KeptIf counted command → MayLose counted command place.0 → F place → Past (executed_one counted command place)
-  unfolding executed_one entered_fine
-  one_fine counted command (r, mails) k d f =
+  -- after an entry that was announced
+  one_fine : (counted : Bool) (command : Command) (r : ReplicaState) (mails : List Mail) → MayLose counted command r → F (announced counted (applied r.group command).1 command (entered command r, mails)) → Past (executed_one counted command (r, mails))
+  unfolding executed_one
+  one_fine counted command r mails d f1 =
       let effect : Effect = (applied r.group command).1 in
-      let place0 : Place = (entered command r, mails) in
-      let f0 : F place0 = entered_fine command r mails f in
-      let behind : IsBehind r.group command (f.1.entries ++ command ∷ []) = record { front = f.1.entries; are = refl; state = f.1.group_is } in
-      let place1 : Place = announced counted effect command place0 in
-      let f1 : F place1 = announced_fine r.group counted command place0 f0 k behind in
+      let place1 : Place = announced counted effect command (entered command r, mails) in
       let place2 : Place = spoken counted (before_of r.group.core) effect command place1 in
       let f2 : F place2 = spoken_fine counted (before_of r.group.core) effect command place1 f1 in
       let place3 : Place = learnt_to counted (members r) (next r) command place2 in
@@ -317,10 +267,16 @@ module _ (start : ReplicaState) (A : Command → Type 0) (G : Draw → Type 0) (
       let place4 : Place = welcomed counted (members r) place3 in
       let f4 : F place4 = welcomed_place F (welcomed_fine start A G W Q false false) counted (members r) place3 f3 in
       let place5 : Place = landed counted (next r) command place4 in
-      let leads : place4.0.leader ≡ r.leader = same_leader counted effect command r mails in
+      let as_it_was = same_leader counted effect command r mails in
+      let leads : place4.0.leader ≡ r.leader = as_it_was.0 in
+      let acts : place4.0.acts ≡ r.acts = as_it_was.1 in
       let flies : flying place4.0 (next r) ≡ flying r (next r) = ap (λ (leader : LeaderState Command). option_map (λ (flight : Flight Command). flight.value) (flight_at (next r) leader.flights)) leads in
-      let f5 : F place5 = landed_fine counted (next r) command place4 (flying_kept A G place4.0 (next r) f4.0) (λ other e. d other (sym flies ∙ e)) f4 in
+      let f5 : F place5 = landed_fine counted (next r) command place4 (flying_kept A G place4.0 (next r) f4.0) (λ other e learns apart. subst (Due A G other) (sym acts) (d other (sym flies ∙ e) learns apart)) f4 in
       left_past place5 f5
+
+  -- a counted one
+  counted_one : (command : Command) (place : Place) → Kept A G command → F place → Past (executed_one true command place)
+  counted_one command (r, mails) k f = one_fine true command r mails (λ other flies counted. cc) (counted_fine command r mails k f)
 
   -- ---- what was ready
 
@@ -348,16 +304,16 @@ module _ (start : ReplicaState) (A : Command → Type 0) (G : Draw → Type 0) (
       let found = next_by (place.0.running && has_room place.0) (at_slot place.0.ready (next place.0)) command e in
       let f : F place = goes_on place p (and_parts place.0.running (has_room place.0) found.0).0 in
       let kept : Kept A G command = subst (KeptOne A G) found.1 (opt_slot (Kept A G) place.0.ready (next place.0) f.0.ready) in
-      pumped_still start A G W Q (executed_ready es (executed_one true command place)).0 (more (executed_one true command place) (one_fine true command place (λ _. kept) (λ other flies counted. cc) f))
+      pumped_still start A G W Q (executed_ready es (executed_one true command place)).0 (more (executed_one true command place) (counted_one command place kept f))
 
   ready_fine : (es : List (ℕ × Command)) (place : Place) → Past place → Fine start A G W Q (executed_ready es place).0
   unfolding executed_ready
   ready_fine [] place p = past_fine place p
   ready_fine (e ∷ es) place p = ready_one es place (next_ready place.0) refl p (λ q past. ready_fine es q past)
 
-  -- the whole of an execution
-  pub executed_fine : (counted : Bool) (command : Command) (place : Place) → (counted ≡ true → Kept A G command) → MayLose counted command place.0 → F place → Fine start A G W Q (executed counted command place).0
+  -- the whole of an execution, after the entry was announced
+  pub executed_fine : (counted : Bool) (command : Command) (r : ReplicaState) (mails : List Mail) → MayLose counted command r → F (announced counted (applied r.group command).1 command (entered command r, mails)) → Fine start A G W Q (executed counted command (r, mails)).0
   unfolding executed
-  executed_fine counted command place k d f =
-      let after : Place = executed_one counted command place in
-      pumped_still start A G W Q (all_ready after).0 (ready_fine after.0.ready after (one_fine counted command place k d f))
+  executed_fine counted command r mails d f =
+      let after : Place = executed_one counted command (r, mails) in
+      pumped_still start A G W Q (all_ready after).0 (ready_fine after.0.ready after (one_fine counted command r mails d f))

@@ -34,7 +34,7 @@ use Rattle.sc_scenario.specs.declared.scenarios.Scenario.{Scenario}
 use Rattle.sc_sound.specs.Players.{Ahead, Lawful, Player, births, client_seat, client_seats, node_seat, player_table, route_of, schedule, system_of}
 use Rattle.sc_mail.specs.declared.roles.Role.TheVariants.{Node, Client}
 use Rattle.sc_queue_law.specs.OneCall.{QueuesKeepOneCall}
-use Rattle.sc_refusal_law.specs.Causes.{MayGiveUp, IsImpatient}
+use Rattle.sc_refusal_law.specs.Causes.{MayGiveUp, IsImpatient, ends_queued}
 use Rattle.sc_refusal_law.specs.ClientTurns.{KeepsTurn}
 use Rattle.sc_refusal_law.specs.Journals.{Rows, Acts, ticks_in, RowHasCauses, ValidJournalsRefuseWithCause}
 use Rattle.sc_refusal_law.specs.NodeCauses.{AnswersHaveCauses, ActsHaveCauses, NodeHasCauses, counted_ticks}
@@ -245,12 +245,12 @@ module _ (ahead : Ahead) (words : ℕ → ℕ → ℕ × ℕ) (scenario : Scenar
         let keep : Keeps me (counts place rows) r = Each-among (Keeps me (counts place rows)) before.replicas r known.keep stood in
         subst (λ (l : Lock). r.waits ≤ allowed (counts place rows (name_of r)) r.leader.ballot l) m.locked (keep.patient (running_of r m.leads))
 
-    counted : (r : ReplicaState) (tx : Draw) → Among r before.replicas → MayGiveUp r.waits r input tx → MayGiveUp (ticks_in place rows r tx) r input tx
-    counted r tx stood (inl queued) = inl queued
-    counted r tx stood (inr (inl m)) =
+    counted : (r : ReplicaState) (tx : Draw) (count : ℕ) → Among r before.replicas → MayGiveUp r.waits r input tx count → MayGiveUp (ticks_in place rows r tx) r input tx count
+    counted r tx count stood (inl no_more) = inl no_more
+    counted r tx count stood (inr (most, inl m)) =
         let more = few r tx stood m in
-        let long = m.long in inr (inl (record { tick = m.tick; leads = m.leads; body = m.body; order = m.order; heard = m.heard; locked = m.locked; long = omega (arith, more, long) }))
-    counted r tx stood (inr (inr back)) = inr (inr back)
+        let long = m.long in inr (most, inl (record { tick = m.tick; leads = m.leads; body = m.body; order = m.order; heard = m.heard; locked = m.locked; long = omega (arith, more, long); none = m.none }))
+    counted r tx count stood (inr (most, inr back)) = inr (most, inr back)
 
     node_acts : ActsHaveCauses (ticks_in place rows) before input after
     node_acts later stands tx queued =
@@ -258,7 +258,7 @@ module _ (ahead : Ahead) (words : ℕ → ℕ → ℕ × ℕ) (scenario : Scenar
         record {
           replica = m.replica;
           became = m.became;
-          may = elim m.may [ inl kept ↦ inl kept | inr new ↦ inr (new.0, counted m.replica tx m.became.stood new.1) ];
+          may = elim m.may [ inl kept ↦ inl kept | inr new ↦ inr (new.0, counted m.replica tx (ends_queued tx later.acts) m.became.stood new.1) ];
         }
 
   -- a client

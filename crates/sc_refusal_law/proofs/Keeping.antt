@@ -1,5 +1,11 @@
 -- What is asked of the commands that a replica keeps stays true of those that it keeps on.
-use Rattle.std.proofs.Common.{ℕ, nat_lt, eqb, Bool, List, [], ◌∷◌, Option, Some, None}
+use Rattle.std.proofs.Common.{◌≡◌, ◌≤◌, ◌+◌, ℕ, nat_lt, eqb, Bool, true, false, cond, List, [], ◌∷◌, ◌++◌, filter, length, length-append, Option, Some, None, sym, ap, ◌∙◌, subst, arith}
+use Rattle.std.proofs.lemmas.Bool.{cond_both}
+use Rattle.std.proofs.lemmas.List.Elements.{filter-append}
+use Rattle.sc_base.specs.Same.{same_draw}
+use Rattle.sc_base.proofs.NameLemmas.{draw_is}
+use Rattle.sc_node_table.specs.Acts.{is_giving_up}
+use Rattle.sc_refusal_law.specs.Causes.{ends_queued}
 use Rattle.sc_base.specs.Among.{Each}
 use Rattle.sc_base.specs.declared.names.Draw.{Draw}
 use Rattle.sc_cmd.specs.declared.commands.Command.{Command}
@@ -18,7 +24,22 @@ use Rattle.sc_names_law.specs.Names.{Opt}
 use Rattle.sc_names_law.proofs.Lists.{opt_find, opt_map, opt_either, opt_slot, opt_choice}
 use Rattle.sc_law_lemmas.proofs.Ways.{either_way}
 
-module _ (A : Command → Type 0) (G : Draw → Type 0) where
+-- one more at the front, and one more at the end
+counted_in : (b : Bool) (command : Command) (others : List Command) → length (cond b (command ∷ others) others) ≡ length others + length (cond b (command ∷ []) [])
+counted_in true command others = omega arith
+counted_in false command others = omega arith
+
+ends_before : (command : Command) (acts : List Command) (tx : Draw) → ends_queued tx (command ∷ acts) ≡ ends_queued tx acts + ends_queued tx (command ∷ [])
+ends_before command acts tx = counted_in (is_giving_up tx command) command (filter (is_giving_up tx) acts)
+
+pub ends_after : (command : Command) (acts : List Command) (tx : Draw) → ends_queued tx (acts ++ command ∷ []) ≡ ends_queued tx acts + ends_queued tx (command ∷ [])
+ends_after command acts tx = ap length (filter-append (is_giving_up tx) acts (command ∷ [])) ∙ length-append (filter (is_giving_up tx) acts) (filter (is_giving_up tx) (command ∷ []))
+
+-- the head goes
+pub ends_behind : (command : Command) (acts : List Command) (tx : Draw) → ends_queued tx acts ≤ ends_queued tx (command ∷ acts)
+ends_behind command acts tx = let more = ends_before command acts tx in omega (arith, more)
+
+module _ (A : Command → Type 0) (G : Draw → ℕ → Type 0) where
   -- a call is one that was asked
   abbrev pub Kept : Command → Type 0
   Kept (Call client seq op) = A (Call client seq op)
@@ -34,23 +55,24 @@ module _ (A : Command → Type 0) (G : Draw → Type 0) where
   Kept (Watched tx watch) = Unit {0}
   Kept (RecordWatch tx vote by) = Unit {0}
 
-  -- an end of waiting is one that may be queued
-  abbrev pub Due : Command → Type 0
-  Due (GiveUp tx) = G tx
-  Due (Call client seq op) = Unit {0}
-  Due Noop = Unit {0}
-  Due (Join node order) = Unit {0}
-  Due (Leave node order) = Unit {0}
-  Due (Split at child order) = Unit {0}
-  Due (Begin tx body order) = Unit {0}
-  Due (Prepared tx offer) = Unit {0}
-  Due (RecordVote tx vote by) = Unit {0}
-  Due (Finish tx outcome) = Unit {0}
-  Due (Watched tx watch) = Unit {0}
-  Due (RecordWatch tx vote by) = Unit {0}
-
+  -- no more ends of waiting are queued than may be
   abbrev pub DueAll : List Command → Type 0
-  DueAll commands = Each Due commands
+  DueAll acts = (tx : Draw) → (count : ℕ) × (ends_queued tx acts ≤ count) × G tx count
+
+  -- a command may be queued beside these: if it is an end of waiting, one more may be
+  abbrev pub Due : Command → List Command → Type 0
+  Due (GiveUp tx) acts = (count : ℕ) × (ends_queued tx acts + 1 ≤ count) × G tx count
+  Due (Call client seq op) acts = Unit {0}
+  Due Noop acts = Unit {0}
+  Due (Join node order) acts = Unit {0}
+  Due (Leave node order) acts = Unit {0}
+  Due (Split at child order) acts = Unit {0}
+  Due (Begin tx body order) acts = Unit {0}
+  Due (Prepared tx offer) acts = Unit {0}
+  Due (RecordVote tx vote by) acts = Unit {0}
+  Due (Finish tx outcome) acts = Unit {0}
+  Due (Watched tx watch) acts = Unit {0}
+  Due (RecordWatch tx vote by) acts = Unit {0}
 
   abbrev pub KeptAll : List Command → Type 0
   KeptAll commands = Each Kept commands
@@ -82,6 +104,33 @@ module _ (A : Command → Type 0) (G : Draw → Type 0) where
   pub with_acts : (r : ReplicaState) (commands : List Command) → KeptAll commands → DueAll commands → Holds r → Holds (record r { acts = commands })
   with_acts r commands a d h = record { calls = h.calls; acts = a; due = d; flights = h.flights; ready = h.ready; reports = h.reports }
 
+  -- ---- how many ends of waiting are queued
+
+  -- fewer may be where more may
+  pub fewer_due : (acts fewer : List Command) → ((tx : Draw) → ends_queued tx fewer ≤ ends_queued tx acts) → DueAll acts → DueAll fewer
+  fewer_due acts fewer few d tx = (let p = d tx in let less = few tx in let most = p.1 in (p.0, omega (arith, less, most), p.2))
+
+  other_due : (acts more : List Command) → ((tx : Draw) → ends_queued tx more ≡ ends_queued tx acts + 0) → DueAll acts → DueAll more
+  other_due acts more is d = fewer_due acts more (λ tx. (let same = is tx in omega (arith, same))) d
+
+  -- with one that may be
+  pub more_due : (command : Command) (acts more : List Command) → ((tx : Draw) → ends_queued tx more ≡ ends_queued tx acts + ends_queued tx (command ∷ [])) → Due command acts → DueAll acts → DueAll more
+  more_due (GiveUp other) acts more is k d = λ tx.
+      cond_both (same_draw tx other) (GiveUp other ∷ []) [] (λ (one : List Command). ends_queued tx more ≡ ends_queued tx acts + length one → (count : ℕ) × (ends_queued tx more ≤ count) × G tx count)
+      (λ e now. (let p = subst (λ (name : Draw). Due (GiveUp name) acts) (sym (draw_is tx other e)) k in let most = p.1 in (p.0, omega (arith, now, most), p.2)))
+      (λ _ now. (let p = d tx in let most = p.1 in (p.0, omega (arith, now, most), p.2))) (is tx)
+  more_due Noop acts more is k d = other_due acts more is d
+  more_due (Call client seq op) acts more is k d = other_due acts more is d
+  more_due (Join node order) acts more is k d = other_due acts more is d
+  more_due (Leave node order) acts more is k d = other_due acts more is d
+  more_due (Split at child order) acts more is k d = other_due acts more is d
+  more_due (Begin tx body order) acts more is k d = other_due acts more is d
+  more_due (Prepared tx offer) acts more is k d = other_due acts more is d
+  more_due (RecordVote tx vote by) acts more is k d = other_due acts more is d
+  more_due (Finish tx outcome) acts more is k d = other_due acts more is d
+  more_due (Watched tx watch) acts more is k d = other_due acts more is d
+  more_due (RecordWatch tx vote by) acts more is k d = other_due acts more is d
+
   -- ---- what goes back
 
   pub without_kept : (calls : List Command) (client : ℕ) → KeptAll calls → KeptAll (without_call calls client)
@@ -92,7 +141,7 @@ module _ (A : Command → Type 0) (G : Draw → Type 0) where
   before_kept None client seq command calls k c = (k, c)
   before_kept (Some other) client seq command calls k c = either_way KeptAll (nat_lt other seq) _ _ (k, without_kept calls client c) c
 
-  pub back_kept : (command : Command) (r : ReplicaState) → Kept command → Due command → Holds r → Holds (put_back command r)
+  pub back_kept : (command : Command) (r : ReplicaState) → Kept command → Due command r.acts → Holds r → Holds (put_back command r)
   unfolding put_back
   back_kept Noop r k d h = h
   back_kept (Call client seq op) r k d h =
@@ -101,12 +150,12 @@ module _ (A : Command → Type 0) (G : Draw → Type 0) where
   back_kept (Leave node order) r k d h = with_calls r (Leave node order ∷ r.calls) (k, h.calls) h
   back_kept (Split at child order) r k d h = with_calls r (Split at child order ∷ r.calls) (k, h.calls) h
   back_kept (Begin tx body order) r k d h = with_calls r (Begin tx body order ∷ r.calls) (k, h.calls) h
-  back_kept (Prepared tx offer) r k d h = with_acts r (Prepared tx offer ∷ r.acts) (k, h.acts) (d, h.due) h
-  back_kept (RecordVote tx vote by) r k d h = with_acts r (RecordVote tx vote by ∷ r.acts) (k, h.acts) (d, h.due) h
-  back_kept (GiveUp tx) r k d h = with_acts r (GiveUp tx ∷ r.acts) (k, h.acts) (d, h.due) h
-  back_kept (Finish tx outcome) r k d h = with_acts r (Finish tx outcome ∷ r.acts) (k, h.acts) (d, h.due) h
-  back_kept (Watched tx watch) r k d h = with_acts r (Watched tx watch ∷ r.acts) (k, h.acts) (d, h.due) h
-  back_kept (RecordWatch tx vote by) r k d h = with_acts r (RecordWatch tx vote by ∷ r.acts) (k, h.acts) (d, h.due) h
+  back_kept (Prepared tx offer) r k d h = with_acts r (Prepared tx offer ∷ r.acts) (k, h.acts) (more_due (Prepared tx offer) r.acts (Prepared tx offer ∷ r.acts) (ends_before (Prepared tx offer) r.acts) d h.due) h
+  back_kept (RecordVote tx vote by) r k d h = with_acts r (RecordVote tx vote by ∷ r.acts) (k, h.acts) (more_due (RecordVote tx vote by) r.acts (RecordVote tx vote by ∷ r.acts) (ends_before (RecordVote tx vote by) r.acts) d h.due) h
+  back_kept (GiveUp tx) r k d h = with_acts r (GiveUp tx ∷ r.acts) (k, h.acts) (more_due (GiveUp tx) r.acts (GiveUp tx ∷ r.acts) (ends_before (GiveUp tx) r.acts) d h.due) h
+  back_kept (Finish tx outcome) r k d h = with_acts r (Finish tx outcome ∷ r.acts) (k, h.acts) (more_due (Finish tx outcome) r.acts (Finish tx outcome ∷ r.acts) (ends_before (Finish tx outcome) r.acts) d h.due) h
+  back_kept (Watched tx watch) r k d h = with_acts r (Watched tx watch ∷ r.acts) (k, h.acts) (more_due (Watched tx watch) r.acts (Watched tx watch ∷ r.acts) (ends_before (Watched tx watch) r.acts) d h.due) h
+  back_kept (RecordWatch tx vote by) r k d h = with_acts r (RecordWatch tx vote by ∷ r.acts) (k, h.acts) (more_due (RecordWatch tx vote by) r.acts (RecordWatch tx vote by ∷ r.acts) (ends_before (RecordWatch tx vote by) r.acts) d h.due) h
 
   -- ---- what is in flight, counted or reported
 

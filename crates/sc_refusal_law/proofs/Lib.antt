@@ -1,6 +1,7 @@
 pub mod Plain
 pub mod Keeping
 pub mod Locking
+pub mod Answering
 pub mod Standing
 pub mod Stopping
 pub mod Pumping

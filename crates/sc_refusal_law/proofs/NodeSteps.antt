@@ -1,5 +1,5 @@
 -- A node's whole step: each of its mails has its cause at a replica, and so has each end of waiting that is queued after it.
-use Rattle.std.proofs.Common.{◌≡◌, ◌≤◌, ◌+◌, arith, ◌∙◌, ℕ, ◌-◌, ◌^◌, inl, inr, ◌||◌, not, nat_lt, eqb, Bool, true, false, cond, List, [], ◌∷◌, ◌++◌, length, Option, Some, None, refl, sym, ap, subst, ◌∙◌, append-nil}
+use Rattle.std.proofs.Common.{◌≡◌, ◌≤◌, ◌+◌, arith, ◌∙◌, ℕ, ◌-◌, ◌^◌, inl, inr, ◌||◌, not, nat_lt, eqb, Bool, true, false, cond, List, [], ◌∷◌, ◌++◌, length, Option, Some, None, refl, sym, ap, subst, append-nil, append_assoc}
 use Rattle.std.specs.Prelude.{is_some}
 use Rattle.sc_base.specs.Among.{Among, Each}
 use Rattle.sc_base.specs.Drawing.{Drawer}
@@ -22,7 +22,7 @@ use Rattle.sc_mail.specs.declared.bodies.Mail.{Mail}
 use Rattle.sc_mail.specs.declared.bodies.MailBody.{MailBody}
 use Rattle.sc_mail.specs.declared.bodies.MailBody.TheVariants.{Install}
 use Rattle.sc_member.specs.Roster.{is_member, least_of}
-use Rattle.sc_paxos_words.proofs.ListLemmas.{Each-append, Each-among, Each-from, Each-weaker, find_found}
+use Rattle.sc_paxos_words.proofs.ListLemmas.{Each-among, Each-from, Each-weaker, find_found}
 use Rattle.sc_node_table.specs.declared.ReplicaInput.{ReplicaInput}
 use Rattle.sc_node_table.specs.declared.ReplicaInput.TheVariants as Given
 use Rattle.sc_node_table.specs.Election.{elected}
@@ -31,17 +31,17 @@ use Rattle.sc_node_table.specs.Install.{named}
 use Rattle.sc_node_table.specs.Node.{NodeState, node_table, replica_of, with_replica, is_before, with_new, group_of_mail, with_made, unknown, may_come, with_born, with_children, taken_by, routed, group_of_order, ordered_of, ticked, on_tick}
 use Rattle.sc_node_table.specs.Ordering.{ordered_row}
 use Rattle.sc_node_table.specs.Policy.{names_after_tick}
-use Rattle.sc_node_table.specs.Replica.{ReplicaState, Place, settled, may_offer, first_set, name_of, members, born_replica, installed_replica, last_slot, forgotten}
+use Rattle.sc_node_table.specs.Replica.{ReplicaState, Place, settled, may_offer, first_set, name_of, listed, members, born_replica, installed_replica, last_slot, forgotten}
 use Rattle.sc_node_table.specs.Rows.{tick_row, looked_up, made_by, mailed, stepped}
 use Rattle.sc_node_table.specs.Slots.{slots_ahead}
 use Rattle.sc_law_lemmas.proofs.Ways.{either_way}
 use Rattle.sc_refusal_law.specs.Causes.{at_node}
-use Rattle.sc_refusal_law.specs.NodeCauses.{TakesInput, MailHasCause, MayGiveUpAt, AnswersHaveCauses, ActsHaveCauses, NodeHasCauses, NodesHaveCauses, counted_ticks}
+use Rattle.sc_refusal_law.specs.NodeCauses.{AreSentBy, IsSentBy, MayGiveUpAt, ActsHaveCauses, NodeHasCauses, NodesHaveCauses, counted_ticks, replica_for, takers}
 use Rattle.sc_refusal_law.proofs.Joining.{tick_behind}
 use Rattle.sc_refusal_law.proofs.Steps.{Shows}
-use Rattle.sc_refusal_law.proofs.Inputs.{step_shown}
+use Rattle.sc_refusal_law.proofs.Inputs.{still_step, step_shown}
 use Rattle.sc_refusal_law.proofs.Locking.{allowed}
-use Rattle.sc_refusal_law.proofs.Strangers.{P, unknown_says}
+use Rattle.sc_refusal_law.proofs.Strangers.{unknown_says}
 
 -- ---- replicas in their order
 
@@ -127,17 +127,20 @@ made_new me from group slot base sets =
 ticks_alone : (on : Bool) (drawer : Drawer) (r : ReplicaState) (mails : List Mail) → tick_row on drawer (r, mails) ≡ ((tick_row on drawer (r, [])).0, mails ++ (tick_row on drawer (r, [])).1)
 ticks_alone on drawer r mails = ap (λ (ms : List Mail). tick_row on drawer (r, ms)) (sym (append-nil mails)) ∙ tick_behind mails on drawer r []
 
--- what holds of the mails of each replica's own step holds of all mails of the tick
-ticked_each : (Q : Mail → Type 0) (on : Bool) (drawer : Drawer) (replicas : List ReplicaState) (mails : List Mail) → Each Q mails
-    → ((r : ReplicaState) → Among r replicas → (names : Drawer) → Among (tick_row on names (r, [])).0 (ticked on drawer replicas mails).0 → Each Q (tick_row on names (r, [])).1)
-    → Each Q (ticked on drawer replicas mails).1
+-- what the replicas send at a tick is what each sends in its own step, one behind another, behind what was there
+ticked_parts : (node after : NodeState) (on : Bool) (drawer : Drawer) (replicas : List ReplicaState) (mails : List Mail)
+    → ((r : ReplicaState) → Among r replicas → (names : Drawer) → Among (tick_row on names (r, [])).0 (ticked on drawer replicas mails).0 → IsSentBy node after Tick r (tick_row on names (r, [])).1)
+    → (parts : List Mail) × ((ticked on drawer replicas mails).1 ≡ mails ++ parts) × AreSentBy node after Tick replicas parts
 unfolding ticked
-ticked_each Q on drawer [] mails c f = c
-ticked_each Q on drawer (r ∷ replicas) mails c f =
+ticked_parts node after on drawer [] mails f = ([], sym (append-nil mails), tt)
+ticked_parts node after on drawer (r ∷ replicas) mails f =
     let own = ticks_alone on drawer r mails in
-    let first : Each Q (tick_row on drawer (r, mails)).1 =
-    subst (λ (p : Place). Each Q p.1) (sym own) (Each-append Q mails (tick_row on drawer (r, [])).1 c (f r (inl refl) drawer (inl (ap (λ (p : Place). p.0) own)))) in
-    ticked_each Q on (names_after_tick on drawer r) replicas (tick_row on drawer (r, mails)).1 first (λ other among names stands. f other (inr among) names (inr stands))
+    let part : List Mail = (tick_row on drawer (r, [])).1 in
+    let names : Drawer = names_after_tick on drawer r in
+    let sent = f r (inl refl) drawer (inl (ap (λ (p : Place). p.0) own)) in
+    let others = ticked_parts node after on names replicas (tick_row on drawer (r, mails)).1 (λ other among names stands. f other (inr among) names (inr stands)) in
+    let behind : (ticked on names replicas (tick_row on drawer (r, mails)).1).1 ≡ mails ++ (part ++ others.0) = others.1 ∙ ap (λ (p : Place). p.1 ++ others.0) own ∙ append_assoc mails part others.0 in
+    (part ++ others.0, behind, (part, others.0, refl, sent, others.2))
 
 -- .. and of the replicas
 ticked_replicas : (T : ReplicaState → Type 0) (on : Bool) (drawer : Drawer) (replicas : List ReplicaState) (mails : List Mail) → ((r : ReplicaState) → Among r replicas → (names : Drawer) → T (tick_row on names (r, [])).0)
@@ -252,21 +255,32 @@ module _ (node : NodeState) (numbered : Each (λ (r : ReplicaState). 1 ≤ r.me)
       step_shown r (λ ballot tx. 0) ⊥ (Each-among (λ (x : ReplicaState). 1 ≤ x.me) node.replicas r numbered stood) (λ never. absurd never) node.policy drawer input (λ tick leads never. absurd never)
 
   -- what it sends
-  step_mails : (drawer : Drawer) (input : ReplicaInput) (r : ReplicaState) → Among r node.replicas → TakesInput node (at_node input) r → Among (own_step drawer input r).0 after.replicas → AnswersHaveCauses node (at_node input) after (own_step drawer input r).1
-  step_mails drawer input r stood takes stands =
-      let s = shows drawer input r stood in
-      Each-from (λ (mail : Mail). MailHasCause node after (at_node input) mail) (own_step drawer input r).1
-      (λ mail sends. inl (record { replica = r; later = (own_step drawer input r).0; became = record { stood = stood; stands = stands; same = s.name_is }; takes = takes; mails = (own_step drawer input r).1; sends = sends; causes = s.causes }))
+  step_mails : (drawer : Drawer) (input : ReplicaInput) (r : ReplicaState) → Among r node.replicas → Among (own_step drawer input r).0 after.replicas → IsSentBy node after (at_node input) r (own_step drawer input r).1
+  step_mails drawer input r stood stands =
+      let s = shows drawer input r stood in record { later = (own_step drawer input r).0; became = record { stood = stood; stands = stands; same = s.name_is }; causes = s.causes }
+
+  -- one that sends nothing, and stays as it is
+  still_sends : (input : Input Mail OrderLine) (r : ReplicaState) → Among r node.replicas → Among r after.replicas → IsSentBy node after input r []
+  still_sends input r stood stands = record { later = r; became = record { stood = stood; stands = stands; same = refl }; causes = still_step r input }
+
+  -- where all do
+  all_still : (input : Input Mail OrderLine) (replicas : List ReplicaState) → Each (λ (r : ReplicaState). Among r node.replicas × Among r after.replicas) replicas → AreSentBy node after input replicas []
+  all_still input [] each = tt
+  all_still input (r ∷ replicas) each = ([], [], refl, still_sends input r each.0.0 each.0.1, all_still input replicas each.1)
+
+  -- one replica that sends all
+  one_sends : (input : Input Mail OrderLine) (r : ReplicaState) (mails : List Mail) (replicas : List ReplicaState) → replicas ≡ r ∷ [] → IsSentBy node after input r mails → AreSentBy node after input replicas mails
+  one_sends input r mails replicas e s = subst (λ (rs : List ReplicaState). AreSentBy node after input rs mails) (sym e) (mails, [], sym (append-nil mails), s, tt)
 
   -- what it queues
-  step_acts : (drawer : Drawer) (input : ReplicaInput) (r : ReplicaState) → Among r node.replicas → TakesInput node (at_node input) r → Among (own_step drawer input r).0 after.replicas → May (at_node input) (own_step drawer input r).0
+  step_acts : (drawer : Drawer) (input : ReplicaInput) (r : ReplicaState) → Among r node.replicas → Among r (takers node (at_node input)) → Among (own_step drawer input r).0 after.replicas → May (at_node input) (own_step drawer input r).0
   step_acts drawer input r stood takes stands tx queued =
       let s = shows drawer input r stood in
-      record { replica = r; became = record { stood = stood; stands = stands; same = s.name_is }; may = inr (takes, s.causes.acts tx queued) }
+      record { replica = r; became = record { stood = stood; stands = stands; same = s.name_is }; may = inr (takes, s.causes.acts tx) }
 
   -- one that takes no step
   still_acts : (input : Input Mail OrderLine) (r : ReplicaState) → Among r node.replicas → Among r after.replicas → May input r
-  still_acts input r stood stands tx queued = record { replica = r; became = record { stood = stood; stands = stands; same = refl }; may = inl queued }
+  still_acts input r stood stands tx queued = record { replica = r; became = record { stood = stood; stands = stands; same = refl }; may = inl (omega arith) }
 
   -- what holds of a replica that stands after the step
   abbrev T : Input Mail OrderLine → ReplicaState → Type 0
@@ -291,8 +305,22 @@ module _ (node : NodeState) (numbered : Each (λ (r : ReplicaState). 1 ≤ r.me)
   abbrev Step : Input Mail OrderLine → NodeState × List Mail → Type 0
   Step input step = NodeHasCauses node input step.0 step.1
 
+  taker_stands : (o : Option ReplicaState) (group : Draw) → replica_of group node.replicas ≡ o → Each (λ (r : ReplicaState). Among r node.replicas × Among r node.replicas) (listed o)
+  taker_stands None group e = tt
+  taker_stands (Some r) group e = let stood = (find_found (λ (other : ReplicaState). same_draw (name_of other) group) node.replicas r e).0 in ((stood, stood), tt)
+
+  for_stands : (o : Option Draw) → Each (λ (r : ReplicaState). Among r node.replicas × Among r node.replicas) (replica_for o node.replicas)
+  for_stands None = tt
+  for_stands (Some group) = taker_stands (replica_of group node.replicas) group refl
+
+  takers_stand : (input : Input Mail OrderLine) → Each (λ (r : ReplicaState). Among r node.replicas × Among r node.replicas) (takers node input)
+  takers_stand (Got mail) = for_stands (group_of_mail mail.body)
+  takers_stand (Told line) = for_stands (Some (group_of_order line.order))
+  takers_stand Tick = Each-from (λ (r : ReplicaState). Among r node.replicas × Among r node.replicas) node.replicas (λ r stood. (stood, stood))
+  takers_stand Go = tt
+
   idle : (input : Input Mail OrderLine) → Step input (node, [])
-  idle input = record { answers = tt; acts = all_acts node numbered node input (untouched node numbered node input) }
+  idle input = record { answers = all_still node numbered node input (takers node input) (takers_stand input); acts = all_acts node numbered node input (untouched node numbered node input) }
 
   unknown_acts : (mail : Mail) (from : ℕ) (body : MailBody) (after : NodeState) → Each (T node numbered after (Got mail)) (unknown from body node).0.replicas
   unknown_acts mail from (Install group slot base sets) after =
@@ -302,12 +330,16 @@ module _ (node : NodeState) (numbered : Each (λ (r : ReplicaState). 1 ≤ r.me)
       (new_each (T node numbered after (Got mail)) place.0 node.replicas (none_queued node numbered after (Got mail) place.0 (made_new node.me from group slot base sets).acts) t)
   unknown_acts mail from _ after = untouched node numbered after (Got mail)
 
+  -- who takes a mail for a group
+  taken_by_of : (mail : Mail) (o : Option ReplicaState) (group : Draw) → group_of_mail mail.body ≡ Some group → replica_of group node.replicas ≡ o → takers node (Got mail) ≡ listed o
+  taken_by_of mail o group named e = ap (λ (g : Option Draw). replica_for g node.replicas) named ∙ ap listed e
+
   taken_causes : (mail : Mail) (o : Option ReplicaState) (group : Draw) → group_of_mail mail.body ≡ Some group → replica_of group node.replicas ≡ o → Step (Got mail) (taken_by o group mail.from mail.body node)
   unfolding stepped
   taken_causes mail None group named e =
       let after : NodeState = (unknown mail.from mail.body node).0 in
       record {
-        answers = Each-weaker (P node mail group e) (λ (sent : Mail). MailHasCause node after (Got mail) sent) (λ sent turns. inr turns) (unknown mail.from mail.body node).1 (unknown_says node mail group e named);
+        answers = subst (λ (rs : List ReplicaState). AreSentBy node after (Got mail) rs (unknown mail.from mail.body node).1) (sym (taken_by_of mail None group named e)) (unknown_says node mail group e named);
         acts = all_acts node numbered after (Got mail) (unknown_acts mail mail.from mail.body after);
       }
   taken_causes mail (Some r) group named e =
@@ -319,11 +351,13 @@ module _ (node : NodeState) (numbered : Each (λ (r : ReplicaState). 1 ≤ r.me)
       let stood : Among r node.replicas = (find_found (λ (other : ReplicaState). same_draw (name_of other) group) node.replicas r e).0 in
       let stands : Among new.0 after.replicas = children_among new.0 children put (put_among group new.0 r node.replicas e) in
       let t = T node numbered after (Got mail) in
+      let who : takers node (Got mail) ≡ r ∷ [] = taken_by_of mail (Some r) group named e in
+      let takes : Among r (takers node (Got mail)) = subst (Among r) (sym who) (inl refl) in
       record {
-        answers = step_mails node numbered after node.draws input r stood (group, named, e) stands;
+        answers = one_sends node numbered after (Got mail) r new.1 (takers node (Got mail)) who (step_mails node numbered after node.draws input r stood stands);
         acts = all_acts node numbered after (Got mail)
             (children_each t node.me (λ child here tx queued. absurd queued) children put refl
-            (put_each t group new.0 node.replicas (λ here. step_acts node numbered after node.draws input r stood (group, named, e) here) (untouched node numbered after (Got mail))));
+            (put_each t group new.0 node.replicas (λ here. step_acts node numbered after node.draws input r stood takes here) (untouched node numbered after (Got mail))));
       }
 
   routed_causes : (mail : Mail) (o : Option Draw) → group_of_mail mail.body ≡ o → Step (Got mail) (routed o mail.from mail.body node)
@@ -334,7 +368,7 @@ module _ (node : NodeState) (numbered : Each (λ (r : ReplicaState). 1 ≤ r.me)
 
   ordered_causes : (line : OrderLine) (o : Option ReplicaState) → replica_of (group_of_order line.order) node.replicas ≡ o → Step (Told line) (ordered_of o line node)
   unfolding stepped
-  ordered_causes line None e = record { answers = (inr tt, tt); acts = all_acts node numbered node (Told line) (untouched node numbered node (Told line)) }
+  ordered_causes line None e = record { answers = subst (λ (rs : List ReplicaState). AreSentBy node node (Told line) rs (ordered_of None line node).1) (sym (ap listed e)) (tt, tt); acts = all_acts node numbered node (Told line) (untouched node numbered node (Told line)) }
   ordered_causes line (Some r) e =
       let input = Given.Told line in
       let group : Draw = group_of_order line.order in
@@ -342,10 +376,12 @@ module _ (node : NodeState) (numbered : Each (λ (r : ReplicaState). 1 ≤ r.me)
       let after : NodeState = (ordered_of (Some r) line node).0 in
       let stood : Among r node.replicas = (find_found (λ (other : ReplicaState). same_draw (name_of other) group) node.replicas r e).0 in
       let stands : Among new.0 after.replicas = put_among group new.0 r node.replicas e in
+      let who : takers node (Told line) ≡ r ∷ [] = ap listed e in
+      let takes : Among r (takers node (Told line)) = subst (Among r) (sym who) (inl refl) in
       record {
-        answers = step_mails node numbered after node.draws input r stood e stands;
+        answers = one_sends node numbered after (Told line) r new.1 (takers node (Told line)) who (step_mails node numbered after node.draws input r stood stands);
         acts = all_acts node numbered after (Told line)
-            (put_each (T node numbered after (Told line)) group new.0 node.replicas (λ here. step_acts node numbered after node.draws input r stood e here) (untouched node numbered after (Told line)));
+            (put_each (T node numbered after (Told line)) group new.0 node.replicas (λ here. step_acts node numbered after node.draws input r stood takes here) (untouched node numbered after (Told line)));
       }
 
   -- ---- a tick
@@ -354,8 +390,9 @@ module _ (node : NodeState) (numbered : Each (λ (r : ReplicaState). 1 ≤ r.me)
   unfolding stepped
   tick_causes =
       let after : NodeState = (on_tick node).0 in
+      let sends = ticked_parts node after node.policy node.draws node.replicas [] (λ r stood names stands. step_mails node numbered after names Given.Tick r stood stands) in
       record {
-        answers = ticked_each (λ (mail : Mail). MailHasCause node after Tick mail) node.policy node.draws node.replicas [] tt (λ r stood names stands. step_mails node numbered after names Given.Tick r stood stood stands);
+        answers = subst (λ (ms : List Mail). AreSentBy node after Tick node.replicas ms) (sym sends.1) sends.2;
         acts = all_acts node numbered after Tick
             (ticked_replicas (T node numbered after Tick) node.policy node.draws node.replicas [] (λ r stood names. (λ here. step_acts node numbered after names Given.Tick r stood stood here)));
       }

@@ -1,5 +1,7 @@
--- What is sent is no answer but where a client is answered: all other mail has any fact that holds of such mail.
-use Rattle.std.proofs.Common.{ℕ, zero, suc, ◌+◌, ◌-◌, nat_lt, eqb, Bool, cond, List, [], ◌∷◌, ◌++◌, Option, Some, None}
+-- What is sent is no answer but where a client is answered: all other mail keeps what such mail leaves as it is.
+use Rattle.std.proofs.Common.{◌≡◌, ◌∙◌, ap, refl, append-nil, ℕ, zero, suc, ◌+◌, ◌-◌, nat_lt, eqb, Bool, false, cond, List, [], ◌∷◌, ◌++◌, Option, Some, None}
+use Rattle.std.proofs.lemmas.Bool.{cond_both}
+use Rattle.std.proofs.lemmas.List.Elements.{filter-append}
 use Rattle.sc_base.specs.Same.{same_draw}
 use Rattle.sc_base.specs.Among.{Each}
 use Rattle.sc_base.specs.declared.names.Draw.{Draw}
@@ -30,7 +32,6 @@ use Rattle.sc_mail.specs.declared.bodies.MailBody.{MailBody}
 use Rattle.sc_mail.specs.declared.bodies.MailBody.TheVariants.{Answer, Accept, Learn, TxVote, TxOutcome, TxWatched, Told}
 use Rattle.sc_machine_table.specs.Group.{Group}
 use Rattle.sc_machine_table.specs.Plans.{frozen_of}
-use Rattle.sc_paxos_words.proofs.ListLemmas.{Each-append}
 use Rattle.sc_paxos_words.specs.Logs.{entry_at}
 use Rattle.sc_node_table.specs.declared.Before.{Before}
 use Rattle.sc_node_table.specs.Mails.{sent, sent_all, sent_others, told_order}
@@ -41,7 +42,7 @@ use Rattle.sc_node_table.specs.Rows.{taught, uncounted, asked_again, told_last}
 use Rattle.sc_node_table.specs.Transactions.{voted_to, watched_to, told_outcome, next_asked, asked_next}
 use Rattle.sc_node_table.specs.Spoken.{begun_result, spoken_number, told_result, told_begun, asked_on, vote_sent, watch_sent, aborted_to, aborted_watcher, given_up_by, vote_answered, released_to, watch_answered_by, went_on, spoken_mails}
 use Rattle.sc_law_lemmas.proofs.Ways.{either_way}
-use Rattle.sc_refusal_law.specs.Causes.{IfAnswer}
+use Rattle.sc_refusal_law.specs.Causes.{IfAnswer, answers_in, is_answer}
 
 -- a mail that is no answer
 abbrev pub IsPlain : MailBody → Type 0
@@ -65,48 +66,62 @@ question_plain me core tx (At.Migrate node) None = tt
 question_plain me core tx (At.Migrate node) (Some heard) = tt
 question_plain me core tx (At.Split at child) heard = tt
 
-module _ (P : Mail → Type 0) (plain : (mail : Mail) → IsPlain mail.body → P mail) where
-  abbrev pub Sent : List Mail → Type 0
-  Sent mails = Each P mails
+-- ---- the answers among mails
 
-  -- one mail more
-  pub sent_one : (mails : List Mail) (mail : Mail) → P mail → Sent mails → Sent (mails ++ mail ∷ [])
-  sent_one mails mail p m = Each-append P mails (mail ∷ []) m (p, tt)
+-- what is no answer is none
+plain_is : (body : MailBody) → IsPlain body → is_answer body ≡ false
+plain_is (Answer group seq answer) p = absurd p
+plain_is _ p = refl
 
-  pub sent_plain : (me to : ℕ) (body : MailBody) (mails : List Mail) → IsPlain body → Sent mails → Sent (sent me to body mails)
-  sent_plain me to body mails b m = sent_one mails (record { from = me; to = to; body = body }) (plain (record { from = me; to = to; body = body }) b) m
+-- it leaves the answers as they are
+pub plain_adds : (mails : List Mail) (mail : Mail) → IsPlain mail.body → answers_in (mails ++ mail ∷ []) ≡ answers_in mails
+plain_adds mails mail p =
+    filter-append (λ (m : Mail). is_answer m.body) mails (mail ∷ []) ∙ ap (λ (b : Bool). answers_in mails ++ cond b (mail ∷ []) []) (plain_is mail.body p) ∙ append-nil (answers_in mails)
 
+-- and an answer is one more
+pub answer_adds : (mails : List Mail) (from to : ℕ) (group : Draw) (seq : ℕ) (answer : AnswerBody)
+    → answers_in (mails ++ record { from = from; to = to; body = Answer group seq answer } ∷ []) ≡ answers_in mails ++ record { from = from; to = to; body = Answer group seq answer } ∷ []
+answer_adds mails from to group seq answer = filter-append (λ (m : Mail). is_answer m.body) mails (record { from = from; to = to; body = Answer group seq answer } ∷ [])
+
+-- what holds of all that is no answer, and of each answer, holds of all mail
+pub all_from_answers : (P : Mail → Type 0) → ((mail : Mail) → is_answer mail.body ≡ false → P mail) → (mails : List Mail) → Each P (answers_in mails) → Each P mails
+all_from_answers P plain [] each = tt
+all_from_answers P plain (mail ∷ mails) each =
+    cond_both (is_answer mail.body) (mail ∷ answers_in mails) (answers_in mails) (λ (rest : List Mail). Each P rest → P mail × Each P mails) (λ _ e. (e.0, all_from_answers P plain mails e.1))
+    (λ none e. (plain mail none, all_from_answers P plain mails e)) each
+
+module _ (Sent : List Mail → Type 0) (plain : (me to : ℕ) (body : MailBody) (mails : List Mail) → IsPlain body → Sent mails → Sent (sent me to body mails)) where
   pub all_plain : (me : ℕ) (nodes : List ℕ) (body : MailBody) (mails : List Mail) → IsPlain body → Sent mails → Sent (sent_all me nodes body mails)
   unfolding sent_all
   all_plain me [] body mails b m = m
-  all_plain me (node ∷ nodes) body mails b m = all_plain me nodes body (sent me node body mails) b (sent_plain me node body mails b m)
+  all_plain me (node ∷ nodes) body mails b m = all_plain me nodes body (sent me node body mails) b (plain me node body mails b m)
 
   pub others_plain : (me : ℕ) (nodes : List ℕ) (body : MailBody) (mails : List Mail) → IsPlain body → Sent mails → Sent (sent_others me nodes body mails)
   unfolding sent_others
   others_plain me [] body mails b m = m
   others_plain me (node ∷ nodes) body mails b m =
-      others_plain me nodes body (cond (eqb node me) mails (sent me node body mails)) b (either_way Sent (eqb node me) mails (sent me node body mails) m (sent_plain me node body mails b m))
+      others_plain me nodes body (cond (eqb node me) mails (sent me node body mails)) b (either_way Sent (eqb node me) mails (sent me node body mails) m (plain me node body mails b m))
 
   pub told_plain : (me number : ℕ) (result : ToldResult) (mails : List Mail) → Sent mails → Sent (told_order me number result mails)
   unfolding told_order
-  told_plain me number result mails m = either_way Sent (nat_lt 0 number) (sent me 0 (Told number result) mails) mails (sent_plain me 0 (Told number result) mails tt m) m
+  told_plain me number result mails m = either_way Sent (nat_lt 0 number) (sent me 0 (Told number result) mails) mails (plain me 0 (Told number result) mails tt m) m
 
   -- ---- the parties of a transaction
 
   first_plain : (lock : Lock) (me : ℕ) (core : Core) (mails : List Mail) → Sent mails → Sent (asked_first lock me core mails)
   first_plain Free me core mails m = m
-  first_plain (Coordinating tx body order heard) me core mails m = sent_plain me _ (question me core tx body heard) mails (question_plain me core tx body heard) m
+  first_plain (Coordinating tx body order heard) me core mails m = plain me _ (question me core tx body heard) mails (question_plain me core tx body heard) m
   first_plain (Promised tx offer) me core mails m = m
   first_plain (Watching tx watch) me core mails m = m
 
   pub vote_plain : (me : ℕ) (group : Group) (node : ℕ) (tx : Draw) (offer : Offer) (vote : Past) (mails : List Mail) → Sent mails → Sent (voted_to me group node tx offer vote mails)
-  vote_plain me group node tx offer Cast.Yes mails m = sent_plain me node (TxVote tx offer.coord offer.part (Says.Yes (frozen_of group))) mails tt m
-  vote_plain me group node tx offer (Cast.No why) mails m = sent_plain me node (TxVote tx offer.coord offer.part (Says.No why)) mails tt m
+  vote_plain me group node tx offer Cast.Yes mails m = plain me node (TxVote tx offer.coord offer.part (Says.Yes (frozen_of group))) mails tt m
+  vote_plain me group node tx offer (Cast.No why) mails m = plain me node (TxVote tx offer.coord offer.part (Says.No why)) mails tt m
   vote_plain me group node tx offer Cast.Ended mails m = m
 
   pub watched_plain : (me node : ℕ) (tx : Draw) (watch : Watch) (vote : Past) (mails : List Mail) → Sent mails → Sent (watched_to me node tx watch vote mails)
-  watched_plain me node tx watch Cast.Yes mails m = sent_plain me node (TxWatched tx watch.coord watch.part Cast.Yes) mails tt m
-  watched_plain me node tx watch (Cast.No why) mails m = sent_plain me node (TxWatched tx watch.coord watch.part (Cast.No why)) mails tt m
+  watched_plain me node tx watch Cast.Yes mails m = plain me node (TxWatched tx watch.coord watch.part Cast.Yes) mails tt m
+  watched_plain me node tx watch (Cast.No why) mails m = plain me node (TxWatched tx watch.coord watch.part (Cast.No why)) mails tt m
   watched_plain me node tx watch Cast.Ended mails m = m
 
   pub next_plain : (lock : Lock) (me : ℕ) (core : Core) (from : ℕ) (tx : Draw) (hint : Option ℕ) (mails : List Mail) → Sent mails → Sent (asked_next lock me core from tx hint mails)
@@ -114,7 +129,7 @@ module _ (P : Mail → Type 0) (plain : (mail : Mail) → IsPlain mail.body → 
   next_plain (Promised locked offer) me core from tx hint mails m = m
   next_plain (Watching locked watch) me core from tx hint mails m = m
   next_plain (Coordinating locked body order heard) me core from tx hint mails m =
-      either_way Sent (same_draw locked tx) _ _ (sent_plain me (next_asked hint (asked_link core body heard).members from) (question me core tx body heard) mails (question_plain me core tx body heard) m) m
+      either_way Sent (same_draw locked tx) _ _ (plain me (next_asked hint (asked_link core body heard).members from) (question me core tx body heard) mails (question_plain me core tx body heard) m) m
 
   pub reminders_plain : (lock : Lock) (me : ℕ) (group : Group) (mails : List Mail) → Sent mails → Sent (reminders lock me group mails)
   reminders_plain Free me group mails m = m
@@ -156,7 +171,7 @@ module _ (P : Mail → Type 0) (plain : (mail : Mail) → IsPlain mail.body → 
   given_up_plain (Some outcome) me before tx mails m = watcher_plain me tx before.heard (aborted_to me tx before.succ mails) (aborted_plain me tx before.succ mails m)
 
   outcome_plain : (me node : ℕ) (tx part : Draw) (outcome : Outcome) (mails : List Mail) → Sent mails → Sent (told_outcome me node tx part outcome mails)
-  outcome_plain me node tx part outcome mails m = sent_plain me node (TxOutcome tx part outcome) mails tt m
+  outcome_plain me node tx part outcome mails m = plain me node (TxOutcome tx part outcome) mails tt m
 
   answered_plain : (outcome : Option Outcome) (vote : Vote) (me : ℕ) (before : Before) (tx : Draw) (by : ℕ) (mails : List Mail) → Sent mails → Sent (vote_answered outcome vote me before tx by mails)
   answered_plain None vote me before tx by mails m = m
@@ -201,7 +216,7 @@ module _ (P : Mail → Type 0) (plain : (mail : Mail) → IsPlain mail.body → 
   taught_by : (count : ℕ) (r : ReplicaState) (from slot : ℕ) (mails : List Mail) (o : Option Command) → Sent mails → ((more : List Mail) → Sent more → Sent (taught count r from (slot + 1) more))
       → Sent (elim o [ None ↦ mails | Some command ↦ taught count r from (slot + 1) (sent r.me from (Learn (name_of r) slot command) mails) ])
   taught_by count r from slot mails None m more = m
-  taught_by count r from slot mails (Some command) m more = more (sent r.me from (Learn (name_of r) slot command) mails) (sent_plain r.me from (Learn (name_of r) slot command) mails tt m)
+  taught_by count r from slot mails (Some command) m more = more (sent r.me from (Learn (name_of r) slot command) mails) (plain r.me from (Learn (name_of r) slot command) mails tt m)
 
   pub taught_plain : (count : ℕ) (r : ReplicaState) (from slot : ℕ) (mails : List Mail) → Sent mails → Sent (taught count r from slot mails)
   unfolding taught

@@ -1,5 +1,5 @@
 -- What a settled replica offers: each call that it turns down has its cause in the executed state.
-use Rattle.std.proofs.Common.{◌≡◌, ℕ, ◌+◌, ◌&&◌, nat_le, Bool, true, false, List, [], ◌∷◌, Option, Some, None, refl, sym, subst, inr}
+use Rattle.std.proofs.Common.{◌≡◌, ℕ, ◌+◌, ◌&&◌, nat_le, Bool, true, false, List, [], ◌∷◌, Option, Some, None, refl, sym, subst}
 use Rattle.std.specs.Prelude.{is_some}
 use Rattle.std.specs.List.{list_any}
 use Rattle.std.proofs.lemmas.Bool.{cond_both, not-false}
@@ -14,7 +14,7 @@ use Rattle.sc_cmd.specs.declared.links.Route.{Route}
 use Rattle.sc_mail.specs.declared.bodies.AnswerBody.{AnswerBody}
 use Rattle.sc_mail.specs.declared.bodies.AnswerBody.TheVariants as Says
 use Rattle.sc_mail.specs.declared.bodies.Mail.{Mail}
-use Rattle.sc_mail.specs.declared.bodies.MailBody.TheVariants.{Answer, Accept}
+use Rattle.sc_mail.specs.declared.bodies.MailBody.TheVariants.{Accept}
 use Rattle.sc_machine_table.specs.Group.{Group}
 use Rattle.sc_machine_table.specs.Logs.{state_after}
 use Rattle.sc_paxos_words.proofs.ListLemmas.{Each-append}
@@ -26,9 +26,8 @@ use Rattle.sc_node_table.specs.Pump.{Found, is_act, serves_calls, waits, refused
 use Rattle.sc_node_table.specs.Replica.{ReplicaState, Place, name_of, next, settled, may_offer, taken_at, under_way, is_idle, last_slot}
 use Rattle.sc_law_lemmas.proofs.Ways.{either_way}
 use Rattle.sc_refusal_law.specs.Causes.{LacksKey}
-use Rattle.sc_refusal_law.proofs.Keeping.{Kept, KeptAll, KeptOne, DueAll, Flying, MustKept, with_calls, with_acts, must_kept}
-use Rattle.sc_refusal_law.proofs.Plain.{sent_one}
-use Rattle.sc_refusal_law.proofs.Standing.{CauseSo, Caused, AllCaused, caused_plain, FineAs, Fine, resent, with_all}
+use Rattle.sc_refusal_law.proofs.Keeping.{Kept, KeptAll, KeptOne, DueAll, Flying, MustKept, with_calls, with_acts, must_kept, fewer_due, ends_behind}
+use Rattle.sc_refusal_law.proofs.Standing.{CauseSo, AllCaused, answer_caused, FineAs, Fine, resent, with_all}
 use Rattle.sc_law_lemmas.proofs.Calls.{next_found}
 
 -- why a call is turned down
@@ -39,7 +38,7 @@ refused_so None group op answer g l e =
     (λ _ k. cc) (λ lacks k. (let same : Says.NotMine group.core.arc group.core.succ ≡ answer = cc in subst (LacksKey group op) same (sym g, l, lacks, refl, refl))) e
 
 -- the pump names no other leader: whether one was named stays as it is
-module _ (start : ReplicaState) (A : Command → Type 0) (G : Draw → Type 0) (W : Ballot → Draw → ℕ) (Q : Type 0) (refused : Bool) where
+module _ (start : ReplicaState) (A : Command → Type 0) (G : Draw → ℕ → Type 0) (W : Ballot → Draw → ℕ) (Q : Type 0) (refused : Bool) where
   abbrev pub F : Place → Type 0
   F place = FineAs start A G W Q refused true place
 
@@ -49,12 +48,12 @@ module _ (start : ReplicaState) (A : Command → Type 0) (G : Draw → Type 0) (
   -- ---- the calls at the head that the group does not serve
 
   -- a call that the executed state does not serve is answered with cause
-  pub lacking : (entries : List Command) (group : Group) (client seq : ℕ) (op : Op) (answer : AnswerBody) → group ≡ state_after start.group entries → LacksKey group op answer → CauseSo start A G W Q entries refused true client seq op answer
-  lacking entries group client seq op (Says.Value reply) is l = tt
-  lacking entries group client seq op (Says.NotLeader hint) is l = absurd l
-  lacking entries group client seq op (Says.NotMine arc succ) is l = inr (refl, subst (λ g. LacksKey g op (Says.NotMine arc succ)) is l)
-  lacking entries group client seq op (Says.Gone into) is l = inr (refl, subst (λ g. LacksKey g op (Says.Gone into)) is l)
-  lacking entries group client seq op (Says.Stale last) is l = absurd l
+  pub lacking : (entries : List Command) (group : Group) (op : Op) (answer : AnswerBody) → group ≡ state_after start.group entries → LacksKey group op answer → CauseSo start A G W Q entries refused true op answer
+  lacking entries group op (Says.Value reply) is l = absurd l
+  lacking entries group op (Says.NotLeader hint) is l = absurd l
+  lacking entries group op (Says.NotMine arc succ) is l = (refl, subst (λ g. LacksKey g op (Says.NotMine arc succ)) is l)
+  lacking entries group op (Says.Gone into) is l = (refl, subst (λ g. LacksKey g op (Says.Gone into)) is l)
+  lacking entries group op (Says.Stale last) is l = absurd l
 
   module _ (entries : List Command) (me : ℕ) (idle : Bool) (group : Group) (is : group ≡ state_after start.group entries) (own : group.core.id ≡ start.group.core.id) where
     abbrev C : List Mail → Type 0
@@ -66,13 +65,13 @@ module _ (start : ReplicaState) (A : Command → Type 0) (G : Draw → Type 0) (
     turned_one : (command : Command) (answer : AnswerBody) (mails : List Mail) → Kept A G command → waits idle group.core.lock command ≡ false → turned_down group.core command ≡ Some answer → C mails → C (answered me group.core.id answer command mails)
     unfolding answered
     turned_one (Call client seq op) answer mails k w e c =
-        sent_one (Caused start A G W Q entries refused true) (caused_plain start A G W Q entries refused true) mails (record { from = me; to = client_actor client; body = Answer group.core.id seq answer }) (record {
+        answer_caused start A G W Q entries refused true me (client_actor client) group.core.id seq answer mails (record {
           own = own;
           client = client;
           op = op;
           receiver = refl;
           was_asked = k;
-          cause = lacking entries group client seq op answer is (refused_so group.core.gone group op answer refl (not-false (serves_calls group.core.lock) w) e);
+          cause = lacking entries group op answer is (refused_so group.core.gone group op answer refl (not-false (serves_calls group.core.lock) w) e);
         }) c
     turned_one _ answer mails k w e c = c
 
@@ -93,7 +92,7 @@ module _ (start : ReplicaState) (A : Command → Type 0) (G : Draw → Type 0) (
 
   acts_fine : (acts : List Command) (place : Place) → KeptAll A G acts → DueAll A G acts → F place → FoundFine (from_acts acts place)
   acts_fine [] place a d f = calls_fine place f
-  acts_fine (act ∷ acts) (r, mails) a d f = either_way FoundFine (is_idle r) (Some act, (record r { acts = acts }, mails)) (None, (r, mails)) (a.0, (with_acts A G r acts a.1 d.1 f.0, f.1)) (tt, f)
+  acts_fine (act ∷ acts) (r, mails) a d f = either_way FoundFine (is_idle r) (Some act, (record r { acts = acts }, mails)) (None, (r, mails)) (a.0, (with_acts A G r acts a.1 (fewer_due A G (act ∷ acts) acts (λ tx. ends_behind act acts tx) d) f.0, f.1)) (tt, f)
 
   queues_fine : (place : Place) → F place → FoundFine (from_queues place)
   unfolding from_queues
@@ -134,5 +133,5 @@ module _ (start : ReplicaState) (A : Command → Type 0) (G : Draw → Type 0) (
   pumped_fine place f = either_way F (settled place.0 && nat_le (next place.0) last_slot) (pumped_from (next place.0) place.0.sets place) place (from_fine (next place.0) place.0.sets place f) f
 
 -- .. whether or not another leader was named
-pub pumped_still : (start : ReplicaState) (A : Command → Type 0) (G : Draw → Type 0) (W : Ballot → Draw → ℕ) (Q : Type 0) (place : Place) → Fine start A G W Q place → Fine start A G W Q (pumped place)
+pub pumped_still : (start : ReplicaState) (A : Command → Type 0) (G : Draw → ℕ → Type 0) (W : Ballot → Draw → ℕ) (Q : Type 0) (place : Place) → Fine start A G W Q place → Fine start A G W Q (pumped place)
 pumped_still start A G W Q place (refused, f) = (refused, pumped_fine start A G W Q refused place f)

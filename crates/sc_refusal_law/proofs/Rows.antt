@@ -1,5 +1,6 @@
 -- The rows of requests, ticks, transactions and orders, and a whole step.
-use Rattle.std.proofs.Common.{◌≡◌, ℕ, ◌+◌, ◌-◌, ◌≤◌, ◌^◌, ◌&&◌, ◌||◌, not, nat_le, eqb, Bool, true, false, List, [], ◌∷◌, ◌++◌, Option, Some, None, refl, sym, subst, arith}
+use Rattle.std.proofs.Common.{◌≡◌, ℕ, ◌+◌, ◌-◌, ◌≤◌, ◌^◌, ◌&&◌, ◌||◌, not, nat_le, eqb, Bool, true, false, List, [], ◌∷◌, ◌++◌, Option, Some, None, refl, sym, ap, ◌∙◌, subst, arith}
+use Rattle.std.specs.List.{list_any}
 use Rattle.std.specs.Prelude.{is_some}
 use Rattle.std.proofs.lemmas.Bool.{cond_both, leb-true, and_parts, not-true, not-false}
 use Rattle.sc_base.specs.Drawing.{Drawer, next_name}
@@ -34,7 +35,7 @@ use Rattle.sc_mail.specs.declared.bodies.MailBody.TheVariants.{Answer, TxOutcome
 use Rattle.sc_member.specs.Roster.{is_member}
 use Rattle.sc_paxos_words.proofs.ListLemmas.{Each-append}
 use Rattle.sc_paxos_words.specs.Logs.{entry_at}
-use Rattle.sc_node_table.specs.Acts.{has_act, with_act, act_queued}
+use Rattle.sc_node_table.specs.Acts.{has_act, is_of_kind, with_act, act_queued}
 use Rattle.sc_node_table.specs.Election.{elected}
 use Rattle.sc_node_table.specs.Mails.{sent}
 use Rattle.sc_node_table.specs.Ordering.{ordered_command, untaken, taken_or_told, ordered_row}
@@ -42,19 +43,19 @@ use Rattle.sc_node_table.specs.Policy.{wished_line, with_command, with_line, wis
 use Rattle.sc_node_table.specs.Pump.{serves_calls, pumped}
 use Rattle.sc_node_table.specs.Queues.{call_of, without_call}
 use Rattle.sc_node_table.specs.Reminders.{patience, one_tick_more, waited_in, reminders, reminded}
-use Rattle.sc_node_table.specs.Replica.{ReplicaState, Place, name_of, next, members, settled, is_idle}
+use Rattle.sc_node_table.specs.Replica.{ReplicaState, Place, name_of, next, listed, members, open_slots, settled, taken_at, taken_from, is_idle}
 use Rattle.sc_node_table.specs.Rows.{call_refusal, refused_at, queued, requested, request_row, asked_again, told_last, tick_row}
 use Rattle.sc_node_table.specs.Transactions.{noted_outcome, standing_vote, sent_elsewhere, offered_by, offer_row, watched_by, watch_row, awaits_vote, awaits_watch, told_outcome, vote_queued, vote_met, vote_row, watch_queued, watch_met, watched_row, asked_next, elsewhere_row, is_bound, outcome_row}
 use Rattle.sc_law_lemmas.proofs.Ways.{either_way}
 use Rattle.sc_refusal_law.specs.Causes.{LacksKey}
-use Rattle.sc_refusal_law.proofs.Keeping.{Kept, Due, with_calls, with_acts, without_kept}
-use Rattle.sc_refusal_law.proofs.Plain.{sent_one, again_plain, last_plain, reminders_plain, vote_plain, watched_plain, next_plain}
-use Rattle.sc_refusal_law.proofs.Standing.{CauseSo, Caused, CausedAnswer, caused_plain, stopped_caused, FineAs, Fine, resent, with_plain}
+use Rattle.sc_refusal_law.proofs.Keeping.{Kept, Due, with_calls, with_acts, without_kept, more_due, ends_after}
+use Rattle.sc_refusal_law.proofs.Plain.{again_plain, last_plain, reminders_plain, vote_plain, watched_plain, next_plain}
+use Rattle.sc_refusal_law.proofs.Standing.{CauseSo, CausedAnswer, AllCaused, plain_caused, answer_caused, stopped_caused, FineAs, Fine, resent, with_plain}
 use Rattle.sc_refusal_law.proofs.Locking.{allowed}
 use Rattle.sc_refusal_law.proofs.Stopping.{elected_fine}
 use Rattle.sc_refusal_law.proofs.Pumping.{lacking, pumped_fine}
 
-module _ (start : ReplicaState) (A : Command → Type 0) (G : Draw → Type 0) (W : Ballot → Draw → ℕ) (Q : Type 0) where
+module _ (start : ReplicaState) (A : Command → Type 0) (G : Draw → ℕ → Type 0) (W : Ballot → Draw → ℕ) (Q : Type 0) where
   abbrev F : Place → Type 0
   F place = FineAs start A G W Q false true place
 
@@ -93,14 +94,13 @@ module _ (start : ReplicaState) (A : Command → Type 0) (G : Draw → Type 0) (
 
   -- one answer behind the mails
   said_fine : (refused : Bool) (client seq : ℕ) (op : Op) (answer : AnswerBody) (r : ReplicaState) (mails : List Mail) (f : FineAs start A G W Q refused true (r, mails)) → A (Call client seq op)
-      → CauseSo start A G W Q f.1.entries refused true client seq op answer → After (r, sent r.me (client_actor client) (Answer (name_of r) seq answer) mails)
+      → CauseSo start A G W Q f.1.entries refused true op answer → After (r, sent r.me (client_actor client) (Answer (name_of r) seq answer) mails)
   said_fine refused client seq op answer r mails f a c =
       let caused : CausedAnswer start A G W Q f.1.entries refused true (client_actor client) (name_of r) seq answer = record { own = f.1.name_is; client = client; op = op; receiver = refl; was_asked = a; cause = c } in (
         refused,
         (
           f.0,
-          resent start A G W Q refused true r mails _ f.1
-              (sent_one (Caused start A G W Q f.1.entries refused true) (caused_plain start A G W Q f.1.entries refused true) mails (record { from = r.me; to = client_actor client; body = Answer (name_of r) seq answer }) caused f.1.sent),
+          resent start A G W Q refused true r mails _ f.1 (answer_caused start A G W Q f.1.entries refused true r.me (client_actor client) (name_of r) seq answer mails caused f.1.sent),
         ),
       )
 
@@ -117,8 +117,8 @@ module _ (start : ReplicaState) (A : Command → Type 0) (G : Draw → Type 0) (
   answer_fine client seq op (Says.Stale last) r mails a u f = absurd u
   answer_fine client seq op (Says.NotLeader hint) r mails a u f = said_fine true client seq op (Says.NotLeader hint) r mails (idle_fine r mails u f) a refl
   answer_fine client seq op (Says.NotMine arc succ) r mails a u f =
-      said_fine false client seq op (Says.NotMine arc succ) r mails f a (lacking start A G W Q false f.1.entries r.group client seq op (Says.NotMine arc succ) f.1.group_is u)
-  answer_fine client seq op (Says.Gone into) r mails a u f = said_fine false client seq op (Says.Gone into) r mails f a (lacking start A G W Q false f.1.entries r.group client seq op (Says.Gone into) f.1.group_is u)
+      said_fine false client seq op (Says.NotMine arc succ) r mails f a (lacking start A G W Q false f.1.entries r.group op (Says.NotMine arc succ) f.1.group_is u)
+  answer_fine client seq op (Says.Gone into) r mails a u f = said_fine false client seq op (Says.Gone into) r mails f a (lacking start A G W Q false f.1.entries r.group op (Says.Gone into) f.1.group_is u)
 
   requested_by : (o : Option AnswerBody) (client seq : ℕ) (op : Op) (r : ReplicaState) (mails : List Mail) → A (Call client seq op) → ((answer : AnswerBody) → o ≡ Some answer → Untaken r op answer) → F (r, mails) → After (requested o client seq op (r, mails))
   unfolding requested
@@ -131,20 +131,28 @@ module _ (start : ReplicaState) (A : Command → Type 0) (G : Draw → Type 0) (
 
   -- ---- the acts of transactions
 
-  act_fine : (act : Command) (r : ReplicaState) (mails : List Mail) → Kept A G act → Due A G act → F (r, mails) → F (with_act act r, mails)
+  act_fine : (act : Command) (r : ReplicaState) (mails : List Mail) → Kept A G act → (has_act act r ≡ false → Due A G act r.acts) → F (r, mails) → F (with_act act r, mails)
   act_fine act r mails k d f =
-      either_way (λ (x : ReplicaState). F (x, mails)) (has_act act r) r (record r { acts = r.acts ++ act ∷ [] }) f
-      (with_acts A G r (r.acts ++ act ∷ []) (Each-append (Kept A G) r.acts (act ∷ []) f.0.acts (k, tt)) (Each-append (Due A G) r.acts (act ∷ []) f.0.due (d, tt)) f.0, f.1)
+      cond_both (has_act act r) r (record r { acts = r.acts ++ act ∷ [] }) (λ (x : ReplicaState). F (x, mails)) (λ _. f)
+      (λ none. (with_acts A G r (r.acts ++ act ∷ []) (Each-append (Kept A G) r.acts (act ∷ []) f.0.acts (k, tt)) (more_due A G act r.acts (r.acts ++ act ∷ []) (ends_after act r.acts) (d none) f.0.due) f.0, f.1))
 
-  queued_act : (act : Command) (r : ReplicaState) (mails : List Mail) → Kept A G act → Due A G act → F (r, mails) → F (act_queued act (r, mails))
+  queued_act : (act : Command) (r : ReplicaState) (mails : List Mail) → Kept A G act → (has_act act r ≡ false → Due A G act r.acts) → F (r, mails) → F (act_queued act (r, mails))
   unfolding act_queued
   queued_act act r mails k d f = pumped_fine start A G W Q false (with_act act r, mails) (act_fine act r mails k d f)
 
   -- ---- Tick
 
+  -- how long it has waited is nothing to what is under way
+  same_taken : (r : ReplicaState) (waits : ℕ) (slots : List ℕ) → taken_from (record r { waits = waits }) slots ≡ taken_from r slots
+  same_taken r waits [] = refl
+  same_taken r waits (slot ∷ slots) = ap (λ (commands : List Command). listed (taken_at r slot) ++ commands) (same_taken r waits slots)
+
+  same_act : (act : Command) (r : ReplicaState) (waits : ℕ) → has_act act (record r { waits = waits }) ≡ has_act act r
+  same_act act r waits = ap (λ (commands : List Command). list_any (is_of_kind act) r.acts || list_any (is_of_kind act) commands) (same_taken r waits (open_slots r))
+
   -- a coordinator that has waited long enough may give up
   abbrev pub GivesUp : ReplicaState → Type 0
-  GivesUp r = (tx : Draw) (body : Body) (order : ℕ) (heard : Option Heard) → r.group.core.lock ≡ Coordinating tx body order heard → patience ≤ r.waits + 1 → G tx
+  GivesUp r = (tx : Draw) (body : Body) (order : ℕ) (heard : Option Heard) → r.group.core.lock ≡ Coordinating tx body order heard → patience ≤ r.waits + 1 → has_act (GiveUp tx) r ≡ false → Due A G (GiveUp tx) r.acts
 
   -- a tick more is within what a leader may wait
   abbrev pub TicksOn : ReplicaState → Type 0
@@ -173,14 +181,14 @@ module _ (start : ReplicaState) (A : Command → Type 0) (G : Draw → Type 0) (
       let within : Q → one_tick_more r.waits ≤ allowed W r.leader.ballot r.group.core.lock =
       λ q. (let on = t q tx body order heard (sym l) in subst (λ (lock : Lock). one_tick_more r.waits ≤ allowed W r.leader.ballot lock) l (omega (arith, on, few))) in
       let h : F (more, mails) = more_fine r mails within f in
-      cond_both (nat_le patience more.waits) (with_act (GiveUp tx) more) more (λ (x : ReplicaState). F (x, mails)) (λ e. act_fine (GiveUp tx) more mails tt (g tx body order heard (sym l) (long_enough r.waits e)) h) (λ _. h)
+      cond_both (nat_le patience more.waits) (with_act (GiveUp tx) more) more (λ (x : ReplicaState). F (x, mails)) (λ e. act_fine (GiveUp tx) more mails tt (λ none. g tx body order heard (sym l) (long_enough r.waits e) (sym (same_act (GiveUp tx) r more.waits) ∙ none)) h) (λ _. h)
 
   reminded_fine : (r : ReplicaState) (mails : List Mail) → GivesUp r → TicksOn r → F (r, mails) → F (reminded (r, mails))
   unfolding reminded
   reminded_fine r mails g t f =
       let s = f.1 in
       let said : F (r, reminders r.group.core.lock r.me r.group mails) =
-      (f.0, resent start A G W Q false true r mails _ s (reminders_plain (Caused start A G W Q s.entries false true) (caused_plain start A G W Q s.entries false true) r.group.core.lock r.me r.group mails s.sent)) in
+      (f.0, resent start A G W Q false true r mails _ s (reminders_plain (AllCaused start A G W Q s.entries false true) (plain_caused start A G W Q s.entries false true) r.group.core.lock r.me r.group mails s.sent)) in
       waited_fine r.group.core.lock r (reminders r.group.core.lock r.me r.group mails) refl g t said
 
   -- ---- the parties of a transaction
@@ -190,9 +198,9 @@ module _ (start : ReplicaState) (A : Command → Type 0) (G : Draw → Type 0) (
 
   offered_fine : (o : Option Past) (from : ℕ) (tx : Draw) (offer : Offer) (place : Place) → F place → F (offered_by o from tx offer place)
   offered_fine (Some vote) from tx offer (r, mails) f =
-      (f.0, resent start A G W Q false true r mails _ f.1 (vote_plain (Caused start A G W Q f.1.entries false true) (caused_plain start A G W Q f.1.entries false true) r.me r.group from tx offer vote mails f.1.sent))
+      (f.0, resent start A G W Q false true r mails _ f.1 (vote_plain (AllCaused start A G W Q f.1.entries false true) (plain_caused start A G W Q f.1.entries false true) r.me r.group from tx offer vote mails f.1.sent))
   offered_fine None from tx offer (r, mails) f =
-      either_way F r.running (act_queued (Prepared tx offer) (r, mails)) (sent_elsewhere from tx offer.coord (r, mails)) (queued_act (Prepared tx offer) r mails tt tt f) (elsewhere_sent from tx offer.coord (r, mails) f)
+      either_way F r.running (act_queued (Prepared tx offer) (r, mails)) (sent_elsewhere from tx offer.coord (r, mails)) (queued_act (Prepared tx offer) r mails tt (λ _. tt) f) (elsewhere_sent from tx offer.coord (r, mails) f)
 
   pub offer_fine : (from : ℕ) (tx : Draw) (offer : Offer) (r : ReplicaState) (mails : List Mail) → F (r, mails) → F (offer_row from tx offer (r, mails))
   unfolding offer_row
@@ -200,9 +208,9 @@ module _ (start : ReplicaState) (A : Command → Type 0) (G : Draw → Type 0) (
 
   watched_by_fine : (o : Option Past) (from : ℕ) (tx : Draw) (watch : Watch) (place : Place) → F place → F (watched_by o from tx watch place)
   watched_by_fine (Some vote) from tx watch (r, mails) f =
-      (f.0, resent start A G W Q false true r mails _ f.1 (watched_plain (Caused start A G W Q f.1.entries false true) (caused_plain start A G W Q f.1.entries false true) r.me from tx watch vote mails f.1.sent))
+      (f.0, resent start A G W Q false true r mails _ f.1 (watched_plain (AllCaused start A G W Q f.1.entries false true) (plain_caused start A G W Q f.1.entries false true) r.me from tx watch vote mails f.1.sent))
   watched_by_fine None from tx watch (r, mails) f =
-      either_way F r.running (act_queued (Watched tx watch) (r, mails)) (sent_elsewhere from tx watch.coord (r, mails)) (queued_act (Watched tx watch) r mails tt tt f) (elsewhere_sent from tx watch.coord (r, mails) f)
+      either_way F r.running (act_queued (Watched tx watch) (r, mails)) (sent_elsewhere from tx watch.coord (r, mails)) (queued_act (Watched tx watch) r mails tt (λ _. tt) f) (elsewhere_sent from tx watch.coord (r, mails) f)
 
   pub watch_fine : (from : ℕ) (tx : Draw) (watch : Watch) (r : ReplicaState) (mails : List Mail) → F (r, mails) → F (watch_row from tx watch (r, mails))
   unfolding watch_row
@@ -213,7 +221,7 @@ module _ (start : ReplicaState) (A : Command → Type 0) (G : Draw → Type 0) (
 
   vote_queued_fine : (from : ℕ) (tx : Draw) (vote : Vote) (place : Place) → F place → F (vote_queued from tx vote place)
   vote_queued_fine from tx vote (r, mails) f =
-      either_way F (r.running && awaits_vote r.group.core.lock tx) (act_queued (RecordVote tx vote from) (r, mails)) (r, mails) (queued_act (RecordVote tx vote from) r mails tt tt f) f
+      either_way F (r.running && awaits_vote r.group.core.lock tx) (act_queued (RecordVote tx vote from) (r, mails)) (r, mails) (queued_act (RecordVote tx vote from) r mails tt (λ _. tt) f) f
 
   vote_met_fine : (vote : Vote) (o : Option Outcome) (from : ℕ) (tx part : Draw) (place : Place) → F place → F (vote_met vote o from tx part place)
   vote_met_fine (Vows.Yes frozen) (Some outcome) from tx part (r, mails) f = outcome_told from tx part outcome r mails f
@@ -226,7 +234,7 @@ module _ (start : ReplicaState) (A : Command → Type 0) (G : Draw → Type 0) (
 
   watch_queued_fine : (from : ℕ) (tx : Draw) (vote : Past) (place : Place) → F place → F (watch_queued from tx vote place)
   watch_queued_fine from tx vote (r, mails) f =
-      either_way F (r.running && awaits_watch r.group.core.lock tx) (act_queued (RecordWatch tx vote from) (r, mails)) (r, mails) (queued_act (RecordWatch tx vote from) r mails tt tt f) f
+      either_way F (r.running && awaits_watch r.group.core.lock tx) (act_queued (RecordWatch tx vote from) (r, mails)) (r, mails) (queued_act (RecordWatch tx vote from) r mails tt (λ _. tt) f) f
 
   watch_met_fine : (vote : Past) (o : Option Outcome) (from : ℕ) (tx part : Draw) (place : Place) → F place → F (watch_met vote o from tx part place)
   watch_met_fine Cast.Yes (Some outcome) from tx part (r, mails) f = outcome_told from tx part outcome r mails f
@@ -243,12 +251,12 @@ module _ (start : ReplicaState) (A : Command → Type 0) (G : Draw → Type 0) (
   elsewhere_fine from tx hint r mails f =
       let s = f.1 in
       either_way F (settled r) (r, asked_next r.group.core.lock r.me r.group.core from tx hint mails) (r, mails)
-      (f.0, resent start A G W Q false true r mails _ s (next_plain (Caused start A G W Q s.entries false true) (caused_plain start A G W Q s.entries false true) r.group.core.lock r.me r.group.core from tx hint mails s.sent)) f
+      (f.0, resent start A G W Q false true r mails _ s (next_plain (AllCaused start A G W Q s.entries false true) (plain_caused start A G W Q s.entries false true) r.group.core.lock r.me r.group.core from tx hint mails s.sent)) f
 
   pub outcome_fine : (tx : Draw) (outcome : Outcome) (r : ReplicaState) (mails : List Mail) → F (r, mails) → F (outcome_row tx outcome (r, mails))
   unfolding outcome_row
   outcome_fine tx outcome r mails f =
-      either_way F (r.running && is_bound r.group.core.lock tx) (act_queued (Finish tx outcome) (r, mails)) (r, mails) (queued_act (Finish tx outcome) r mails tt tt f) f
+      either_way F (r.running && is_bound r.group.core.lock tx) (act_queued (Finish tx outcome) (r, mails)) (r, mails) (queued_act (Finish tx outcome) r mails tt (λ _. tt) f) f
 
   -- ---- orders
 
@@ -295,6 +303,6 @@ module _ (start : ReplicaState) (A : Command → Type 0) (G : Draw → Type 0) (
       (cond_both (not (settled r)) (elected (r, mails)) _ F (λ _. elected_fine start A G W Q true r mails f)
       (λ e. either_way F (is_idle r) (pumped (wishing on drawer (reminded (r, last)))) (pumped (wishing on drawer (reminded (r, again))))
       (pumped_fine start A G W Q false (wishing on drawer (reminded (r, last))) (wishing_fine on drawer (reminded (r, last))
-      (reminded_fine r last (g (not-false (settled r) e)) (t (not-false (settled r) e)) (f.0, resent start A G W Q false true r mails last s (last_plain (Caused start A G W Q s.entries false true) (caused_plain start A G W Q s.entries false true) (entry_at (next r - 1) r.log) r mails s.sent)))))
+      (reminded_fine r last (g (not-false (settled r) e)) (t (not-false (settled r) e)) (f.0, resent start A G W Q false true r mails last s (last_plain (AllCaused start A G W Q s.entries false true) (plain_caused start A G W Q s.entries false true) (entry_at (next r - 1) r.log) r mails s.sent)))))
       (pumped_fine start A G W Q false (wishing on drawer (reminded (r, again))) (wishing_fine on drawer (reminded (r, again))
-      (reminded_fine r again (g (not-false (settled r) e)) (t (not-false (settled r) e)) (f.0, resent start A G W Q false true r mails again s (again_plain (Caused start A G W Q s.entries false true) (caused_plain start A G W Q s.entries false true) r (next r) r.sets mails s.sent)))))))
+      (reminded_fine r again (g (not-false (settled r) e)) (t (not-false (settled r) e)) (f.0, resent start A G W Q false true r mails again s (again_plain (AllCaused start A G W Q s.entries false true) (plain_caused start A G W Q s.entries false true) r (next r) r.sets mails s.sent)))))))

@@ -1,5 +1,5 @@
 -- What a step shows, and a state that is taken over: each answer has its cause.
-use Rattle.std.proofs.Common.{◌≡◌, ◌<◌, ℕ, ◌+◌, ◌-◌, ◌≤◌, ◌^◌, ◌⊎◌, ◌||◌, not, nat_lt, eqb, Bool, true, false, List, [], ◌∷◌, length, map, Option, Some, None, refl, sym, ◌∙◌, subst, inl, inr, arith, true≢false}
+use Rattle.std.proofs.Common.{◌≡◌, ◌<◌, ℕ, ◌+◌, ◌-◌, ◌≤◌, ◌^◌, ◌⊎◌, ◌||◌, not, nat_lt, eqb, Bool, true, false, List, [], ◌∷◌, ◌++◌, length, map, Option, Some, None, refl, sym, ap, ◌∙◌, subst, inl, inr, arith, true≢false}
 use Rattle.std.proofs.lemmas.Bool.{cond_both}
 use Rattle.sc_base.specs.Among.{Among, Each}
 use Rattle.sc_base.specs.declared.names.Ballot.{Ballot}
@@ -17,27 +17,32 @@ use Rattle.sc_mail.specs.declared.bodies.Mail.{Mail}
 use Rattle.sc_mail.specs.declared.bodies.MailBody.{MailBody}
 use Rattle.sc_mail.specs.declared.bodies.MailBody.TheVariants.{Prepare}
 use Rattle.sc_member.specs.Roster.{is_member, least_of}
-use Rattle.sc_paxos_words.proofs.ListLemmas.{Each-among, Each-weaker}
+use Rattle.sc_paxos_words.proofs.ListLemmas.{Each-weaker}
+use Rattle.sc_machine_table.specs.Group.{Group}
 use Rattle.sc_machine_table.specs.Logs.{state_after}
+use Rattle.sc_machine_table.specs.Machine.{applied}
+use Rattle.sc_paxos_words.specs.Logs.{LogState}
 use Rattle.sc_node_table.specs.Election.{open_nodes, elected, ended, stopped}
-use Rattle.sc_node_table.specs.Execute.{is_among, looked_for, looked}
+use Rattle.sc_node_table.specs.Execute.{entered, is_among, looked_for, looked}
 use Rattle.sc_node_table.specs.Install.{jumped}
-use Rattle.sc_node_table.specs.Replica.{ReplicaState, Place, name_of, next, members, last_slot, forgotten}
+use Rattle.sc_node_table.specs.Replica.{ReplicaState, Place, name_of, next, listed, members, last_slot, forgotten}
 use Rattle.sc_node_table.specs.Rows.{looked_up, took_over, install_row}
 use Rattle.sc_law_lemmas.proofs.Ways.{either_way}
-use Rattle.sc_refusal_law.specs.Causes.{IsHeldOrBrought, LeadsNoMore, HasCause, AnswersCall, IfAnswer, LacksKey, MayGiveUp, IsTakenOver, StepHasCauses}
-use Rattle.sc_refusal_law.proofs.Keeping.{Kept, Due, Holds}
-use Rattle.sc_refusal_law.proofs.Locking.{allowed}
+use Rattle.sc_refusal_law.specs.Causes.{IsHeldOrBrought, LeadsNoMore, HasCauseAtEntry, HasCauseAfter, AnswersCall, AnswersInTurn, IfAnswer, LacksKey, MayGiveUp, IsTakenOver, StepHasCauses, ends_queued, entry_answers, log_with, log_after, taught}
+use Rattle.sc_refusal_law.proofs.Keeping.{Kept, DueAll, Holds}
+use Rattle.sc_refusal_law.proofs.Answering.{IfCall, entries_each}
+use Rattle.sc_refusal_law.proofs.Executing.{entered_me, entered_name}
+use Rattle.sc_refusal_law.proofs.Locking.{allowed, entry_turns, still_allowed}
 use Rattle.sc_refusal_law.proofs.Plain.{answer_weaker, all_plain}
-use Rattle.sc_refusal_law.proofs.Standing.{CauseSo, Caused, CausedAnswer, CausedBody, AllCaused, caused_plain, FineAs, Fine}
+use Rattle.sc_refusal_law.proofs.Standing.{CauseSo, Caused, CausedAnswer, CausedBody, AllCaused, none_caused, plain_caused, FineAs, Fine}
 use Rattle.sc_refusal_law.proofs.Stopping.{ended_fine, stopped_fine}
 
 module _ (start : ReplicaState) (input : Input Mail OrderLine) (W : Ballot → Draw → ℕ) (Q : Type 0) (within : Q → start.running ≡ true → start.waits ≤ allowed W start.leader.ballot start.group.core.lock) where
   abbrev pub A : Command → Type 0
   A command = IsHeldOrBrought start input command
 
-  abbrev pub G : Draw → Type 0
-  G tx = MayGiveUp start.waits start input tx
+  abbrev pub G : Draw → ℕ → Type 0
+  G tx count = MayGiveUp start.waits start input tx count
 
   abbrev F : Bool → Bool → Place → Type 0
   F refused turned place = FineAs start A G W Q refused turned place
@@ -70,29 +75,18 @@ module _ (start : ReplicaState) (input : Input Mail OrderLine) (W : Ballot → D
   each_made of (x ∷ xs) f = (kept_asked (of x) (f (of x) (inl refl)), each_made of xs (λ other among. f other (inr among)))
 
   -- what is queued may be
-  due_queued : (command : Command) → Among command start.acts → Due A G command
-  due_queued (GiveUp tx) a = inl a
-  due_queued (Call client seq op) a = tt
-  due_queued Noop a = tt
-  due_queued (Join node order) a = tt
-  due_queued (Leave node order) a = tt
-  due_queued (Split at child order) a = tt
-  due_queued (Begin tx body order) a = tt
-  due_queued (Prepared tx offer) a = tt
-  due_queued (RecordVote tx vote by) a = tt
-  due_queued (Finish tx outcome) a = tt
-  due_queued (Watched tx watch) a = tt
-  due_queued (RecordWatch tx vote by) a = tt
+  fewer_may : (tx : Draw) (fewer count : ℕ) → fewer ≤ count → G tx count → G tx fewer
+  fewer_may tx fewer count few (inl most) = inl (omega (arith, few, most))
+  fewer_may tx fewer count few (inr more) = let most = more.0 in inr (omega (arith, few, most), more.1)
 
-  each_due : (commands : List Command) → ((command : Command) → Among command commands → Among command start.acts) → Each (Due A G) commands
-  each_due [] f = tt
-  each_due (command ∷ commands) f = (due_queued command (f command (inl refl)), each_due commands (λ other among. f other (inr among)))
+  may : (acts : List Command) → DueAll A G acts → (tx : Draw) → G tx (ends_queued tx acts)
+  may acts d tx = let p = d tx in fewer_may tx (ends_queued tx acts) p.0 p.1 p.2
 
   held : Holds A G start
   held = record {
     calls = each_kept start.calls (λ command among. inl (inl among));
     acts = each_kept start.acts (λ command among. inl (inr (inl among)));
-    due = each_due start.acts (λ command among. among);
+    due = λ tx. (ends_queued tx start.acts, omega arith, inl (omega arith));
     flights = each_made (λ flight. flight.value) start.leader.flights (λ command among. inl (inr (inr (inl among))));
     ready = each_made (λ counted. counted.1) start.ready (λ command among. inl (inr (inr (inr (inl among)))));
     reports = each_made (λ report. report.value) start.leader.reports (λ command among. inl (inr (inr (inr (inr among)))));
@@ -100,31 +94,49 @@ module _ (start : ReplicaState) (input : Input Mail OrderLine) (W : Ballot → D
 
   -- where a step begins
   pub first : (turned : Bool) → F false turned (start, [])
-  first turned = (held, record { entries = []; me_is = refl; name_is = refl; group_is = refl; log_is = refl; out = λ e. cc; patient = within; sent = tt })
+  first turned = (held, record { entries = []; me_is = refl; name_is = refl; group_is = refl; log_is = refl; out = λ e. cc; patient = within; sent = none_caused start A G W Q false turned })
 
   -- ---- what a step shows
 
-  module _ (after : ReplicaState) (entries : List Command) (refused : Bool) (out : refused ≡ true → LeadsNoMore start input after) (is : after.group ≡ state_after start.group entries) where
-    cause_of : (client seq : ℕ) (op : Op) (answer : AnswerBody) → CauseSo start A G W Q entries refused true client seq op answer → HasCause start input after entries client seq op answer
-    cause_of client seq op (Says.Value reply) c = tt
-    cause_of client seq op (Says.NotLeader hint) c = out c
-    cause_of client seq op (Says.NotMine arc succ) (inl c) = inl c
-    cause_of client seq op (Says.NotMine arc succ) (inr c) = inr (subst (λ g. LacksKey g op (Says.NotMine arc succ)) (sym is) c.1)
-    cause_of client seq op (Says.Gone into) (inl c) = inl c
-    cause_of client seq op (Says.Gone into) (inr c) = inr (subst (λ g. LacksKey g op (Says.Gone into)) (sym is) c.1)
-    cause_of client seq op (Says.Stale last) c = c
+  -- a kept call was asked
+  kept_call : (command : Command) → Kept A G command → IfCall A command
+  kept_call command k client seq op e = subst (Kept A G) e k
 
-    answer_of : (to : ℕ) (group : Draw) (seq : ℕ) (answer : AnswerBody) → CausedAnswer start A G W Q entries refused true to group seq answer → AnswersCall start input after entries to group seq answer
-    answer_of to group seq answer c = record { own = c.own; client = c.client; op = c.op; receiver = c.receiver; was_asked = c.was_asked; cause = cause_of c.client seq c.op answer c.cause }
+  -- the answers of one that began as another, in the name and number of both
+  module _ (from after : ReplicaState) (entries : List Command) (refused : Bool) (me : from.me ≡ start.me) (name : name_of from ≡ name_of start) (out : refused ≡ true → LeadsNoMore start input after) (is : after.group ≡ state_after from.group entries) where
+    cause_of : (op : Op) (answer : AnswerBody) → CauseSo from A G W Q entries refused true op answer → HasCauseAfter start input after op answer
+    cause_of op (Says.Value reply) c = c
+    cause_of op (Says.NotLeader hint) c = out c
+    cause_of op (Says.NotMine arc succ) c = subst (λ g. LacksKey g op (Says.NotMine arc succ)) (sym is) c.1
+    cause_of op (Says.Gone into) c = subst (λ g. LacksKey g op (Says.Gone into)) (sym is) c.1
+    cause_of op (Says.Stale last) c = c
 
-    body_of : (to : ℕ) (body : MailBody) → CausedBody start A G W Q entries refused true to body → IfAnswer (λ group seq answer. AnswersCall start input after entries to group seq answer) body
-    body_of to body c =
-        answer_weaker (λ group seq answer. CausedAnswer start A G W Q entries refused true to group seq answer) (λ group seq answer. AnswersCall start input after entries to group seq answer)
-        (λ group seq answer k. answer_of to group seq answer k) body c
+    abbrev After1 : ℕ → Draw → ℕ → AnswerBody → Type 0
+    After1 to group seq answer = AnswersCall start input (λ client seq op says. HasCauseAfter start input after op says) to group seq answer
 
-    answers_of : (mails : List Mail) → AllCaused start A G W Q entries refused true mails → Each (λ (mail : Mail). IfAnswer (λ group seq answer. AnswersCall start input after entries mail.to group seq answer) mail.body) mails
-    answers_of mails c =
-        Each-weaker (Caused start A G W Q entries refused true) (λ (mail : Mail). IfAnswer (λ group seq answer. AnswersCall start input after entries mail.to group seq answer) mail.body) (λ mail m. body_of mail.to mail.body m) mails c
+    answer_of : (to : ℕ) (group : Draw) (seq : ℕ) (answer : AnswerBody) → CausedAnswer from A G W Q entries refused true to group seq answer → After1 to group seq answer
+    answer_of to group seq answer c = record { own = c.own ∙ name; client = c.client; op = c.op; receiver = c.receiver; was_asked = c.was_asked; cause = cause_of c.op answer c.cause }
+
+    body_of : (to : ℕ) (body : MailBody) → CausedBody from A G W Q entries refused true to body → IfAnswer (λ group seq answer. After1 to group seq answer) body
+    body_of to body c = answer_weaker (λ group seq answer. CausedAnswer from A G W Q entries refused true to group seq answer) (λ group seq answer. After1 to group seq answer) (λ group seq answer k. answer_of to group seq answer k) body c
+
+    -- a call that was executed was asked, and has its cause at its entry
+    abbrev AtEntry : Mail → Type 0
+    AtEntry mail = IfAnswer (λ group seq answer. AnswersCall start input (HasCauseAtEntry from.group entries) mail.to group seq answer) mail.body
+
+    entries_so : Each (Kept A G) entries → Each AtEntry (entry_answers start.me (name_of start) from.group entries)
+    entries_so asked =
+        entries_each A start.me (name_of start) from.group AtEntry entries (Each-weaker (Kept A G) (IfCall A) (λ command k. kept_call command k) entries asked)
+        (λ client seq op answer a cause. record { own = refl; client = client; op = op; receiver = refl; was_asked = a; cause = cause })
+
+    in_turn : (mails : List Mail) → AllCaused from A G W Q entries refused true mails → AnswersInTurn start input after from.group entries mails
+    in_turn mails s =
+        record {
+          others = s.others;
+          are = s.are ∙ ap (λ (n : ℕ). entry_answers n (name_of from) from.group entries ++ s.others) me ∙ ap (λ (n : Draw). entry_answers start.me n from.group entries ++ s.others) name;
+          at_entries = entries_so s.asked;
+          afterwards = Each-weaker (Caused from A G W Q entries refused true) (λ (mail : Mail). IfAnswer (λ group seq answer. After1 mail.to group seq answer) mail.body) (λ mail m. body_of mail.to mail.body m) s.others s.causes;
+        }
 
   -- a step, and what the replica keeps of itself
   pub record Shows (place : Place) : Type 0 where
@@ -133,18 +145,83 @@ module _ (start : ReplicaState) (input : Input Mail OrderLine) (W : Ballot → D
     pub name_is : name_of place.0 ≡ name_of start
     pub patient : Q → place.0.running ≡ true → place.0.waits ≤ allowed W place.0.leader.ballot place.0.group.core.lock
 
-  pub shown : (place : Place) → After place → Shows place
-  shown (after, mails) (refused, f) = record {
+  -- an input that teaches nothing
+  pub shown : (place : Place) → listed (taught input) ≡ [] → After place → Shows place
+  shown (after, mails) none (refused, f) = record {
     causes = record {
-      entries = f.1.entries;
+      learnt = [];
+      counted = f.1.entries;
+      learns = inl (sym none);
       executed = inl (record { group = f.1.group_is; log = f.1.log_is });
-      answers = answers_of after f.1.entries refused (λ e. inl (f.1.out e)) f.1.group_is mails f.1.sent;
-      acts = λ tx among. Each-among (Due A G) after.acts (GiveUp tx) f.0.due among;
+      answers = in_turn start after f.1.entries refused refl refl (λ e. inl (f.1.out e)) f.1.group_is mails f.1.sent;
+      acts = may after.acts f.0.due;
     };
     me_is = f.1.me_is;
     name_is = f.1.name_is;
     patient = f.1.patient;
   }
+
+  -- where nothing is executed, and nothing changes but for mails
+  pub still_shown : (mails : List Mail) → AllCaused start A G W Q [] false true mails → Shows (start, mails)
+  still_shown mails c = record {
+    causes = record {
+      learnt = [];
+      counted = [];
+      learns = inr (refl, refl);
+      executed = inl (record { group = refl; log = refl });
+      answers = in_turn start start [] false refl refl (λ e. cc) refl mails c;
+      acts = λ tx. inl (omega arith);
+    };
+    me_is = refl;
+    name_is = refl;
+    patient = within;
+  }
+
+  -- ---- an entry that is learnt: what follows it is the step of one that has executed it
+
+  entered_group : (command : Command) → (entered command start).group ≡ (applied start.group command).0
+  unfolding entered forgotten
+  entered_group command = refl
+
+  entered_log : (command : Command) → (entered command start).log ≡ log_with start.log command
+  unfolding entered forgotten
+  entered_log command = refl
+
+  pub entered_first : (command : Command) → FineAs (entered command start) A G W Q false false (entered command start, [])
+  unfolding entered forgotten
+  entered_first command = (
+    record { calls = held.calls; acts = held.acts; due = held.due; flights = held.flights; ready = held.ready; reports = held.reports },
+    record {
+      entries = [];
+      me_is = refl;
+      name_is = refl;
+      group_is = refl;
+      log_is = refl;
+      out = λ e. cc;
+      patient = λ q runs. still_allowed W start.leader.ballot start.group.core.lock (applied start.group command).0.core.lock start.waits (entry_turns start.group command).lock (within q runs);
+      sent = none_caused (entered command start) A G W Q false false;
+    },
+  )
+
+  pub learnt_shown : (command : Command) (place : Place) → Some command ≡ taught input → Fine (entered command start) A G W Q place → Shows place
+  learnt_shown command (after, mails) taught_so (refused, f) =
+      let from : ReplicaState = entered command start in
+      let group : from.group ≡ (applied start.group command).0 = entered_group command in
+      let log : from.log ≡ log_with start.log command = entered_log command in
+      let turn : AnswersInTurn start input after from.group f.1.entries mails = in_turn from after f.1.entries refused (entered_me command start) (entered_name command start) (λ e. inl (f.1.out e)) f.1.group_is mails f.1.sent in
+      record {
+        causes = record {
+          learnt = command ∷ [];
+          counted = f.1.entries;
+          learns = inl (ap listed taught_so);
+          executed = inl (record { group = f.1.group_is ∙ ap (λ (g : Group). state_after g f.1.entries) group; log = f.1.log_is ∙ ap (λ (l : LogState Command). log_after l f.1.entries) log });
+          answers = subst (λ (g : Group). AnswersInTurn start input after g f.1.entries mails) group turn;
+          acts = may after.acts f.0.due;
+        };
+        me_is = f.1.me_is ∙ entered_me command start;
+        name_is = f.1.name_is ∙ entered_name command start;
+        patient = f.1.patient;
+      }
 
   -- ---- a state that is taken over
 
@@ -185,7 +262,7 @@ module _ (start : ReplicaState) (input : Input Mail OrderLine) (W : Ballot → D
           calls = refl;
           waits = λ runs. refl;
           out = inr (omega (arith, low));
-          sent = all_plain (Caused start A G W Q [] refused false) (caused_plain start A G W Q [] refused false) r.me (open_nodes r.sets) (Prepare (name_of r) (record { round = r.top.round + 1; node = r.me }) (next r)) mails tt c;
+          sent = all_plain (AllCaused start A G W Q [] refused false) (plain_caused start A G W Q [] refused false) r.me (open_nodes r.sets) (Prepare (name_of r) (record { round = r.top.round + 1; node = r.me }) (next r)) mails tt c;
         })
 
     for_looked : (gone : Option Route) (r : ReplicaState) (mails : List Mail) → r.running ≡ false → start.top.round ≤ r.top.round → Saying mails → IsLooked r (looked_for gone (r, mails))
@@ -209,23 +286,28 @@ module _ (start : ReplicaState) (input : Input Mail OrderLine) (W : Ballot → D
 
     -- what was answered by one that leads no more
     module _ (after : ReplicaState) (out : refused ≡ true → LeadsNoMore start input after) where
-      told_cause : (client seq : ℕ) (op : Op) (answer : AnswerBody) → CauseSo start A G W Q [] refused false client seq op answer → HasCause start input after [] client seq op answer
-      told_cause client seq op (Says.Value reply) k = tt
-      told_cause client seq op (Says.NotLeader hint) k = out k
-      told_cause client seq op (Says.NotMine arc succ) (inl k) = inl k
-      told_cause client seq op (Says.NotMine arc succ) (inr k) = (let never : false ≡ true = k.0 in cc)
-      told_cause client seq op (Says.Gone into) (inl k) = inl k
-      told_cause client seq op (Says.Gone into) (inr k) = (let never : false ≡ true = k.0 in cc)
-      told_cause client seq op (Says.Stale last) k = k
+      abbrev Told : ℕ → Draw → ℕ → AnswerBody → Type 0
+      Told to group seq answer = AnswersCall start input (λ client seq op says. HasCauseAfter start input after op says) to group seq answer
 
-      told_body : (to : ℕ) (body : MailBody) → CausedBody start A G W Q [] refused false to body → IfAnswer (λ group seq answer. AnswersCall start input after [] to group seq answer) body
+      told_cause : (op : Op) (answer : AnswerBody) → CauseSo start A G W Q [] refused false op answer → HasCauseAfter start input after op answer
+      told_cause op (Says.Value reply) k = k
+      told_cause op (Says.NotLeader hint) k = out k
+      told_cause op (Says.NotMine arc succ) k = absurd (true≢false (sym k.0))
+      told_cause op (Says.Gone into) k = absurd (true≢false (sym k.0))
+      told_cause op (Says.Stale last) k = k
+
+      told_body : (to : ℕ) (body : MailBody) → CausedBody start A G W Q [] refused false to body → IfAnswer (λ group seq answer. Told to group seq answer) body
       told_body to body k =
-          answer_weaker (λ group seq answer. CausedAnswer start A G W Q [] refused false to group seq answer) (λ group seq answer. AnswersCall start input after [] to group seq answer)
-          (λ group seq answer a. record { own = a.own; client = a.client; op = a.op; receiver = a.receiver; was_asked = a.was_asked; cause = told_cause a.client seq a.op answer a.cause }) body k
+          answer_weaker (λ group seq answer. CausedAnswer start A G W Q [] refused false to group seq answer) (λ group seq answer. Told to group seq answer)
+          (λ group seq answer a. record { own = a.own; client = a.client; op = a.op; receiver = a.receiver; was_asked = a.was_asked; cause = told_cause a.op answer a.cause }) body k
 
-      told_mails : (mails : List Mail) → Saying mails → Each (λ (mail : Mail). IfAnswer (λ group seq answer. AnswersCall start input after [] mail.to group seq answer) mail.body) mails
-      told_mails mails c =
-          Each-weaker (Caused start A G W Q [] refused false) (λ (mail : Mail). IfAnswer (λ group seq answer. AnswersCall start input after [] mail.to group seq answer) mail.body) (λ mail m. told_body mail.to mail.body m) mails c
+      told_mails : (mails : List Mail) → Saying mails → AnswersInTurn start input after start.group [] mails
+      told_mails mails c = record {
+        others = c.others;
+        are = c.are;
+        at_entries = tt;
+        afterwards = Each-weaker (Caused start A G W Q [] refused false) (λ (mail : Mail). IfAnswer (λ group seq answer. Told mail.to group seq answer) mail.body) (λ mail m. told_body mail.to mail.body m) c.others c.causes;
+      }
 
     -- what a replica is before it takes a state over: one that ran has stopped
     record HasStopped (before : ReplicaState) (mails : List Mail) : Type 0 where
@@ -237,9 +319,9 @@ module _ (start : ReplicaState) (input : Input Mail OrderLine) (W : Ballot → D
       told : refused ≡ true → (start.running ≡ true) × (before.calls ≡ [])
       sent : Saying mails
 
-    kept_act : {acts : List Command} → (acts ≡ []) ⊎ (acts ≡ start.acts) → (tx : Draw) → Among (GiveUp tx) acts → G tx
-    kept_act (inl none) tx among = absurd (subst (Among (GiveUp tx)) none among)
-    kept_act (inr same) tx among = inl (subst (Among (GiveUp tx)) same among)
+    kept_act : {acts : List Command} → (acts ≡ []) ⊎ (acts ≡ start.acts) → (tx : Draw) → G tx (ends_queued tx acts)
+    kept_act (inl none) tx = subst (λ acts. G tx (ends_queued tx acts)) (sym none) (inl (omega arith))
+    kept_act (inr same) tx = subst (λ acts. G tx (ends_queued tx acts)) (sym same) (inl (omega arith))
 
     why_stopped : (before : ReplicaState) (place : Place) → IsTakenOver input → IsLooked before place → (start.running ≡ true) × (before.calls ≡ []) → LeadsNoMore start input place.0
     why_stopped before place over is ran = elim is.out [ inl idle ↦ inl idle | inr anew ↦ inr (record { ran = ran.0; over = over; empty = is.calls ∙ ran.1; anew = anew }) ]
@@ -253,10 +335,12 @@ module _ (start : ReplicaState) (input : Input Mail OrderLine) (W : Ballot → D
         let is : IsLooked jump place = look_up from jump mails h.idle h.low h.sent in
         record {
           causes = record {
-            entries = [];
-            executed = inr (refl, over);
+            learnt = [];
+            counted = [];
+            learns = inr (refl, refl);
+            executed = inr (refl, refl, over);
             answers = told_mails place.0 (λ e. why_stopped jump place over is (h.told e)) place.1 is.sent;
-            acts = λ tx among. kept_act h.acts tx (subst (λ acts. Among (GiveUp tx) acts) is.acts among);
+            acts = λ tx. subst (λ acts. G tx (ends_queued tx acts)) (sym is.acts) (kept_act h.acts tx);
           };
           me_is = is.me ∙ h.me;
           name_is = is.name ∙ h.name;
@@ -272,10 +356,10 @@ module _ (start : ReplicaState) (input : Input Mail OrderLine) (W : Ballot → D
       let place : Place = stopped (Some from) (start, []) in
       let sent = stopped_sent from in
       taken_by true from slot base sets place.0 place.1 (record { me = refl; name = refl; idle = refl; low = omega arith; acts = inl refl; told = λ _. (ran, refl); sent = sent }) over))
-      (λ idle. taken_by false from slot base sets start [] (record { me = refl; name = refl; idle = idle; low = omega arith; acts = inr refl; told = λ e. cc; sent = tt }) over)
+      (λ idle. taken_by false from slot base sets start [] (record { me = refl; name = refl; idle = idle; low = omega arith; acts = inr refl; told = λ e. cc; sent = none_caused start A G W Q false false }) over)
 
   pub install_shown : (from slot : ℕ) (base : Base) (sets : List (List ℕ)) → IsTakenOver input → Shows (install_row from slot base sets (start, []))
   unfolding install_row
   install_shown from slot base sets over =
-      either_way Shows (not (eqb (length sets) (length start.sets)) || (nat_lt last_slot slot || nat_lt slot (next start))) (start, []) (took_over from slot base sets (start, [])) (shown (start, []) (false, first true))
+      either_way Shows (not (eqb (length sets) (length start.sets)) || (nat_lt last_slot slot || nat_lt slot (next start))) (start, []) (took_over from slot base sets (start, [])) (still_shown [] (none_caused start A G W Q false true))
       (taken_over from slot base sets over)

@@ -20,24 +20,23 @@ use Rattle.sc_node_table.specs.Install.{install_to, asked_to_promise, welcomed_a
 use Rattle.sc_node_table.specs.Mails.{sent, answered, answered_all, told_order, dismissed, dismissed_all}
 use Rattle.sc_node_table.specs.Replica.{ReplicaState, Place, name_of, next, under_way}
 use Rattle.sc_law_lemmas.proofs.Ways.{either_way}
-use Rattle.sc_refusal_law.proofs.Keeping.{Kept, KeptAll, way_kept}
-use Rattle.sc_refusal_law.proofs.Plain.{sent_one, told_plain}
-use Rattle.sc_refusal_law.proofs.Standing.{CauseSo, Caused, AllCaused, caused_plain, stopped_caused, Stands, FineAs, Fine, with_plain, with_all}
+use Rattle.sc_refusal_law.proofs.Keeping.{Kept, KeptAll, way_kept, fewer_due}
+use Rattle.sc_refusal_law.proofs.Plain.{told_plain}
+use Rattle.sc_refusal_law.proofs.Standing.{CauseSo, AllCaused, plain_caused, answer_caused, stopped_caused, Stands, FineAs, Fine, with_plain, with_all}
 
-module _ (start : ReplicaState) (A : Command → Type 0) (G : Draw → Type 0) (W : Ballot → Draw → ℕ) (Q : Type 0) where
+module _ (start : ReplicaState) (A : Command → Type 0) (G : Draw → ℕ → Type 0) (W : Ballot → Draw → ℕ) (Q : Type 0) where
   abbrev F : Bool → Bool → Place → Type 0
   F refused turned place = FineAs start A G W Q refused turned place
 
   -- ---- answers to the calls that are kept
 
-  module _ (entries : List Command) (refused turned : Bool) (me : ℕ) (group : Draw) (own : group ≡ name_of start) (answer : AnswerBody) (causes : (client seq : ℕ) (op : Op) → CauseSo start A G W Q entries refused turned client seq op answer) where
+  module _ (entries : List Command) (refused turned : Bool) (me : ℕ) (group : Draw) (own : group ≡ name_of start) (answer : AnswerBody) (causes : (op : Op) → CauseSo start A G W Q entries refused turned op answer) where
     abbrev C : List Mail → Type 0
     C mails = AllCaused start A G W Q entries refused turned mails
 
     answered_one : (client seq : ℕ) (op : Op) (mails : List Mail) → A (Call client seq op) → C mails → C (sent me (client_actor client) (Answer group seq answer) mails)
     answered_one client seq op mails a c =
-        sent_one (Caused start A G W Q entries refused turned) (caused_plain start A G W Q entries refused turned) mails (record { from = me; to = client_actor client; body = Answer group seq answer })
-        (record { own = own; client = client; op = op; receiver = refl; was_asked = a; cause = causes client seq op }) c
+        answer_caused start A G W Q entries refused turned me (client_actor client) group seq answer mails (record { own = own; client = client; op = op; receiver = refl; was_asked = a; cause = causes op }) c
 
     answered_caused : (command : Command) (mails : List Mail) → Kept A G command → C mails → C (answered me group answer command mails)
     unfolding answered
@@ -50,7 +49,7 @@ module _ (start : ReplicaState) (A : Command → Type 0) (G : Draw → Type 0) (
     answers_caused (command ∷ commands) mails k c = answers_caused commands (answered me group answer command mails) k.1 (answered_caused command mails k.0 c)
 
     desk : (number : ℕ) (hint : Option ℕ) (mails : List Mail) → C mails → C (told_order me number (Tells.Refused (Why.NotLeader hint)) mails)
-    desk number hint mails c = told_plain (Caused start A G W Q entries refused turned) (caused_plain start A G W Q entries refused turned) me number (Tells.Refused (Why.NotLeader hint)) mails c
+    desk number hint mails c = told_plain (AllCaused start A G W Q entries refused turned) (plain_caused start A G W Q entries refused turned) me number (Tells.Refused (Why.NotLeader hint)) mails c
 
     dismissed_caused : (hint : Option ℕ) (command : Command) (mails : List Mail) → Kept A G command → C mails → C (dismissed me group hint answer command mails)
     unfolding dismissed
@@ -77,11 +76,11 @@ module _ (start : ReplicaState) (A : Command → Type 0) (G : Draw → Type 0) (
   -- with an answer whose cause is that it has stopped, or the executed state
   unfoldable pub ended_fine : (refused turned refused' turned' : Bool) (hint : Option ℕ) (answer : AnswerBody) (r : ReplicaState) (mails : List Mail) (f : F refused turned (r, mails))
       → ((ms : List Mail) → AllCaused start A G W Q f.1.entries refused turned ms → AllCaused start A G W Q f.1.entries refused' turned' ms)
-      → ((client seq : ℕ) (op : Op) → CauseSo start A G W Q f.1.entries refused' turned' client seq op answer) → F refused' turned' (ended hint answer (r, mails))
+      → ((op : Op) → CauseSo start A G W Q f.1.entries refused' turned' op answer) → F refused' turned' (ended hint answer (r, mails))
   unfolding ended
   ended_fine refused turned refused' turned' hint answer r mails f later causes =
       let first = answers_caused f.1.entries refused' turned' r.me (name_of r) f.1.name_is answer causes (under_way r) mails (way_kept A G r f.0) (later mails f.1.sent) in (
-        record { calls = tt; acts = tt; due = tt; flights = tt; ready = tt; reports = tt },
+        record { calls = tt; acts = tt; due = fewer_due A G r.acts [] (λ tx. omega arith) f.0.due; flights = tt; ready = tt; reports = tt },
         record {
           entries = f.1.entries;
           me_is = f.1.me_is;
@@ -95,7 +94,7 @@ module _ (start : ReplicaState) (A : Command → Type 0) (G : Draw → Type 0) (
       )
 
   unfoldable pub stopped_fine : (refused turned : Bool) (hint : Option ℕ) (r : ReplicaState) (mails : List Mail) → F refused turned (r, mails) → F true turned (stopped hint (r, mails))
-  stopped_fine refused turned hint r mails f = ended_fine refused turned true turned hint (Says.NotLeader hint) r mails f (λ ms c. stopped_caused start A G W Q f.1.entries refused turned ms c) (λ client seq op. refl)
+  stopped_fine refused turned hint r mails f = ended_fine refused turned true turned hint (Says.NotLeader hint) r mails f (λ ms c. stopped_caused start A G W Q f.1.entries refused turned ms c) (λ op. refl)
 
   -- ---- it is elected, where no other leader was named
 

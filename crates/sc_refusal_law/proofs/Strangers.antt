@@ -1,5 +1,5 @@
 -- A node without a replica of a mail's group: what it answers is to the request that came, and names no leader.
-use Rattle.std.proofs.Common.{◌≡◌, ℕ, ◌+◌, ◌-◌, ◌^◌, ◌||◌, not, nat_lt, eqb, List, [], length, Option, Some, None, refl, sym, subst}
+use Rattle.std.proofs.Common.{◌≡◌, ℕ, ◌+◌, ◌-◌, ◌^◌, ◌||◌, not, nat_lt, eqb, List, [], ◌∷◌, length, Option, Some, None, refl, sym, subst}
 use Rattle.sc_base.specs.Among.{Each}
 use Rattle.sc_base.specs.declared.names.Draw.{Draw}
 use Rattle.sc_cmd.specs.declared.cores.Base.{Base}
@@ -10,9 +10,11 @@ use Rattle.sc_mail.specs.declared.bodies.Mail.{Mail}
 use Rattle.sc_mail.specs.declared.bodies.MailBody.{MailBody}
 use Rattle.sc_mail.specs.declared.bodies.MailBody.TheVariants.{Request, Answer, Prepare, Promise, Accept, Accepted, Nack, Learn, Ask, Install, TxPrepare, TxVote, TxOutcome, TxElsewhere, TxWatch, TxWatched, Told}
 use Rattle.sc_member.specs.Roster.{is_member, least_of}
+use Rattle.sc_paxos_words.proofs.ListLemmas.{Each-append}
 use Rattle.sc_node_table.specs.Election.{open_nodes, elected}
 use Rattle.sc_node_table.specs.Execute.{is_among, looked_for, looked}
 use Rattle.sc_node_table.specs.Install.{named}
+use Rattle.sc_node_table.specs.Mails.{sent}
 use Rattle.sc_node_table.specs.Node.{NodeState, replica_of, group_of_mail, with_made, unknown}
 use Rattle.sc_node_table.specs.Replica.{ReplicaState, Place, name_of, next, members, last_slot, installed_replica}
 use Rattle.sc_node_table.specs.Rows.{looked_up, made_by}
@@ -20,7 +22,7 @@ use Rattle.sc_node_table.specs.Slots.{slots_ahead}
 use Rattle.sc_law_lemmas.proofs.Ways.{either_way}
 use Rattle.sc_refusal_law.specs.Causes.{IfAnswer}
 use Rattle.sc_refusal_law.specs.NodeCauses.{TurnsAway}
-use Rattle.sc_refusal_law.proofs.Plain.{IsPlain, plain_has, sent_plain, all_plain}
+use Rattle.sc_refusal_law.proofs.Plain.{IsPlain, plain_has, all_plain}
 
 module _ (node : NodeState) (mail : Mail) (group : Draw) (missing : replica_of group node.replicas ≡ None) where
   abbrev Turned : Mail → Draw → ℕ → AnswerBody → Type 0
@@ -29,8 +31,8 @@ module _ (node : NodeState) (mail : Mail) (group : Draw) (missing : replica_of g
   abbrev pub P : Mail → Type 0
   P answer = IfAnswer (Turned answer) answer.body
 
-  plain : (answer : Mail) → IsPlain answer.body → P answer
-  plain answer p = plain_has (Turned answer) answer.body p
+  plain : (me to : ℕ) (body : MailBody) (mails : List Mail) → IsPlain body → Each P mails → Each P (sent me to body mails)
+  plain me to body mails p m = let one : Mail = record { from = me; to = to; body = body } in Each-append P mails (one ∷ []) m (plain_has (Turned one) body p, tt)
 
   abbrev Sends : Place → Type 0
   Sends place = Each P place.1
@@ -40,7 +42,7 @@ module _ (node : NodeState) (mail : Mail) (group : Draw) (missing : replica_of g
   elected_sends : (r : ReplicaState) (mails : List Mail) → Each P mails → Sends (elected (r, mails))
   unfolding elected
   elected_sends r mails m =
-      either_way Sends (eqb r.top.round (2 ^ 32 - 1)) _ _ m (all_plain P plain r.me (open_nodes r.sets) (Prepare (name_of r) (record { round = r.top.round + 1; node = r.me }) (next r)) mails tt m)
+      either_way Sends (eqb r.top.round (2 ^ 32 - 1)) _ _ m (all_plain (Each P) plain r.me (open_nodes r.sets) (Prepare (name_of r) (record { round = r.top.round + 1; node = r.me }) (next r)) mails tt m)
 
   for_sends : (gone : Option Route) (r : ReplicaState) (mails : List Mail) → Each P mails → Sends (looked_for gone (r, mails))
   for_sends (Some into) r mails m = m
@@ -72,19 +74,19 @@ module _ (node : NodeState) (mail : Mail) (group : Draw) (missing : replica_of g
   unknown_as (Request other client seq op) e g =
       let same : other ≡ group = cc in
       (record { mail = mail; brought = refl; client = client; op = op; request = sym e; missing = subst (λ (name : Draw). replica_of name node.replicas ≡ None) (sym same) missing; receiver = refl; says = refl }, tt)
-  unknown_as (Prepare other ballot from_slot) e g = sent_plain P plain node.me mail.from (Ask other 0) [] tt tt
-  unknown_as (Accept other ballot slot command) e g = sent_plain P plain node.me mail.from (Ask other 0) [] tt tt
-  unknown_as (Learn other slot command) e g = sent_plain P plain node.me mail.from (Ask other 0) [] tt tt
+  unknown_as (Prepare other ballot from_slot) e g = plain node.me mail.from (Ask other 0) [] tt tt
+  unknown_as (Accept other ballot slot command) e g = plain node.me mail.from (Ask other 0) [] tt tt
+  unknown_as (Learn other slot command) e g = plain node.me mail.from (Ask other 0) [] tt tt
   unknown_as (Answer other seq answer) e g = tt
   unknown_as (Promise other ballot reports) e g = tt
   unknown_as (Accepted other ballot slot) e g = tt
   unknown_as (Nack other ballot) e g = tt
   unknown_as (Ask other from_slot) e g = tt
-  unknown_as (TxPrepare tx offer) e g = sent_plain P plain node.me mail.from (TxElsewhere tx offer.coord None) [] tt tt
+  unknown_as (TxPrepare tx offer) e g = plain node.me mail.from (TxElsewhere tx offer.coord None) [] tt tt
   unknown_as (TxVote tx coord part vote) e g = tt
   unknown_as (TxOutcome tx part outcome) e g = tt
   unknown_as (TxElsewhere tx coord hint) e g = tt
-  unknown_as (TxWatch tx watch) e g = sent_plain P plain node.me mail.from (TxElsewhere tx watch.coord None) [] tt tt
+  unknown_as (TxWatch tx watch) e g = plain node.me mail.from (TxElsewhere tx watch.coord None) [] tt tt
   unknown_as (TxWatched tx coord part vote) e g = tt
   unknown_as (Told order result) e g = tt
 

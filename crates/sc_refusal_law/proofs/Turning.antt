@@ -95,9 +95,9 @@ module _ (client : Client) (input : Input Mail OrderLine) (gone : Bool) (place :
   keeps_turn =
       let t = turn in
       elim t.moves [
-        | inl w ↦ record { me = t.me; requests = t.requests; sends = t.sends; rises = λ seq e. place.rises seq (sym w.number ∙ e) ∙ ap (λ rs. length rs + 1) (sym w.replies); moves = inl w }
-        | inr (inl s) ↦ (let is = starts s.go s.replies in record { me = t.me; requests = t.requests; sends = t.sends; rises = starts_rises is; moves = inr (inl is) })
-        | inr (inr g) ↦ (let is = goes_on g.seq g.reply g.is_reply g.waited g.replies in record { me = t.me; requests = t.requests; sends = t.sends; rises = goes_rises is; moves = inr (inr is) })
+        | inl w ↦ record { turn = t; rises = λ seq e. place.rises seq (sym w.number ∙ e) ∙ ap (λ rs. length rs + 1) (sym w.replies); moves = inl w }
+        | inr (inl s) ↦ (let is = starts s.go s.replies in record { turn = t; rises = starts_rises is; moves = inr (inl is) })
+        | inr (inr g) ↦ (let is = goes_on g.seq g.reply g.is_reply g.waited g.replies in record { turn = t; rises = goes_rises is; moves = inr (inr is) })
       ]
 
   -- one that was not told to go begins nothing

@@ -1,13 +1,12 @@
 -- The rows of Paxos: what a replica makes of promises, votes and executed entries that it is sent.
-use Rattle.std.proofs.Common.{◌≡◌, ◌≤◌, ℕ, ◌&&◌, not, nat_le, nat_lt, eqb, Bool, true, false, List, Option, Some, None, refl, sym, subst}
-use Rattle.std.proofs.lemmas.Bool.{cond_both, eqb-true}
+use Rattle.std.proofs.Common.{◌≡◌, ◌≤◌, ℕ, ◌&&◌, not, nat_le, eqb, Bool, true, false, List, Option, Some, None, refl, sym, subst}
 use Rattle.sc_base.specs.Among.{Each}
 use Rattle.sc_base.specs.Same.{same_ballot}
 use Rattle.sc_base.specs.declared.names.Ballot.{Ballot}
 use Rattle.sc_base.specs.declared.names.Draw.{Draw}
 use Rattle.sc_cmd.specs.declared.commands.Command.{Command}
 use Rattle.sc_mail.specs.declared.bodies.Mail.{Mail}
-use Rattle.sc_mail.specs.declared.bodies.MailBody.TheVariants.{Promise, Accepted, Nack, Ask}
+use Rattle.sc_mail.specs.declared.bodies.MailBody.TheVariants.{Promise, Accepted, Nack}
 use Rattle.sc_member.specs.Roster.{is_member}
 use Rattle.sc_member.specs.Majority.{is_majority}
 use Rattle.sc_paxos_words.proofs.ListLemmas.{Each-append}
@@ -25,13 +24,13 @@ use Rattle.sc_paxos_words.specs.Acceptors.{AcceptorState}
 use Rattle.sc_paxos_words.specs.Leaders.{LeaderState, flight_at, promise_counted}
 use Rattle.sc_paxos_words.specs.Votes.{kept_voters, voters_after, tallied, vote_at, counted}
 use Rattle.sc_node_table.specs.Slots.{with_slot}
-use Rattle.sc_node_table.specs.Replica.{ReplicaState, Place, Executed, childless, name_of, next, set_at, last_slot}
+use Rattle.sc_node_table.specs.Replica.{ReplicaState, Place, Executed, childless, name_of, next, set_at}
 use Rattle.sc_node_table.specs.Mails.{sent}
 use Rattle.sc_node_table.specs.Election.{saw}
 use Rattle.sc_node_table.specs.Execute.{executed, has_room}
 use Rattle.sc_node_table.specs.Install.{install_to}
 use Rattle.sc_node_table.specs.Pump.{pumped}
-use Rattle.sc_node_table.specs.Rows.{learn_row, most_taught, ask_row}
+use Rattle.sc_node_table.specs.Rows.{most_taught, ask_row}
 use Rattle.sc_node_table.specs.Voting.{hinted, promise_to, prepare_row, accepted_to, took, accept_row, leads, promise_row, readied, vote_tallied, voted, accepted_row, nack_row}
 use Rattle.sc_names_law.specs.Names.{Opt}
 use Rattle.sc_names_law.proofs.Lists.{opt_find, slot_with, flight_without, voters_with}
@@ -39,12 +38,12 @@ use Rattle.sc_law_lemmas.proofs.Places.{promised_place, asked_place}
 use Rattle.sc_law_lemmas.proofs.Ways.{either_way}
 use Rattle.sc_refusal_law.proofs.Keeping.{Kept, Flying, Reported, Holds}
 use Rattle.sc_refusal_law.proofs.Plain.{taught_plain}
-use Rattle.sc_refusal_law.proofs.Standing.{Caused, caused_plain, Stands, FineAs, Fine, turned_fine, resent, with_plain}
+use Rattle.sc_refusal_law.proofs.Standing.{AllCaused, plain_caused, Stands, FineAs, Fine, turned_fine, resent, with_plain}
 use Rattle.sc_refusal_law.proofs.Stopping.{saw_fine, installed_fine}
 use Rattle.sc_refusal_law.proofs.Pumping.{pumped_fine}
-use Rattle.sc_refusal_law.proofs.Executing.{MayLose, executed_fine}
+use Rattle.sc_refusal_law.proofs.Executing.{counted_fine, executed_fine}
 
-module _ (start : ReplicaState) (A : Command → Type 0) (G : Draw → Type 0) (W : Ballot → Draw → ℕ) (Q : Type 0) (numbered : 1 ≤ start.me) where
+module _ (start : ReplicaState) (A : Command → Type 0) (G : Draw → ℕ → Type 0) (W : Ballot → Draw → ℕ) (Q : Type 0) (numbered : 1 ≤ start.me) where
   -- whether or not another leader was named
   abbrev F : Bool → Place → Type 0
   F refused place = FineAs start A G W Q refused true place
@@ -160,7 +159,7 @@ module _ (start : ReplicaState) (A : Command → Type 0) (G : Draw → Type 0) (
   readied_fine slot command (r, mails) k f =
       let after : ReplicaState = record r { ready = with_slot r.ready slot command } in
       let g : E (after, mails) = (record { calls = f.0.calls; acts = f.0.acts; due = f.0.due; flights = f.0.flights; ready = slot_with (Kept A G) r.ready slot command k f.0.ready; reports = f.0.reports }, f.1) in
-      either_way AfterAll (eqb slot (next r) && has_room r) (executed true command (after, mails)) (childless (after, mails)) (executed_fine start A G W Q numbered true command (after, mails) (λ _. k) (λ other flies counted. cc) g) (still (after, mails) g)
+      either_way AfterAll (eqb slot (next r) && has_room r) (executed true command (after, mails)) (childless (after, mails)) (executed_fine start A G W Q numbered true command after mails (λ other flies counted. cc) (counted_fine start A G W Q numbered command after mails k g)) (still (after, mails) g)
 
   tallied_fine : (slot : ℕ) (p : Counted Command × LeaderState Command) (r : ReplicaState) (mails : List Mail) → Counts r p → E (r, mails) → After (vote_tallied slot p (r, mails)).0
   tallied_fine slot (Chosen command, leader) r mails c f = readied_fine slot command (record r { leader = leader }, mails) c.0 (with_leader false r leader mails c.1 f)
@@ -174,21 +173,13 @@ module _ (start : ReplicaState) (A : Command → Type 0) (G : Draw → Type 0) (
   unfolding accepted_row
   accepted_fine from ballot slot r mails f = either_way AfterAll (leads ballot r) (voted from ballot slot (set_at slot r) (r, mails)) (childless (r, mails)) (voted_fine from ballot slot (set_at slot r) r mails f) (still (r, mails) f)
 
-  -- ---- Nack, Learn and Ask
+  -- ---- Nack and Ask
 
   pub nack_fine : (ballot : Ballot) (r : ReplicaState) (mails : List Mail) → F false (r, mails) → After (nack_row ballot (r, mails))
   unfolding nack_row
   nack_fine ballot r mails f = saw_fine start A G W Q ballot r mails f
 
-  pub learn_fine : (from slot : ℕ) (command : Command) (r : ReplicaState) (mails : List Mail) → (slot ≡ next r → MayLose start A G W Q numbered false command r) → E (r, mails) → After (learn_row from slot command (r, mails)).0
-  unfolding learn_row
-  learn_fine from slot command r mails d f =
-      either_way AfterAll (nat_lt last_slot slot) _ _ (still (r, mails) f)
-      (cond_both (eqb slot (next r)) _ _ AfterAll (λ e. executed_fine start A G W Q numbered false command (r, mails) (λ counted. cc) (d (eqb-true slot (next r) e)) f)
-      (λ _. either_way AfterAll (nat_lt (next r) slot) (childless (r, sent r.me from (Ask (name_of r) (next r)) mails)) (childless (r, mails))
-      (false, turned_fine start A G W Q false false (r, sent r.me from (Ask (name_of r) (next r)) mails) (f.0, with_plain start A G W Q false false r mails r.me from (Ask (name_of r) (next r)) tt f.1)) (still (r, mails) f)))
-
   pub ask_fine : (from slot : ℕ) (r : ReplicaState) (mails : List Mail) → F false (r, mails) → F false (ask_row from slot (r, mails))
   ask_fine from slot r mails f =
       asked_place (F false) from slot (r, mails) f (installed_fine start A G W Q false true from (r, mails) f)
-      (f.0, resent start A G W Q false true r mails _ f.1 (taught_plain (Caused start A G W Q f.1.entries false true) (caused_plain start A G W Q f.1.entries false true) most_taught r from slot mails f.1.sent))
+      (f.0, resent start A G W Q false true r mails _ f.1 (taught_plain (AllCaused start A G W Q f.1.entries false true) (plain_caused start A G W Q f.1.entries false true) most_taught r from slot mails f.1.sent))

@@ -1,6 +1,6 @@
 -- Why a replica refuses what it is asked: each refusal by its cause, in the state that was executed when it was made. One step may execute several entries.
 use Rattle.std.specs.FinMap.{get}
-use Rattle.std.specs.Prelude.{◌≡◌, ℕ, ◌+◌, ◌<◌, ◌≤◌, Bool, true, false, List, [], ◌∷◌, ◌++◌, map, Option, None, Some, ◌⊎◌}
+use Rattle.std.specs.Prelude.{◌≡◌, ℕ, ◌+◌, ◌<◌, ◌≤◌, Bool, true, false, List, [], ◌∷◌, ◌++◌, filter, length, map, Option, None, Some, ◌⊎◌}
 use Rattle.sc_base.specs.Among.{Among, Each}
 use Rattle.sc_base.specs.Drawing.{Drawer}
 use Rattle.sc_base.specs.Limits.{client_actor}
@@ -24,13 +24,16 @@ use Rattle.sc_mail.specs.declared.bodies.MailBody.{MailBody}
 use Rattle.sc_mail.specs.declared.bodies.MailBody.TheVariants.{Request, Answer, Prepare, Promise, Accept, Accepted, Nack, Learn, Ask, Install, TxPrepare, TxVote, TxOutcome, TxElsewhere, TxWatch, TxWatched, Told}
 use Rattle.sc_machine_table.specs.Group.{Group}
 use Rattle.sc_machine_table.specs.Logs.{state_after}
+use Rattle.sc_machine_table.specs.Machine.{applied}
 use Rattle.sc_paxos_words.specs.Logs.{LogState, next_of, log_cut}
 use Rattle.sc_node_table.specs.declared.ReplicaInput.{ReplicaInput}
 use Rattle.sc_node_table.specs.declared.ReplicaInput.TheVariants as Given
-use Rattle.sc_node_table.specs.Execute.{with_entry}
+use Rattle.sc_node_table.specs.Acts.{has_act, is_giving_up}
+use Rattle.sc_node_table.specs.Execute.{answer_of, with_entry}
+use Rattle.sc_node_table.specs.Mails.{answered}
 use Rattle.sc_node_table.specs.Pump.{serves_calls}
 use Rattle.sc_node_table.specs.Reminders.{patience}
-use Rattle.sc_node_table.specs.Replica.{ReplicaState, Place, floor_of, name_of, next, flying, settled}
+use Rattle.sc_node_table.specs.Replica.{ReplicaState, Place, floor_of, name_of, next, flying, listed, settled}
 use Rattle.sc_node_table.specs.Rows.{stepped}
 use Rattle.sc_node_table.specs.Sameness.{same_command}
 
@@ -88,6 +91,37 @@ pub record HasExecuted (r after : ReplicaState) (entries : List Command) : Type 
   pub group : after.group ≡ state_after r.group entries
   pub log : after.log ≡ log_after r.log entries
 
+-- the command of which a mail tells that it was chosen
+abbrev pub taught_by : MailBody → Option Command
+taught_by (Learn group slot command) = Some command
+taught_by (Request group client seq op) = None
+taught_by (Answer group seq answer) = None
+taught_by (Prepare group ballot from_slot) = None
+taught_by (Promise group ballot reports) = None
+taught_by (Accept group ballot slot value) = None
+taught_by (Accepted group ballot slot) = None
+taught_by (Nack group promised) = None
+taught_by (Ask group from_slot) = None
+taught_by (Install group slot base sets) = None
+taught_by (TxPrepare tx offer) = None
+taught_by (TxVote tx coord part vote) = None
+taught_by (TxOutcome tx part outcome) = None
+taught_by (TxElsewhere tx coord hint) = None
+taught_by (TxWatch tx watch) = None
+taught_by (TxWatched tx coord part vote) = None
+taught_by (Told order result) = None
+
+-- .. that an input brings
+abbrev pub taught : Input Mail OrderLine → Option Command
+taught (Got mail) = taught_by mail.body
+taught Tick = None
+taught Go = None
+taught (Tells line) = None
+
+-- a step executes the command that its input teaches, and then others that it has counted; or nothing
+abbrev pub LearnsFirst : Input Mail OrderLine → List Command → List Command → Type 0
+LearnsFirst input learnt counted = (learnt ≡ listed (taught input)) ⊎ ((learnt ≡ []) × (counted ≡ []))
+
 -- the input brings a state to be taken over, after which no entry is executed
 abbrev pub IsTakenOver : Input Mail OrderLine → Type 0
 IsTakenOver input = (mail : Mail) × (input ≡ Got mail) × ((group : Draw) × (slot : ℕ) × (base : Base) × (sets : List (List ℕ)) × (mail.body ≡ Install group slot base sets))
@@ -118,6 +152,14 @@ pub record IsRefusedAtEntry (group : Group) (entries : List Command) (client seq
   pub are : entries ≡ front ++ Call client seq op ∷ rest
   pub refuses : RefusesCall (state_after group front) client seq op answer
 
+-- .. if it is no reply
+abbrev pub HasCauseAtEntry : Group → List Command → ℕ → ℕ → Op → AnswerBody → Type 0
+HasCauseAtEntry group entries client seq op (Value reply) = Unit {0}
+HasCauseAtEntry group entries client seq op (NotLeader hint) = ⊥
+HasCauseAtEntry group entries client seq op (NotMine arc succ) = IsRefusedAtEntry group entries client seq op (NotMine arc succ)
+HasCauseAtEntry group entries client seq op (Gone into) = IsRefusedAtEntry group entries client seq op (Gone into)
+HasCauseAtEntry group entries client seq op (Stale last) = IsRefusedAtEntry group entries client seq op (Stale last)
+
 -- a replica that ran was stopped by the state that it took over: no call waits there any more, and it was elected anew, in a round above all that it had seen
 pub record WasStopped (r : ReplicaState) (input : Input Mail OrderLine) (after : ReplicaState) : Type 0 where
   pub ran : r.running ≡ true
@@ -129,22 +171,22 @@ pub record WasStopped (r : ReplicaState) (input : Input Mail OrderLine) (after :
 abbrev pub LeadsNoMore : ReplicaState → Input Mail OrderLine → ReplicaState → Type 0
 LeadsNoMore r input after = (after.running ≡ false) ⊎ WasStopped r input after
 
--- the cause of an answer to a call: one that is no reply is by the state that is executed when it is made, that which the call's own entry met or, of a call that was not executed, that which the step leaves
-abbrev pub HasCause : ReplicaState → Input Mail OrderLine → ReplicaState → List Command → ℕ → ℕ → Op → AnswerBody → Type 0
-HasCause r input after entries client seq op (Value reply) = Unit {0}
-HasCause r input after entries client seq op (NotLeader hint) = LeadsNoMore r input after
-HasCause r input after entries client seq op (NotMine arc succ) = IsRefusedAtEntry r.group entries client seq op (NotMine arc succ) ⊎ LacksKey after.group op (NotMine arc succ)
-HasCause r input after entries client seq op (Gone into) = IsRefusedAtEntry r.group entries client seq op (Gone into) ⊎ LacksKey after.group op (Gone into)
-HasCause r input after entries client seq op (Stale last) = IsRefusedAtEntry r.group entries client seq op (Stale last)
+-- the cause of an answer to a call that was not executed, which is no reply: the state that is executed when it is made, which is the one that the step leaves; or the replica leads no more
+abbrev pub HasCauseAfter : ReplicaState → Input Mail OrderLine → ReplicaState → Op → AnswerBody → Type 0
+HasCauseAfter r input after op (Value reply) = ⊥
+HasCauseAfter r input after op (NotLeader hint) = LeadsNoMore r input after
+HasCauseAfter r input after op (NotMine arc succ) = LacksKey after.group op (NotMine arc succ)
+HasCauseAfter r input after op (Gone into) = LacksKey after.group op (Gone into)
+HasCauseAfter r input after op (Stale last) = ⊥
 
--- an answer is of the replica's own group, to a call that was asked, at its client, and has its cause
-pub record AnswersCall (r : ReplicaState) (input : Input Mail OrderLine) (after : ReplicaState) (entries : List Command) (to : ℕ) (group : Draw) (seq : ℕ) (answer : AnswerBody) : Type 0 where
+-- an answer is of the replica's own group, to a call that was asked, at its client, and has a cause
+pub record AnswersCall (r : ReplicaState) (input : Input Mail OrderLine) (HasCause : ℕ → ℕ → Op → AnswerBody → Type 0) (to : ℕ) (group : Draw) (seq : ℕ) (answer : AnswerBody) : Type 0 where
   pub own : group ≡ name_of r
   pub client : ℕ
   pub op : Op
   pub receiver : to ≡ client_actor client
   pub was_asked : IsHeldOrBrought r input (Call client seq op)
-  pub cause : HasCause r input after entries client seq op answer
+  pub cause : HasCause client seq op answer
 
 -- a fact of the answer that a mail brings, if it brings one
 abbrev pub IfAnswer : (Draw → ℕ → AnswerBody → Type 0) → MailBody → Type 0
@@ -166,9 +208,60 @@ IfAnswer Fact (TxWatch tx watch) = Unit {0}
 IfAnswer Fact (TxWatched tx coord part vote) = Unit {0}
 IfAnswer Fact (Told order result) = Unit {0}
 
+-- each answer among mails is so
+abbrev pub AnswerCalls : ReplicaState → Input Mail OrderLine → (ℕ → ℕ → Op → AnswerBody → Type 0) → List Mail → Type 0
+AnswerCalls r input HasCause mails = Each (λ (mail : Mail). IfAnswer (λ group seq answer. AnswersCall r input HasCause mail.to group seq answer) mail.body) mails
+
+-- ---- the answers to executed calls
+
+-- whether a mail is an answer
+abbrev pub is_answer : MailBody → Bool
+is_answer (Answer group seq answer) = true
+is_answer (Request group client seq op) = false
+is_answer (Prepare group ballot from_slot) = false
+is_answer (Promise group ballot reports) = false
+is_answer (Accept group ballot slot value) = false
+is_answer (Accepted group ballot slot) = false
+is_answer (Nack group promised) = false
+is_answer (Learn group slot command) = false
+is_answer (Ask group from_slot) = false
+is_answer (Install group slot base sets) = false
+is_answer (TxPrepare tx offer) = false
+is_answer (TxVote tx coord part vote) = false
+is_answer (TxOutcome tx part outcome) = false
+is_answer (TxElsewhere tx coord hint) = false
+is_answer (TxWatch tx watch) = false
+is_answer (TxWatched tx coord part vote) = false
+is_answer (Told order result) = false
+
+-- the answers among mails, in their order
+abbrev pub answers_in : List Mail → List Mail
+answers_in mails = filter (λ (mail : Mail). is_answer mail.body) mails
+
+-- what an entry is answered by its effect, if it is a call and does not go back
+abbrev pub effect_answers : ℕ → Draw → Option AnswerBody → Command → List Mail
+effect_answers me name None command = []
+effect_answers me name (Some answer) command = answered me name answer command []
+
+-- what these entries are answered, one after another, each by its effect on the state that it meets
+abbrev pub entry_answers : ℕ → Draw → Group → List Command → List Mail
+entry_answers me name group [] = []
+entry_answers me name group (command ∷ commands) = effect_answers me name (answer_of (applied group command).1) command ++ entry_answers me name (applied group command).0 commands
+
+-- the answers of a step, in their order: one for each call that it executed as counted, and then those to calls that it did not execute
+pub record AnswersInTurn (r : ReplicaState) (input : Input Mail OrderLine) (after : ReplicaState) (group : Group) (counted : List Command) (mails : List Mail) : Type 0 where
+  pub others : List Mail
+  pub are : answers_in mails ≡ entry_answers r.me (name_of r) group counted ++ others
+  pub at_entries : AnswerCalls r input (HasCauseAtEntry group counted) (entry_answers r.me (name_of r) group counted)
+  pub afterwards : AnswerCalls r input (λ client seq op answer. HasCauseAfter r input after op answer) others
+
 -- ---- when a coordinator gives up
 
--- a settled coordinator gives up at a tick, after so many ticks before it
+-- how many ends of waiting of a transaction are queued
+abbrev pub ends_queued : Draw → List Command → ℕ
+ends_queued tx acts = length (filter (is_giving_up tx) acts)
+
+-- a settled coordinator gives up at a tick, after so many ticks before it, where no end of this waiting is queued, in flight or ready
 pub record IsImpatient (ticks : ℕ) (r : ReplicaState) (input : Input Mail OrderLine) (tx : Draw) : Type 0 where
   pub tick : input ≡ Tick
   pub leads : settled r ≡ true
@@ -177,6 +270,7 @@ pub record IsImpatient (ticks : ℕ) (r : ReplicaState) (input : Input Mail Orde
   pub heard : Option Heard
   pub locked : r.group.core.lock ≡ Coordinating tx body order heard
   pub long : patience ≤ ticks + 1
+  pub none : has_act (GiveUp tx) r ≡ false
 
 -- a command goes back from a flight: another was learnt at its slot, the next one
 pub record LostItsSlot (r : ReplicaState) (input : Input Mail OrderLine) (command : Command) : Type 0 where
@@ -190,18 +284,20 @@ pub record LostItsSlot (r : ReplicaState) (input : Input Mail OrderLine) (comman
   pub is_next : slot ≡ next r
   pub other : same_command command learnt ≡ false
 
--- an end of waiting that is queued was queued before, or is put there anew, after so many ticks, or goes back from a flight
-abbrev pub MayGiveUp : ℕ → ReplicaState → Input Mail OrderLine → Draw → Type 0
-MayGiveUp ticks r input tx = Among (GiveUp tx) r.acts ⊎ IsImpatient ticks r input tx ⊎ LostItsSlot r input (GiveUp tx)
+-- so many ends of waiting may be queued: no more than before, or one more, which is put there anew, after so many ticks, or goes back from a flight
+abbrev pub MayGiveUp : ℕ → ReplicaState → Input Mail OrderLine → Draw → ℕ → Type 0
+MayGiveUp ticks r input tx count = (count ≤ ends_queued tx r.acts) ⊎ ((count ≤ ends_queued tx r.acts + 1) × (IsImpatient ticks r input tx ⊎ LostItsSlot r input (GiveUp tx)))
 
 -- ---- the laws
 
--- a step of a replica executes some entries, unless it takes a state over; each of its answers is to a call that was asked, with its cause, and each end of waiting that is queued after it has its own
+-- a step of a replica executes what it is taught and what it has counted, unless it takes a state over; each of its answers is to a call that was asked, with its cause, and of each transaction no more ends of waiting are queued after it than may be
 pub record StepHasCauses (r : ReplicaState) (input : Input Mail OrderLine) (step : Place) : Type 0 where
-  pub entries : List Command
-  pub executed : HasExecuted r step.0 entries ⊎ ((entries ≡ []) × IsTakenOver input)
-  pub answers : Each (λ (mail : Mail). IfAnswer (λ group seq answer. AnswersCall r input step.0 entries mail.to group seq answer) mail.body) step.1
-  pub acts : (tx : Draw) → Among (GiveUp tx) step.0.acts → MayGiveUp r.waits r input tx
+  pub learnt : List Command
+  pub counted : List Command
+  pub learns : LearnsFirst input learnt counted
+  pub executed : HasExecuted r step.0 (learnt ++ counted) ⊎ ((learnt ≡ []) × (counted ≡ []) × IsTakenOver input)
+  pub answers : AnswersInTurn r input step.0 (state_after r.group learnt) counted step.1
+  pub acts : (tx : Draw) → MayGiveUp r.waits r input tx (ends_queued tx step.0.acts)
 
 -- the input of a node that is this one of its replicas
 abbrev pub at_node : ReplicaInput → Input Mail OrderLine

@@ -7,7 +7,7 @@ use Rattle.sc_actor.specs.declared.rows.Input.TheVariants.{Go}
 use Rattle.sc_cmd.specs.declared.orders.OrderLine.{OrderLine}
 use Rattle.sc_mail.specs.declared.bodies.Mail.{Mail}
 use Rattle.sc_client_table.specs.Client.{Client}
-use Rattle.sc_client_table.specs.Turns.{SendsWaiting, IsReplyTo, Waits}
+use Rattle.sc_client_table.specs.Turns.{InTurn, IsReplyTo, Waits}
 
 -- a number, where there is a request with it
 abbrev pub number_in : List Op → ℕ → Option ℕ
@@ -30,10 +30,8 @@ pub record GoesOn (before after : Client) (input : Input Mail OrderLine) : Type 
   pub number : after.waiting ≡ number_in after.requests (seq + 1)
   pub replies : after.replies ≡ before.replies ++ reply ∷ []
 
--- what an input makes of a client and of its mail: it sends nothing or the waiting request, whose number is the next after its replies; while one waits nothing else is begun
+-- what an input makes of a client and of its mail, in a lawful journal: what it makes of every client; and the waiting request has the next number after the replies, and while one waits nothing else is begun
 pub record KeepsTurn (before after : Client) (input : Input Mail OrderLine) (mails : List Mail) : Type 0 where
-  pub me : after.me ≡ before.me
-  pub requests : after.requests ≡ before.requests
-  pub sends : SendsWaiting after mails
+  pub turn : InTurn before after input mails
   pub rises : (seq : ℕ) → after.waiting ≡ Some seq → seq ≡ length after.replies + 1
   pub moves : Waits before after ⊎ Starts before after input ⊎ GoesOn before after input

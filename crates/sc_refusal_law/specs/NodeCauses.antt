@@ -1,5 +1,5 @@
 -- A node's whole step: each answer that it sends has its cause at one of its replicas, and so has each end of waiting that is queued after it.
-use Rattle.std.specs.Prelude.{◌≡◌, ℕ, ◌≤◌, None, Some, List, ◌⊎◌}
+use Rattle.std.specs.Prelude.{◌≡◌, ℕ, ◌≤◌, Option, None, Some, List, [], ◌∷◌, ◌++◌, ◌⊎◌}
 use Rattle.sc_base.specs.Among.{Among, Each}
 use Rattle.sc_base.specs.Limits.{client_actor}
 use Rattle.sc_base.specs.declared.names.Draw.{Draw}
@@ -13,16 +13,20 @@ use Rattle.sc_mail.specs.declared.bodies.AnswerBody.TheVariants.{NotLeader}
 use Rattle.sc_mail.specs.declared.bodies.Mail.{Mail}
 use Rattle.sc_mail.specs.declared.bodies.MailBody.TheVariants.{Request}
 use Rattle.sc_node_table.specs.Node.{NodeState, group_of_mail, group_of_order, replica_of, node_table}
-use Rattle.sc_node_table.specs.Replica.{ReplicaState, name_of}
-use Rattle.sc_refusal_law.specs.Causes.{IfAnswer, MayGiveUp, StepHasCauses}
+use Rattle.sc_node_table.specs.Replica.{ReplicaState, name_of, listed}
+use Rattle.sc_refusal_law.specs.Causes.{IfAnswer, MayGiveUp, StepHasCauses, ends_queued}
 
--- a replica of a node takes an input: it is that of the group that a mail or an order is for, and each takes a tick
-abbrev pub TakesInput : NodeState → Input Mail OrderLine → ReplicaState → Type 0
-TakesInput node (Got mail) r =
-    (group : Draw) × (group_of_mail mail.body ≡ Some group) × (replica_of group node.replicas ≡ Some r)
-TakesInput node (Told line) r = replica_of (group_of_order line.order) node.replicas ≡ Some r
-TakesInput node Tick r = Among r node.replicas
-TakesInput node Go r = ⊥
+-- the replica of a group that an input is for, if it is for one and there is a replica
+abbrev pub replica_for : Option Draw → List ReplicaState → List ReplicaState
+replica_for None replicas = []
+replica_for (Some group) replicas = listed (replica_of group replicas)
+
+-- the replicas of a node that take an input, in their order: that of the group that a mail or an order is for, and at a tick all
+abbrev pub takers : NodeState → Input Mail OrderLine → List ReplicaState
+takers node (Got mail) = replica_for (group_of_mail mail.body) node.replicas
+takers node (Told line) = replica_for (Some (group_of_order line.order)) node.replicas
+takers node Tick = node.replicas
+takers node Go = []
 
 -- a replica of a node before a step, and that of the same group after it
 pub record Became (node after : NodeState) (replica later : ReplicaState) : Type 0 where
@@ -30,15 +34,11 @@ pub record Became (node after : NodeState) (replica later : ReplicaState) : Type
   pub stands : Among later after.replicas
   pub same : name_of later ≡ name_of replica
 
--- a mail of a node is of a replica that takes the input, each answer of which has its cause
-pub record IsOfReplica (node after : NodeState) (input : Input Mail OrderLine) (mail : Mail) : Type 0 where
-  pub replica : ReplicaState
+-- a part of a node's mails is what a replica sends in its step, each answer of which has its cause
+pub record IsSentBy (node after : NodeState) (input : Input Mail OrderLine) (replica : ReplicaState) (part : List Mail) : Type 0 where
   pub later : ReplicaState
   pub became : Became node after replica later
-  pub takes : TakesInput node input replica
-  pub mails : List Mail
-  pub sends : Among mail mails
-  pub causes : StepHasCauses replica input (later, mails)
+  pub causes : StepHasCauses replica input (later, part)
 
 -- an answer is to the request that came for a group of which the node has no replica: at its client, in the group's name, it says that the node does not lead, and names no other
 pub record TurnsAway (node : NodeState) (input : Input Mail OrderLine) (to : ℕ) (group : Draw) (seq : ℕ) (answer : AnswerBody) : Type 0 where
@@ -51,23 +51,23 @@ pub record TurnsAway (node : NodeState) (input : Input Mail OrderLine) (to : ℕ
   pub receiver : to ≡ client_actor client
   pub says : answer ≡ NotLeader None
 
--- each mail of a node is of a replica so; or, if it is an answer, turns a request away
-abbrev pub MailHasCause : NodeState → NodeState → Input Mail OrderLine → Mail → Type 0
-MailHasCause node after input mail =
-    IsOfReplica node after input mail
-    ⊎ IfAnswer (λ group seq answer. TurnsAway node input mail.to group seq answer) mail.body
+-- the mails are what these replicas send, one behind another; and where there is none, each answer turns a request away
+abbrev pub AreSentBy : NodeState → NodeState → Input Mail OrderLine → List ReplicaState → List Mail → Type 0
+AreSentBy node after input [] mails = Each (λ (mail : Mail). IfAnswer (λ group seq answer. TurnsAway node input mail.to group seq answer) mail.body) mails
+AreSentBy node after input (replica ∷ replicas) mails =
+    (part : List Mail) × (rest : List Mail) × (mails ≡ part ++ rest) × IsSentBy node after input replica part × AreSentBy node after input replicas rest
 
--- a replica may give up after a node's step: that of its group may have before it, or may now if it took the input, after so many ticks
+-- a replica may have ends of waiting queued after a node's step: no more than that of its group had before it, or as many as it may if it took the input, after so many ticks
 pub record MayGiveUpAt (ticks : ReplicaState → Draw → ℕ) (node after : NodeState) (input : Input Mail OrderLine) (later : ReplicaState) (tx : Draw) : Type 0 where
   pub replica : ReplicaState
   pub became : Became node after replica later
   pub may :
-      Among (GiveUp tx) replica.acts
-      ⊎ (TakesInput node input replica × MayGiveUp (ticks replica tx) replica input tx)
+      (ends_queued tx later.acts ≤ ends_queued tx replica.acts)
+      ⊎ (Among replica (takers node input) × MayGiveUp (ticks replica tx) replica input tx (ends_queued tx later.acts))
 
--- the answers of a node's step have causes
+-- the answers of a node's step have causes: its mails are what the replicas send that take the input
 abbrev pub AnswersHaveCauses : NodeState → Input Mail OrderLine → NodeState → List Mail → Type 0
-AnswersHaveCauses node input after mails = Each (λ (mail : Mail). MailHasCause node after input mail) mails
+AnswersHaveCauses node input after mails = AreSentBy node after input (takers node input) mails
 
 -- so has each end of waiting that its replicas have queued after it
 abbrev pub ActsHaveCauses : (ReplicaState → Draw → ℕ) → NodeState → Input Mail OrderLine → NodeState → Type 0

@@ -10,25 +10,28 @@ ghost use Rattle.sc_refusal_law.specs.NodeCauses.{NodesHaveCauses};
 
 use sc_queue_law::queues_keep_one_call;
 
-/// A step of a replica executes some entries, or takes a state over. Each answer that it sends is
-/// of its own group, at its client, to a call that was asked: one that the replica held, or that
-/// its input brings. NotMine comes where the arc lacks the key, and no transaction keeps calls
-/// waiting; Gone where the group is gone; Stale where its table holds a greater number of the
-/// client, which is carried: of a call that was executed in the state that its own entry met, of
-/// another in the state that the step leaves. NotLeader comes where the replica does not run after
-/// the step, or was stopped by a state that it took over and elected anew. An end of waiting that
-/// is queued was queued before, or is put there at a tick of a settled coordinator that has counted
-/// its ticks, or goes back from a flight whose slot another command took.
+/// A step of a replica executes what its input teaches and what it has counted, or takes a state
+/// over. Its answers are, in their order, one to each call that it executed as counted, by its
+/// effect on the state that it met, and none where it goes back; and then those to calls that it
+/// did not execute. Each is of its own group, at its client, to a call that was asked: one that the
+/// replica held, or that its input brings. Of a call that was executed, NotMine comes where the arc
+/// lacks the key in the state that it met, and no transaction keeps calls waiting; Gone where the
+/// group is gone; Stale where its table holds a greater number of the client, which is carried. Of
+/// another call NotMine and Gone come so of the state that the step leaves, and NotLeader where the
+/// replica does not run after the step, or was stopped by a state that it took over and elected
+/// anew. After a step no more ends of waiting of a transaction are queued than before, or one more:
+/// it is put there at a tick of a settled coordinator that has counted its ticks, where none was
+/// queued, in flight or ready, or it goes back from a flight whose slot another command took.
 pub fn refusals_have_causes()
     ensures { StepsHaveCauses }
 {}
 
 /// So it is of a whole step of a node, whether it takes a mail, ticks with all its replicas, with a
-/// policy or without, or takes an order. Each mail that it sends is of a replica that takes the
-/// input, each answer of which has its cause; or the node has no replica of the group that a
-/// request is for, and answers this at its client, in the group's name, that it does not lead, and
-/// names no other. Each end of waiting that a replica has queued after the step has its cause at
-/// the replica of that group before it.
+/// policy or without, or takes an order. Its mails are what the replicas that take the input send
+/// in their steps, one behind another; or the node has no replica of the group that a request is
+/// for, and answers this at its client, in the group's name, that it does not lead, and names no
+/// other. The ends of waiting that a replica has queued after the step have their cause at the
+/// replica of that group before it.
 pub fn nodes_have_causes()
     ensures { NodesHaveCauses }
 {}
