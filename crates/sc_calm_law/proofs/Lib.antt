@@ -9,4 +9,5 @@ pub mod OwedOrders
 pub mod OwedPump
 pub mod OwedRows
 pub mod OwedSums
+pub mod OwedVotes
 pub mod QuietBirth

@@ -3,7 +3,7 @@
 //! laws, no logic.
 #![tactic(auto)]
 
-ghost use Rattle.sc_calm_law.specs.Laws.{AnswersLower, AsksLower, ChangesRaiseNothing, CountedEntriesRaiseNothing, LeadersMayLeave, LearnsLower, LearntEntriesRaiseNothing, MovesLower, OrdersRaiseLittle, PumpsRaiseNothing, VotesLower};
+ghost use Rattle.sc_calm_law.specs.Laws.{AnswersLower, AsksLower, ChangesRaiseNothing, CountedEntriesRaiseNothing, CountsLower, LeadersMayLeave, LearnsLower, LearntEntriesRaiseNothing, MovesLower, OrdersRaiseLittle, PumpsRaiseNothing, VotesLower};
 ghost use Rattle.sc_calm_law.specs.Quiet.{FirstMembersLead, ReplicasBeginAtRest};
 
 /// What a leader offers was owed: a pump raises nothing, where no report names an open slot and at
@@ -78,4 +78,10 @@ pub fn leaders_may_leave()
 /// that sends a coordinator to another node, lower what is owed.
 pub fn moves_lower()
     ensures { MovesLower }
+{}
+
+/// A vote that a leader counts lowers what is owed: where it decides, its command goes from flight
+/// to what is ready, and nothing rises by what is executed then.
+pub fn counts_lower()
+    ensures { CountsLower }
 {}
