@@ -1,7 +1,9 @@
 pub mod OwedAsks
 pub mod OwedChanges
 pub mod OwedCounted
+pub mod OwedExecuting
 pub mod OwedInstalls
+pub mod OwedKept
 pub mod OwedLearn
 pub mod OwedLearnt
 pub mod OwedMailed

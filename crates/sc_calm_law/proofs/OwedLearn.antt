@@ -24,7 +24,7 @@ use Rattle.sc_calm_law.proofs.OwedPump.{pump_owes}
 use Rattle.sc_calm_law.proofs.OwedLearnt.{learnt_ends, learnt_owes}
 
 -- one that does not run, or was just elected
-abbrev IsFresh : Place → Type 0
+abbrev pub IsFresh : Place → Type 0
 IsFresh place = (place.0.running ≡ false) ⊎ ((place.0.ready ≡ []) × (place.0.leader.reports ≡ []) × AreNines place.0.sets)
 
 elected_fresh : (r : ReplicaState) (mails : List Mail) → r.running ≡ false → AreNines r.sets → IsFresh (elected (r, mails))
@@ -41,7 +41,7 @@ elected_fresh r mails stopped few = by (eqb r.top.round (2 ^ 32 - 1))
     by true = inl stopped
     by false = inr (refl, refl, few)
 
-looked_fresh : (r : ReplicaState) (mails : List Mail) → r.running ≡ false → AreNines r.sets → IsFresh (looked (r, mails))
+pub looked_fresh : (r : ReplicaState) (mails : List Mail) → r.running ≡ false → AreNines r.sets → IsFresh (looked (r, mails))
 unfolding looked
 looked_fresh r mails stopped few = by r.running stopped r.group.core.gone
   where
@@ -67,7 +67,7 @@ idle_ready (e ∷ es) place stopped =
     ap (λ (o : Option Command). elim o [ None ↦ childless place | Some command ↦ ending (next_child command place.0) (executed_ready es (executed_one true command place)) ])
     (ap (λ b. cond (b && has_room place.0) (at_slot place.0.ready (next place.0)) None) stopped)
 
-idle_pump : (place : Place) → place.0.running ≡ false → pumped place ≡ place
+pub idle_pump : (place : Place) → place.0.running ≡ false → pumped place ≡ place
 unfolding pumped
 idle_pump place stopped = ap (λ b. cond b (pumped_from (next place.0) place.0.sets place) place) (all_false place.0.running stopped)
   where

@@ -1,3 +1,4 @@
+pub mod Executing
 pub mod Laws
 pub mod Owed
 pub mod Quiet

@@ -3,6 +3,7 @@
 //! laws, no logic.
 #![tactic(auto)]
 
+ghost use Rattle.sc_calm_law.specs.Executing.{ExecutionsRaiseNothing, LoneEntriesArePaid};
 ghost use Rattle.sc_calm_law.specs.Laws.{AnswersLower, AsksLower, ChangesRaiseNothing, CountedEntriesRaiseNothing, CountsLower, LeadersMayLeave, LearnsLower, LearntEntriesRaiseNothing, MovesLower, OrdersRaiseLittle, PumpsRaiseNothing, VotesLower};
 ghost use Rattle.sc_calm_law.specs.Quiet.{FirstMembersLead, ReplicasBeginAtRest};
 
@@ -84,4 +85,15 @@ pub fn moves_lower()
 /// to what is ready, and nothing rises by what is executed then.
 pub fn counts_lower()
     ensures { CountsLower }
+{}
+
+/// All that a leader executes at once, and the pump after each, raises nothing, where each entry is
+/// paid for as it comes.
+pub fn executions_raise_nothing()
+    ensures { ExecutionsRaiseNothing }
+{}
+
+/// A paid entry behind which nothing is ready leaves a replica that may pump.
+pub fn lone_entries_are_paid()
+    ensures { LoneEntriesArePaid }
 {}
