@@ -1,7 +1,10 @@
 pub mod OwedAsks
+pub mod OwedCalls
 pub mod OwedChanges
 pub mod OwedCounted
+pub mod OwedEnds
 pub mod OwedExecuting
+pub mod OwedIdle
 pub mod OwedInstalls
 pub mod OwedKept
 pub mod OwedLearn
@@ -11,5 +14,6 @@ pub mod OwedOrders
 pub mod OwedPump
 pub mod OwedRows
 pub mod OwedSums
+pub mod OwedTransactions
 pub mod OwedVotes
 pub mod QuietBirth

@@ -46,7 +46,7 @@ same_new before (x ∷ xs) all =
     ap (λ m. cond (not m) (x ∷ filter (λ node. not (is_member before node)) xs) (filter (λ node. not (is_member before node)) xs)) (all x (inl refl)) ∙ same_new before xs (λ y a. all y (inr a))
 
 -- one at most is
-one_new : (before : List ℕ) (node : ℕ) → length (filter (λ n. not (is_member before n)) (with_member before node)) ≤ 1
+pub one_new : (before : List ℕ) (node : ℕ) → length (filter (λ n. not (is_member before n)) (with_member before node)) ≤ 1
 one_new before node =
     let low = filter (λ member. ltb member node) before in
     let high = filter (λ member. ltb node member) before in
@@ -65,11 +65,11 @@ one_new before node =
 
 -- ---- the members after an entry
 
-entered_members : (command : Command) (r : ReplicaState) → members (entered command r) ≡ (applied r.group command).0.core.members
+pub entered_members : (command : Command) (r : ReplicaState) → members (entered command r) ≡ (applied r.group command).0.core.members
 unfolding entered forgotten
 entered_members command r = refl
 
-ordered_members : (P : List ℕ → Type 0) (gone : Option Route) (why : Option OrderRefusal) (after group : Group) → P after.core.members → P group.core.members → P (ordered gone why after group).0.core.members
+pub ordered_members : (P : List ℕ → Type 0) (gone : Option Route) (why : Option OrderRefusal) (after group : Group) → P after.core.members → P group.core.members → P (ordered gone why after group).0.core.members
 ordered_members P (Some into) why after group a g = g
 ordered_members P None (Some why) after group a g = g
 ordered_members P None None after group a g = a

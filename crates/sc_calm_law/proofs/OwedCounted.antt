@@ -223,7 +223,7 @@ module _ (ways : Ways) where
 
   -- ---- a leader that is no member any more stops, and its group is to elect another
 
-  taken_none : (r : ReplicaState) (slots : List ℕ) → r.leader.flights ≡ [] → r.ready ≡ [] → taken_from r slots ≡ []
+  pub taken_none : (r : ReplicaState) (slots : List ℕ) → r.leader.flights ≡ [] → r.ready ≡ [] → taken_from r slots ≡ []
   taken_none r [] f e = refl
   taken_none r (slot ∷ slots) f e =
       let none : taken_at r slot ≡ None = ap (λ (fs : List (Flight Command)). either (option_map (λ (flight : Flight Command). flight.value) (flight_at slot fs)) (at_slot r.ready slot)) f ∙ ap (λ (es : List (ℕ × Command)). at_slot es slot) e in

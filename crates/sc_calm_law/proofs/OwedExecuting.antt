@@ -1,45 +1,106 @@
 -- Entries that a leader executes one after another raise nothing, where each is paid for.
-use Rattle.std.proofs.Common.{◌≡◌, ℕ, ◌+◌, ◌≤◌, ◌&&◌, Bool, true, false, true≢false, cond, List, [], ◌∷◌, length, sum_by, Option, Some, None, ◌⊎◌, inl, inr, refl, sym, ◌∙◌, ap, subst, arith}
+use Rattle.std.proofs.Common.{◌≡◌, ℕ, ◌+◌, ◌*◌, ◌≤◌, Bool, true, false, List, [], ◌∷◌, length, sum_by, Option, Some, None, ◌⊎◌, inl, inr, refl, sym, ◌∙◌, ap, subst, arith}
+use Rattle.sc_base.specs.declared.names.Draw.{Draw}
 use Rattle.sc_cmd.specs.declared.commands.Command.{Command}
 use Rattle.sc_cmd.specs.declared.commands.Command.TheVariants.{Noop, Call, Join, Leave, Split, Begin, Prepared, RecordVote, GiveUp, Finish, Watched, RecordWatch}
+use Rattle.sc_cmd.specs.declared.votes.Past.{Past}
+use Rattle.sc_cmd.specs.declared.votes.Past.TheVariants as Cast
+use Rattle.sc_cmd.specs.declared.votes.Vote.{Vote}
+use Rattle.sc_cmd.specs.Effects.{is_changed}
 use Rattle.sc_mail.specs.declared.bodies.Mail.{Mail}
 use Rattle.sc_member.specs.Roster.{is_member, least_of}
 use Rattle.sc_machine_table.specs.Group.{Group}
+use Rattle.sc_machine_table.specs.Machine.{applied}
 use Rattle.sc_paxos_words.specs.declared.answers.Must.TheVariants.{Free as Open}
 use Rattle.sc_paxos_words.specs.declared.reports.Report.{Report}
 use Rattle.sc_paxos_words.specs.Leaders.{LeaderState, must}
 use Rattle.sc_paxos_words.specs.Logs.{LogState, next_of}
 use Rattle.sc_node_table.specs.Election.{ended, stopped}
-use Rattle.sc_node_table.specs.Execute.{entered, looked, executed_one, next_child, has_room, next_ready, ending, executed_ready, executed}
+use Rattle.sc_node_table.specs.Execute.{entered, looked, executed_one, next_child, next_ready, ending, executed_ready, executed}
 use Rattle.sc_node_table.specs.Pump.{pumped}
 use Rattle.sc_node_table.specs.Replica.{ReplicaState, Place, Executed, childless, next, members}
-use Rattle.sc_node_table.specs.Slots.{at_slot, without_slot}
-use Rattle.sc_calm_law.specs.Executing.{IsPaid, MayGoOn, IfThere, ArePaid, AllPaid}
-use Rattle.sc_calm_law.specs.Laws.{said_place, AreNines, MayPump, IsChange, LeadsOn, StopsAfter, ExecutesFreely}
-use Rattle.sc_calm_law.specs.Owed.{Ways, mail_owes, place_owes}
+use Rattle.sc_node_table.specs.Slots.{without_slot}
+use Rattle.sc_calm_law.specs.Executing.{AreBounded, EndsAfter, LeavesFew, IsWatchPaid, IsPaid, MayGoOn, IfThere, ArePaid, AllPaid}
+use Rattle.sc_calm_law.specs.Laws.{said_place, newcomers, AreNines, MayPump, IsChange, LeadsOn, StopsAfter, ExecutesFreely}
+use Rattle.sc_calm_law.specs.Owed.{Ways, election, offered_owes, mail_owes, place_owes}
 use Rattle.sc_calm_law.proofs.OwedPump.{pump_owes}
 use Rattle.sc_calm_law.proofs.OwedLearn.{IsFresh, looked_fresh, idle_pump}
-use Rattle.sc_calm_law.proofs.OwedCounted.{Counts, counted_ends, left_same, looked_same, left_stops, stops_idle}
+use Rattle.sc_calm_law.proofs.OwedCounted.{Counts, counted_ends, counted_owes, leaving_owes, left_same, looked_same, left_stops, stops_idle}
 use Rattle.sc_calm_law.proofs.OwedChanges.{silent_said, changes_owe, leader_leaves}
+use Rattle.sc_calm_law.proofs.OwedCalls.{call_leads, call_said, call_owes}
+use Rattle.sc_calm_law.proofs.OwedTransactions.{SaysMost, few_added, begin_new, split_new, prepared_new, watched_new, finish_new, begin_said, split_said, split_alone_said, prepared_said, watched_said, finish_said, vote_said, vote_quiet_said, vote_new, watch_said, watch_first_said}
+use Rattle.sc_calm_law.proofs.OwedIdle.{idle_paid}
+use Rattle.sc_calm_law.proofs.OwedEnds.{ending_owes, ends_paid}
 use Rattle.sc_calm_law.proofs.OwedKept.{pumped_goes_on, entered_next, entered_nines}
 
 module _ (ways : Ways) where
   -- ---- one entry
 
-  paid_owes : (command : Command) (place : Place) → IsPaid command place.0 → place_owes ways (executed_one true command place) ≤ place_owes ways place
-  paid_owes Noop place paid = changes_owe ways Noop place tt paid
-  paid_owes (Join node order) place paid = changes_owe ways (Join node order) place tt paid
-  paid_owes (Leave node order) place (inl leads) = changes_owe ways (Leave node order) place tt leads
-  paid_owes (Leave node order) place (inr stops) = leader_leaves ways node order place stops
-  paid_owes (Call client seq op) place paid = absurd paid
-  paid_owes (Split at child order) place paid = absurd paid
-  paid_owes (Begin tx body order) place paid = absurd paid
-  paid_owes (Prepared tx offer) place paid = absurd paid
-  paid_owes (RecordVote tx vote by) place paid = absurd paid
-  paid_owes (GiveUp tx) place paid = absurd paid
-  paid_owes (Finish tx outcome) place paid = absurd paid
-  paid_owes (Watched tx watch) place paid = absurd paid
-  paid_owes (RecordWatch tx vote by) place paid = absurd paid
+  -- one that leads on, with what it says and whom it adds
+  leads_owes : (command : Command) (place : Place) (said : ℕ) → LeadsOn command place.0 → SaysMost ways command place.0 place.1 said → 8 + said + 3 * length (newcomers command place.0) ≤ offered_owes ways.most command
+      → place_owes ways (executed_one true command place) ≤ place_owes ways place
+  leads_owes command place said leads says paid = counted_owes ways command place said leads.counting leads.stands leads.stays says.0 says.1 paid
+
+  stops_owes : (command : Command) (place : Place) (said : ℕ) → StopsAfter command place.0 → SaysMost ways command place.0 place.1 said → 8 + said + 3 * length (newcomers command place.0) + election ≤ offered_owes ways.most command
+      → place_owes ways (executed_one true command place) ≤ place_owes ways place
+  stops_owes command place said stops says paid = leaving_owes ways command place said stops.counting stops.stands stops.leaves stops.flights stops.alone stops.calls says.0 says.1 paid
+
+  watching_owes : (tx : Draw) (vote : Past) (by : ℕ) (place : Place) → IsWatchPaid tx vote by place.0 → place_owes ways (executed_one true (RecordWatch tx vote by) place) ≤ place_owes ways place
+  watching_owes tx Cast.Yes by place (few, inl leads) =
+      let new = few_added (RecordWatch tx Cast.Yes by) place.0 few in
+      leads_owes (RecordWatch tx Cast.Yes by) place 62 leads (watch_said ways tx by place.0 place.1) (omega (arith, new))
+  watching_owes tx Cast.Yes by place (few, inr ends) =
+      let new = ends.1 in
+      stops_owes (RecordWatch tx Cast.Yes by) place 31 ends.2 (watch_first_said ways tx by place.0 place.1 ends.0) (omega (arith, new))
+  watching_owes tx (Cast.No why) by place paid = absurd paid
+  watching_owes tx Cast.Ended by place paid = absurd paid
+
+  -- one that asks adds nobody
+  voting_owes : AreBounded ways → (tx : Draw) (vote : Vote) (by : ℕ) (place : Place) → LeavesFew (RecordVote tx vote by) place.0 → LeadsOn (RecordVote tx vote by) place.0 → place_owes ways (executed_one true (RecordVote tx vote by) place) ≤ place_owes ways place
+  voting_owes bounded tx vote from place few leads = by (is_changed (applied place.0.group (RecordVote tx vote from)).1) refl
+    where
+      by : (b : Bool) → is_changed (applied place.0.group (RecordVote tx vote from)).1 ≡ b → place_owes ways (executed_one true (RecordVote tx vote from) place) ≤ place_owes ways place
+      by true asks =
+          let new = vote_new ways bounded tx vote from place.0 asks in
+          leads_owes (RecordVote tx vote from) place (159 + 2 * ways.most) leads (vote_said ways bounded tx vote from place.0 place.1) (omega (arith, new))
+      by false quiet =
+          let new = few_added (RecordVote tx vote from) place.0 few in
+          leads_owes (RecordVote tx vote from) place 31 leads (vote_quiet_said ways bounded tx vote from place.0 place.1 quiet) (omega (arith, new))
+
+  paid_owes : (command : Command) (place : Place) → AreBounded ways → IsPaid command place.0 → place_owes ways (executed_one true command place) ≤ place_owes ways place
+  paid_owes Noop place bounded paid = changes_owe ways Noop place tt paid
+  paid_owes (Call client seq op) place bounded (counting, served) = call_owes ways client seq op place counting served
+  paid_owes (Join node order) place bounded paid = changes_owe ways (Join node order) place tt paid
+  paid_owes (Leave node order) place bounded (inl leads) = changes_owe ways (Leave node order) place tt leads
+  paid_owes (Leave node order) place bounded (inr stops) = leader_leaves ways node order place stops
+  paid_owes (Split at child order) place bounded (free, inl leads) =
+      let new = split_new at child order place.0 in
+      leads_owes (Split at child order) place (159 + 2 * ways.most) leads (split_said ways bounded at child order place.0 place.1 free) (omega (arith, new))
+  paid_owes (Split at child order) place bounded (free, inr stops) =
+      let new = split_new at child order place.0 in
+      stops_owes (Split at child order) place 0 stops.1 (split_alone_said ways bounded at child order place.0 place.1 free stops.0) (omega (arith, new))
+  paid_owes (Begin tx body order) place bounded paid =
+      let new = begin_new tx body order place.0 in
+      leads_owes (Begin tx body order) place (215 + 4 * ways.most) paid (begin_said ways bounded tx body order place.0 place.1) (omega (arith, new))
+  paid_owes (Prepared tx offer) place bounded paid =
+      let new = prepared_new tx offer place.0 in
+      leads_owes (Prepared tx offer) place (187 + 2 * ways.most) paid (prepared_said ways tx offer place.0 place.1) (omega (arith, new))
+  paid_owes (RecordVote tx vote by) place bounded (few, inl leads) = voting_owes bounded tx vote by place few leads
+  paid_owes (RecordVote tx vote by) place bounded (few, inr stops) =
+      let new = few_added (RecordVote tx vote by) place.0 few in
+      stops_owes (RecordVote tx vote by) place 31 stops.1 (vote_quiet_said ways bounded tx vote by place.0 place.1 stops.0) (omega (arith, new))
+  paid_owes (GiveUp tx) place bounded paid = absurd paid
+  paid_owes (Finish tx outcome) place bounded (inl leads) =
+      let new = finish_new tx outcome place.0 in
+      leads_owes (Finish tx outcome) place 0 leads (finish_said ways tx outcome place.0 place.1) (omega (arith, new))
+  paid_owes (Finish tx outcome) place bounded (inr ends) =
+      let new = finish_new tx outcome place.0 in
+      let says = finish_said ways tx outcome place.0 place.1 in
+      ending_owes ways (Finish tx outcome) place 0 ends says.0 says.1 (omega (arith, new))
+  paid_owes (Watched tx watch) place bounded paid =
+      let new = watched_new tx watch place.0 in
+      leads_owes (Watched tx watch) place 131 paid (watched_said ways tx watch place.0 place.1) (omega (arith, new))
+  paid_owes (RecordWatch tx vote by) place bounded paid = watching_owes tx vote by place paid
 
   -- ---- those that are ready, and the pump after each
 
@@ -54,16 +115,16 @@ module _ (ways : Ways) where
   abbrev Goes : Place → Executed → Type 0
   Goes place step = (place_owes ways step.0 ≤ place_owes ways place) × MayGoOn step.0.0
 
-  all_ready_owe : (es : List (ℕ × Command)) (place : Place) → ArePaid es place → Goes place (executed_ready es place)
+  all_ready_owe : AreBounded ways → (es : List (ℕ × Command)) (place : Place) → ArePaid es place → Goes place (executed_ready es place)
   unfolding executed_ready
-  all_ready_owe [] place may = (omega arith, may)
-  all_ready_owe (e ∷ es) place paid = by (next_ready place.0) paid (λ p q. all_ready_owe es p q)
+  all_ready_owe bounded [] place may = (omega arith, may)
+  all_ready_owe bounded (e ∷ es) place paid = by (next_ready place.0) paid (λ p q. all_ready_owe bounded es p q)
     where
       by : (o : Option Command) → IfThere (λ command. IsPaid command place.0 × ArePaid es (executed_one true command place)) (MayGoOn place.0) o → ((p : Place) → ArePaid es p → Goes p (executed_ready es p)) →
           Goes place (elim o [ None ↦ childless place | Some command ↦ ending (next_child command place.0) (executed_ready es (executed_one true command place)) ])
       by None may more = (omega arith, may)
       by (Some command) both more =
-          let one = paid_owes command place both.0 in
+          let one = paid_owes command place bounded both.0 in
           let rest = more (executed_one true command place) both.1 in
           let low = rest.0 in
           let end = (executed_ready es (executed_one true command place)).0 in
@@ -72,23 +133,17 @@ module _ (ways : Ways) where
 
   -- ---- the whole
 
-  pub execution_owes : (command : Command) (place : Place) → AllPaid command place → ExecutesFreely ways command place
+  pub execution_owes : (command : Command) (place : Place) → AreBounded ways → AllPaid command place → ExecutesFreely ways command place
   unfolding executed
-  execution_owes command place all =
-      let one = paid_owes command place all.0 in
+  execution_owes command place bounded all =
+      let one = paid_owes command place bounded all.0 in
       let next_place = executed_one true command place in
-      let rest = all_ready_owe next_place.0.ready next_place all.1 in
+      let rest = all_ready_owe bounded next_place.0.ready next_place all.1 in
       let low = rest.0 in
       let last = pump_goes (executed_ready next_place.0.ready next_place).0 rest.1 in
       omega (arith, one, low, last)
 
 -- ---- an entry behind which nothing is ready
-
-idle_paid : (es : List (ℕ × Command)) (place : Place) → place.0.running ≡ false → ArePaid es place
-idle_paid [] place off = λ runs. absurd (true≢false (sym runs ∙ off))
-idle_paid (e ∷ es) place off =
-    subst (IfThere (λ command. IsPaid command place.0 × ArePaid es (executed_one true command place)) (MayGoOn place.0)) (sym (ap (λ b. cond (b && has_room place.0) (at_slot place.0.ready (next place.0)) None) off))
-    (λ runs. absurd (true≢false (sym runs ∙ off)))
 
 none_paid : (place : Place) → place.0.ready ≡ [] → MayGoOn place.0 → ArePaid place.0.ready place
 none_paid place none may = subst (λ (es : List (ℕ × Command)). ArePaid es place) (sym none) may
@@ -140,30 +195,60 @@ module _ (ways : Ways) (command : Command) (before : Place) (may : MayPump befor
 -- ---- by the kind of the entry
 
 -- it does not matter how far it is to one that runs
-near : Ways
+pub near : Ways
 near = record { far = λ group node. 0; most = 0; asks = λ tx. None }
 
-change_ready : (command : Command) (place : Place) → IsChange command → LeadsOn command place.0 ⊎ StopsAfter command place.0 → without_slot place.0.ready (next place.0) ≡ [] → MayPump place.0 → length (members (entered command place.0)) ≤ 9
-    → ArePaid (executed_one true command place).0.ready (executed_one true command place)
-change_ready command place is (inl leads) alone may few =
-    let said = silent_said near command place.0 place.1 is in
-    let told = said.1 in
-    leads_paid near command place may few 0 leads alone said.0 (omega (arith, told))
-change_ready command place is (inr stops) alone may few =
-    let said = silent_said near command place.0 place.1 is in
-    let told = said.1 in
-    stops_paid near command place may few 0 stops said.0 (omega (arith, told))
+near_bounded : AreBounded near
+unfolding near
+near_bounded = λ group node. omega arith
 
-pub lone_paid : (command : Command) (place : Place) → IsPaid command place.0 → without_slot place.0.ready (next place.0) ≡ [] → MayPump place.0 → length (members (entered command place.0)) ≤ 9 → AllPaid command place
-lone_paid Noop place paid alone may few = (paid, change_ready Noop place tt (inl paid) alone may few)
-lone_paid (Join node order) place paid alone may few = (paid, change_ready (Join node order) place tt (inl paid) alone may few)
-lone_paid (Leave node order) place paid alone may few = (paid, change_ready (Leave node order) place tt paid alone may few)
-lone_paid (Call client seq op) place paid alone may few = absurd paid
-lone_paid (Split at child order) place paid alone may few = absurd paid
-lone_paid (Begin tx body order) place paid alone may few = absurd paid
-lone_paid (Prepared tx offer) place paid alone may few = absurd paid
-lone_paid (RecordVote tx vote by) place paid alone may few = absurd paid
-lone_paid (GiveUp tx) place paid alone may few = absurd paid
-lone_paid (Finish tx outcome) place paid alone may few = absurd paid
-lone_paid (Watched tx watch) place paid alone may few = absurd paid
-lone_paid (RecordWatch tx vote by) place paid alone may few = absurd paid
+-- what an entry says
+record IsSaid (command : Command) (place : Place) : Type 0 where
+  pub most : ℕ
+  pub says : SaysMost near command place.0 place.1 most
+
+-- .. and whether it leads on after it
+abbrev Follows : Command → Place → Type 0
+Follows command place = IsSaid command place × (LeadsOn command place.0 ⊎ (StopsAfter command place.0 ⊎ EndsAfter command place.0))
+
+change_said : (command : Command) (place : Place) → IsChange command → IsSaid command place
+change_said command place is =
+    let said = silent_said near command place.0 place.1 is in
+    let told = said.1 in
+    record { most = 0; says = (said.0, omega (arith, told)) }
+
+watch_ends : (tx : Draw) (vote : Past) (by : ℕ) (place : Place) → IsWatchPaid tx vote by place.0 → Follows (RecordWatch tx vote by) place
+watch_ends tx Cast.Yes by place (few, inl leads) = (record { most = 62; says = watch_said near tx by place.0 place.1 }, inl leads)
+watch_ends tx Cast.Yes by place (few, inr ends) = (record { most = 62; says = watch_said near tx by place.0 place.1 }, inr (inl ends.2))
+watch_ends tx (Cast.No why) by place paid = absurd paid
+watch_ends tx Cast.Ended by place paid = absurd paid
+
+paid_ends : (command : Command) (place : Place) → IsPaid command place.0 → Follows command place
+paid_ends Noop place paid = (change_said Noop place tt, inl paid)
+paid_ends (Call client seq op) place (counting, served) = (record { most = 1; says = call_said near client seq op place.0 place.1 served }, inl (call_leads client seq op place.0 counting served))
+paid_ends (Join node order) place paid = (change_said (Join node order) place tt, inl paid)
+paid_ends (Leave node order) place (inl leads) = (change_said (Leave node order) place tt, inl leads)
+paid_ends (Leave node order) place (inr stops) = (change_said (Leave node order) place tt, inr (inl stops))
+paid_ends (Split at child order) place (free, inl leads) = (record { most = _; says = split_said near near_bounded at child order place.0 place.1 free }, inl leads)
+paid_ends (Split at child order) place (free, inr stops) = (record { most = _; says = split_said near near_bounded at child order place.0 place.1 free }, inr (inl stops.1))
+paid_ends (Begin tx body order) place paid = (record { most = _; says = begin_said near near_bounded tx body order place.0 place.1 }, inl paid)
+paid_ends (Prepared tx offer) place paid = (record { most = _; says = prepared_said near tx offer place.0 place.1 }, inl paid)
+paid_ends (RecordVote tx vote by) place (few, inl leads) = (record { most = _; says = vote_said near near_bounded tx vote by place.0 place.1 }, inl leads)
+paid_ends (RecordVote tx vote by) place (few, inr stops) = (record { most = _; says = vote_said near near_bounded tx vote by place.0 place.1 }, inr (inl stops.1))
+paid_ends (GiveUp tx) place paid = absurd paid
+paid_ends (Finish tx outcome) place (inl leads) = (record { most = 0; says = finish_said near tx outcome place.0 place.1 }, inl leads)
+paid_ends (Finish tx outcome) place (inr ends) = (record { most = 0; says = finish_said near tx outcome place.0 place.1 }, inr (inr ends))
+paid_ends (Watched tx watch) place paid = (record { most = _; says = watched_said near tx watch place.0 place.1 }, inl paid)
+paid_ends (RecordWatch tx vote by) place paid = watch_ends tx vote by place paid
+
+pub lone_paid : (command : Command) (place : Place) → IsPaid command place.0 → without_slot place.0.ready (next place.0) ≡ [] → MayPump place.0 → LeavesFew command place.0 → AllPaid command place
+lone_paid command place paid alone may few =
+    let follows = paid_ends command place paid in
+    let said = follows.0 in
+    elim (follows.1) [
+      | inl leads ↦ (paid, leads_paid near command place may few said.most leads alone said.says.0 said.says.1)
+      | inr other ↦ elim other [
+        | inl stops ↦ (paid, stops_paid near command place may few said.most stops said.says.0 said.says.1)
+        | inr ends ↦ (paid, ends_paid near command place said.most ends said.says.0 said.says.1)
+      ]
+    ]

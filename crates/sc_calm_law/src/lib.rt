@@ -88,12 +88,13 @@ pub fn counts_lower()
 {}
 
 /// All that a leader executes at once, and the pump after each, raises nothing, where each entry is
-/// paid for as it comes.
+/// paid for as it comes: a call that the group serves, a change of the members, and each entry of a
+/// split or a transaction that is not given up.
 pub fn executions_raise_nothing()
     ensures { ExecutionsRaiseNothing }
 {}
 
-/// A paid entry behind which nothing is ready leaves a replica that may pump.
+/// A paid entry behind which nothing is ready needs no more than that, where the replica may pump.
 pub fn lone_entries_are_paid()
     ensures { LoneEntriesArePaid }
 {}
