@@ -9,10 +9,12 @@ pub mod OwedInstalls
 pub mod OwedKept
 pub mod OwedLearn
 pub mod OwedLearnt
+pub mod OwedMade
 pub mod OwedMailed
 pub mod OwedOrders
 pub mod OwedPump
 pub mod OwedRows
+pub mod OwedServed
 pub mod OwedSums
 pub mod OwedTransactions
 pub mod OwedVotes

@@ -75,7 +75,7 @@ module _ (ways : Ways) where
       let idle : idle_owes false r.group.core.gone ≡ 0 = ap (idle_owes false) gone in
       omega (arith, same, le, idle)
 
-  looked_gone : (into : Route) (r : ReplicaState) (mails : List Mail) → r.running ≡ false → r.group.core.gone ≡ Some into → looked (r, mails) ≡ (r, mails)
+  pub looked_gone : (into : Route) (r : ReplicaState) (mails : List Mail) → r.running ≡ false → r.group.core.gone ≡ Some into → looked (r, mails) ≡ (r, mails)
   unfolding looked
   looked_gone into r mails off gone =
       ap (λ b. cond {A = Place} b (r, mails) (looked_for r.group.core.gone (r, mails))) off ∙ ap (λ (g : Option Route). looked_for g (r, mails)) gone

@@ -161,7 +161,7 @@ kept_sets hint r mails nines = nines
 
 module _ (ways : Ways) (command : Command) (before : Place) (may : MayPump before.0) (few : length (members (entered command before.0)) ≤ 9) where
   -- where a leader goes on
-  after_counting : (said : ℕ) (r : ReplicaState) (mails : List Mail) → Counts ways command said before (r, mails) → MayPump r
+  pub after_counting : (said : ℕ) (r : ReplicaState) (mails : List Mail) → Counts ways command said before (r, mails) → MayPump r
   after_counting said r mails counts = record {
     unbound = λ slot at.
         (let up : next r ≡ next before.0 + 1 = ap (λ (l : LogState Command). next_of l) counts.log ∙ entered_next command before.0 in

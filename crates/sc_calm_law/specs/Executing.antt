@@ -1,5 +1,7 @@
 -- What the entries that a leader executes one after another have to be, so that they raise nothing.
 use Rattle.std.specs.Prelude.{◌≡◌, ℕ, ◌≤◌, true, false, List, [], ◌∷◌, length, Option, None, Some, ◌⊎◌}
+use Rattle.sc_base.specs.Among.{Each}
+use Rattle.sc_base.specs.declared.names.Ballot.{Ballot}
 use Rattle.sc_base.specs.declared.names.Draw.{Draw}
 use Rattle.sc_base.specs.declared.ops.Op.{Op}
 use Rattle.sc_ideal.specs.IdealStore.{key_of, holds_key}
@@ -12,14 +14,17 @@ use Rattle.sc_cmd.specs.declared.votes.Past.{Past}
 use Rattle.sc_cmd.specs.declared.votes.Past.TheVariants as Cast
 use Rattle.sc_cmd.specs.Cores.{is_alone}
 use Rattle.sc_cmd.specs.Effects.{is_changed}
+use Rattle.sc_mail.specs.declared.bodies.MailBody.TheVariants.{Accepted}
+use Rattle.sc_member.specs.Roster.{is_member}
 use Rattle.sc_machine_table.specs.Machine.{applied}
+use Rattle.sc_paxos_words.specs.declared.flights.Flight.{Flight}
 use Rattle.sc_paxos_words.specs.Leaders.{without_flight}
 use Rattle.sc_node_table.specs.Pump.{serves_calls}
 use Rattle.sc_node_table.specs.Execute.{entered, executed_one, next_ready}
 use Rattle.sc_node_table.specs.Replica.{ReplicaState, Place, next, members}
 use Rattle.sc_node_table.specs.Slots.{without_slot}
 use Rattle.sc_node_table.specs.Spoken.{before_of}
-use Rattle.sc_calm_law.specs.Laws.{newcomers, IsCounting, LeadsOn, StopsAfter, MayPump, ExecutesFreely}
+use Rattle.sc_calm_law.specs.Laws.{newcomers, IsCounting, LeadsOn, StopsAfter, MayPump, Lowers, ExecutesFreely}
 use Rattle.sc_calm_law.specs.Owed.{Ways}
 
 -- no way by hints is longer than the longest
@@ -31,6 +36,30 @@ pub record IsServed (op : Op) (core : Core) : Type 0 where
   pub stands : core.gone ≡ None
   pub serves : serves_calls core.lock ≡ true
   pub holds : holds_key core.arc (key_of op) ≡ true
+
+-- such a call, and no other command
+abbrev pub IsServedCall : Core → Command → Type 0
+IsServedCall core (Call client seq op) = IsServed op core
+IsServedCall core Noop = ⊥
+IsServedCall core (Join node order) = ⊥
+IsServedCall core (Leave node order) = ⊥
+IsServedCall core (Split at child order) = ⊥
+IsServedCall core (Begin tx body order) = ⊥
+IsServedCall core (Prepared tx offer) = ⊥
+IsServedCall core (RecordVote tx vote by) = ⊥
+IsServedCall core (GiveUp tx) = ⊥
+IsServedCall core (Finish tx outcome) = ⊥
+IsServedCall core (Watched tx watch) = ⊥
+IsServedCall core (RecordWatch tx vote by) = ⊥
+
+-- a leader at which all that is in flight or ready is a call that the group serves, and which may pump
+pub record ServesAll (r : ReplicaState) : Type 0 where
+  pub running : r.running ≡ true
+  pub few : length (members r) ≤ 9
+  pub mine : is_member (members r) r.me ≡ true
+  pub may : MayPump r
+  pub flights : Each (λ (flight : Flight Command). IsServedCall r.group.core flight.value) r.leader.flights
+  pub ready : Each (λ (entry : ℕ × Command). IsServedCall r.group.core entry.1) r.ready
 
 -- a leader whose group is gone after the entry, and at which nothing else is in flight or ready
 pub record EndsAfter (command : Command) (r : ReplicaState) : Type 0 where
@@ -93,3 +122,8 @@ ExecutionsRaiseNothing = (ways : Ways) (command : Command) (place : Place) → A
 abbrev pub LoneEntriesArePaid : Type 0
 LoneEntriesArePaid =
     (command : Command) (place : Place) → IsPaid command place.0 → without_slot place.0.ready (next place.0) ≡ [] → MayPump place.0 → LeavesFew command place.0 → AllPaid command place
+
+-- a vote at a leader that serves calls alone lowers what is owed, with all that it executes then
+abbrev pub CallVotesLower : Type 0
+CallVotesLower =
+    (ways : Ways) (from : ℕ) (group : Draw) (ballot : Ballot) (slot : ℕ) (place : Place) → AreBounded ways → ServesAll place.0 → Lowers ways from (Accepted group ballot slot) place

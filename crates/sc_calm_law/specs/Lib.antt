@@ -1,3 +1,4 @@
+pub mod Births
 pub mod Executing
 pub mod Laws
 pub mod Owed

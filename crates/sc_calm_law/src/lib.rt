@@ -3,7 +3,8 @@
 //! laws, no logic.
 #![tactic(auto)]
 
-ghost use Rattle.sc_calm_law.specs.Executing.{ExecutionsRaiseNothing, LoneEntriesArePaid};
+ghost use Rattle.sc_calm_law.specs.Births.{BornReplicasOwe, MadeReplicasOwe};
+ghost use Rattle.sc_calm_law.specs.Executing.{CallVotesLower, ExecutionsRaiseNothing, LoneEntriesArePaid};
 ghost use Rattle.sc_calm_law.specs.Laws.{AnswersLower, AsksLower, ChangesRaiseNothing, CountedEntriesRaiseNothing, CountsLower, LeadersMayLeave, LearnsLower, LearntEntriesRaiseNothing, MovesLower, OrdersRaiseLittle, PumpsRaiseNothing, VotesLower};
 ghost use Rattle.sc_calm_law.specs.Quiet.{FirstMembersLead, ReplicasBeginAtRest};
 
@@ -97,4 +98,22 @@ pub fn executions_raise_nothing()
 /// A paid entry behind which nothing is ready needs no more than that, where the replica may pump.
 pub fn lone_entries_are_paid()
     ensures { LoneEntriesArePaid }
+{}
+
+/// A vote lowers what is owed at a leader at which calls alone are under way, and its group serves
+/// them: no premise is left on what it executes.
+pub fn call_votes_lower()
+    ensures { CallVotesLower }
+{}
+
+/// A replica that is made at its group's birth, as the child of a split is, owes nothing but what a
+/// group owes in which none runs.
+pub fn born_replicas_owe()
+    ensures { BornReplicasOwe }
+{}
+
+/// A replica that is made of a state that is sent owes less than that mail and what a group owes in
+/// which none runs.
+pub fn made_replicas_owe()
+    ensures { MadeReplicasOwe }
 {}
