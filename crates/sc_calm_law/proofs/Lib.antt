@@ -1,6 +1,7 @@
 pub mod OwedAsks
 pub mod OwedCalls
 pub mod OwedChanges
+pub mod OwedClients
 pub mod OwedCounted
 pub mod OwedEnds
 pub mod OwedExecuting
@@ -9,6 +10,7 @@ pub mod OwedInstalls
 pub mod OwedKept
 pub mod OwedLearn
 pub mod OwedLearnt
+pub mod OwedLone
 pub mod OwedMade
 pub mod OwedMailed
 pub mod OwedOrders

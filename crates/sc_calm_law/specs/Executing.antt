@@ -24,7 +24,7 @@ use Rattle.sc_node_table.specs.Execute.{entered, executed_one, next_ready}
 use Rattle.sc_node_table.specs.Replica.{ReplicaState, Place, next, members}
 use Rattle.sc_node_table.specs.Slots.{without_slot}
 use Rattle.sc_node_table.specs.Spoken.{before_of}
-use Rattle.sc_calm_law.specs.Laws.{newcomers, IsCounting, LeadsOn, StopsAfter, MayPump, Lowers, ExecutesFreely}
+use Rattle.sc_calm_law.specs.Laws.{newcomers, IsCounting, LeadsOn, StopsAfter, MayPump, Lowers, readied_at, ExecutesFreely}
 use Rattle.sc_calm_law.specs.Owed.{Ways}
 
 -- no way by hints is longer than the longest
@@ -127,3 +127,16 @@ LoneEntriesArePaid =
 abbrev pub CallVotesLower : Type 0
 CallVotesLower =
     (ways : Ways) (from : ℕ) (group : Draw) (ballot : Ballot) (slot : ℕ) (place : Place) → AreBounded ways → ServesAll place.0 → Lowers ways from (Accepted group ballot slot) place
+
+-- one entry is in flight, at this slot, and none is ready; where the slot is the next one, the entry is paid for
+pub record FliesAlone (slot : ℕ) (flight : Flight Command) (r : ReplicaState) : Type 0 where
+  pub flights : r.leader.flights ≡ flight ∷ []
+  pub ready : r.ready ≡ []
+  pub may : MayPump r
+  pub paid : slot ≡ next r → IsPaid flight.value (readied_at slot flight.value r)
+  pub leaves : slot ≡ next r → LeavesFew flight.value (readied_at slot flight.value r)
+
+-- a vote at a leader at which one paid entry is in flight, alone, lowers what is owed, with all that it executes then
+abbrev pub LoneVotesLower : Type 0
+LoneVotesLower =
+    (ways : Ways) (from : ℕ) (group : Draw) (ballot : Ballot) (slot : ℕ) (flight : Flight Command) (place : Place) → AreBounded ways → FliesAlone slot flight place.0 → Lowers ways from (Accepted group ballot slot) place

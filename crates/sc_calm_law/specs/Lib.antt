@@ -1,4 +1,5 @@
 pub mod Births
+pub mod Clients
 pub mod Executing
 pub mod Laws
 pub mod Owed

@@ -4,7 +4,8 @@
 #![tactic(auto)]
 
 ghost use Rattle.sc_calm_law.specs.Births.{BornReplicasOwe, MadeReplicasOwe};
-ghost use Rattle.sc_calm_law.specs.Executing.{CallVotesLower, ExecutionsRaiseNothing, LoneEntriesArePaid};
+ghost use Rattle.sc_calm_law.specs.Clients.{ClientsLower};
+ghost use Rattle.sc_calm_law.specs.Executing.{CallVotesLower, ExecutionsRaiseNothing, LoneEntriesArePaid, LoneVotesLower};
 ghost use Rattle.sc_calm_law.specs.Laws.{AnswersLower, AsksLower, ChangesRaiseNothing, CountedEntriesRaiseNothing, CountsLower, LeadersMayLeave, LearnsLower, LearntEntriesRaiseNothing, MovesLower, OrdersRaiseLittle, PumpsRaiseNothing, VotesLower};
 ghost use Rattle.sc_calm_law.specs.Quiet.{FirstMembersLead, ReplicasBeginAtRest};
 
@@ -116,4 +117,16 @@ pub fn born_replicas_owe()
 /// which none runs.
 pub fn made_replicas_owe()
     ensures { MadeReplicasOwe }
+{}
+
+/// A vote lowers what is owed at a leader at which one entry is in flight, alone, and is paid for, as
+/// each order and each entry of a transaction is.
+pub fn lone_votes_lower()
+    ensures { LoneVotesLower }
+{}
+
+/// A reply, and an answer that names another node or none, lower what is owed at their client, and a
+/// client that goes raises it by the way of its first request at most.
+pub fn clients_lower()
+    ensures { ClientsLower }
 {}
