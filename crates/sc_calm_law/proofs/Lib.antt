@@ -8,6 +8,7 @@ pub mod OwedExecuting
 pub mod OwedIdle
 pub mod OwedInstalls
 pub mod OwedKept
+pub mod OwedKnowing
 pub mod OwedLearn
 pub mod OwedLearnt
 pub mod OwedLone

@@ -33,7 +33,7 @@ module _ (ways : Ways) where
   asked_owes most client group None (Some request) near = omega arith
   asked_owes most client group None None near = omega arith
 
-  request_owes : (most : ℕ) (client : ClientState) → AsksWithin ways most client → step_owes ways (request_sent client) ≤ requests_owe client + (28 + 2 * most)
+  pub request_owes : (most : ℕ) (client : ClientState) → AsksWithin ways most client → step_owes ways (request_sent client) ≤ requests_owe client + (28 + 2 * most)
   request_owes most client near = by (chosen_for client (waiting_request client))
     where
       by : (o : Option Draw) → step_owes ways (sent_where client o) ≤ requests_owe client + (28 + 2 * most)

@@ -4,7 +4,7 @@
 #![tactic(auto)]
 
 ghost use Rattle.sc_calm_law.specs.Births.{BornReplicasOwe, MadeReplicasOwe};
-ghost use Rattle.sc_calm_law.specs.Clients.{ClientsLower};
+ghost use Rattle.sc_calm_law.specs.Clients.{ClientsLower, GoneSendsOn, NotMineTeaches};
 ghost use Rattle.sc_calm_law.specs.Executing.{CallVotesLower, ExecutionsRaiseNothing, LoneEntriesArePaid, LoneVotesLower};
 ghost use Rattle.sc_calm_law.specs.Laws.{AnswersLower, AsksLower, ChangesRaiseNothing, CountedEntriesRaiseNothing, CountsLower, LeadersMayLeave, LearnsLower, LearntEntriesRaiseNothing, MovesLower, OrdersRaiseLittle, PumpsRaiseNothing, VotesLower};
 ghost use Rattle.sc_calm_law.specs.Quiet.{FirstMembersLead, ReplicasBeginAtRest};
@@ -129,4 +129,15 @@ pub fn lone_votes_lower()
 /// client that goes raises it by the way of its first request at most.
 pub fn clients_lower()
     ensures { ClientsLower }
+{}
+
+/// An answer that a key is another group's teaches its client one group, and what it sends then owes
+/// no more than the answer did and what a group owes that is asked in vain.
+pub fn not_mine_teaches()
+    ensures { NotMineTeaches }
+{}
+
+/// An answer that a group went into another sends a client that knows no other on to that one.
+pub fn gone_sends_on()
+    ensures { GoneSendsOn }
 {}
