@@ -11,9 +11,8 @@ use Rattle.sc_mail.specs.declared.bodies.Mail.{Mail}
 use Rattle.sc_member.specs.Roster.{is_member, least_of}
 use Rattle.sc_machine_table.specs.Group.{Group}
 use Rattle.sc_machine_table.specs.Machine.{applied}
-use Rattle.sc_paxos_words.specs.declared.answers.Must.TheVariants.{Free as Open}
 use Rattle.sc_paxos_words.specs.declared.reports.Report.{Report}
-use Rattle.sc_paxos_words.specs.Leaders.{LeaderState, must}
+use Rattle.sc_paxos_words.specs.Leaders.{must}
 use Rattle.sc_paxos_words.specs.Logs.{LogState, next_of}
 use Rattle.sc_node_table.specs.Election.{ended, stopped}
 use Rattle.sc_node_table.specs.Execute.{entered, looked, executed_one, next_child, next_ready, ending, executed_ready, executed}
@@ -24,7 +23,7 @@ use Rattle.sc_calm_law.specs.Executing.{AreBounded, EndsAfter, LeavesFew, IsWatc
 use Rattle.sc_calm_law.specs.Laws.{said_place, newcomers, AreNines, MayPump, IsChange, LeadsOn, StopsAfter, ExecutesFreely}
 use Rattle.sc_calm_law.specs.Owed.{Ways, election, offered_owes, mail_owes, place_owes}
 use Rattle.sc_calm_law.proofs.OwedPump.{pump_owes}
-use Rattle.sc_calm_law.proofs.OwedLearn.{IsFresh, looked_fresh, idle_pump}
+use Rattle.sc_calm_law.proofs.OwedLearn.{IsFresh, looked_fresh, idle_pump, unbound_new}
 use Rattle.sc_calm_law.proofs.OwedCounted.{Counts, counted_ends, counted_owes, leaving_owes, left_same, looked_same, left_stops, stops_idle}
 use Rattle.sc_calm_law.proofs.OwedChanges.{silent_said, changes_owe, leader_leaves}
 use Rattle.sc_calm_law.proofs.OwedCalls.{call_leads, call_said, call_owes}
@@ -147,9 +146,6 @@ module _ (ways : Ways) where
 
 none_paid : (place : Place) → place.0.ready ≡ [] → MayGoOn place.0 → ArePaid place.0.ready place
 none_paid place none may = subst (λ (es : List (ℕ × Command)). ArePaid es place) (sym none) may
-
-unbound_new : (leader : LeaderState Command) → leader.reports ≡ [] → (slot : ℕ) → must slot leader ≡ Open
-unbound_new leader none slot = ap (λ (reports : List (Report Command)). must slot (record leader { reports = reports })) none
 
 fresh_paid : (place : Place) → IsFresh place → ArePaid place.0.ready place
 fresh_paid place (inl off) = idle_paid place.0.ready place off

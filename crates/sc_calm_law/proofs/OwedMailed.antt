@@ -1,9 +1,9 @@
 -- What the rows of mail lower, by the body of the mail.
 use Rattle.sc_node_table.specs.Rows.{mailed}
-use Rattle.sc_calm_law.specs.Laws.{AnswersLower, AsksLower, CountsLower, LearnsLower, MovesLower, VotesLower}
+use Rattle.sc_calm_law.specs.Laws.{AnswersLower, AsksLower, CountsLower, LearnsLower, MovesLower, OldLearnsLower, VotesLower}
 use Rattle.sc_calm_law.proofs.OwedAsks.{promise_lowers, request_lowers, offer_lowers, watch_lowers}
 use Rattle.sc_calm_law.proofs.OwedInstalls.{install_lowers, elsewhere_lowers}
-use Rattle.sc_calm_law.proofs.OwedLearn.{learn_lowers}
+use Rattle.sc_calm_law.proofs.OwedLearn.{learn_lowers, old_lowers}
 use Rattle.sc_calm_law.proofs.OwedRows.{prepare_lowers, accept_lowers, nack_lowers, vote_lowers, watched_lowers, outcome_lowers}
 use Rattle.sc_calm_law.proofs.OwedVotes.{accepted_lowers}
 
@@ -46,3 +46,7 @@ moves = record {
 pub counts : CountsLower
 unfolding mailed
 counts = λ ways from group ballot slot place free. accepted_lowers ways from ballot slot place free
+
+pub old_learns : OldLearnsLower
+unfolding mailed
+old_learns = λ ways from group slot command place old. old_lowers ways from slot command place old

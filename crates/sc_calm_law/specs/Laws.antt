@@ -156,6 +156,10 @@ abbrev pub LearnsLower : Type 0
 LearnsLower =
     (ways : Ways) (from : ℕ) (group : Draw) (slot : ℕ) (command : Command) (place : Place) → Follows command place.0 → slot ≤ next place.0 → Lowers ways from (Learn group slot command) place
 
+-- one that is told an entry again lowers what is owed, also where its group is gone
+abbrev pub OldLearnsLower : Type 0
+OldLearnsLower = (ways : Ways) (from : ℕ) (group : Draw) (slot : ℕ) (command : Command) (place : Place) → slot + 1 ≤ next place.0 → Lowers ways from (Learn group slot command) place
+
 -- one that does not run, of a group that stands, names one that is nearer to the one that runs
 abbrev pub Points : Ways → Draw → ReplicaState → Type 0
 Points ways group r = r.running ≡ false → r.group.core.gone ≡ None → (node : ℕ) × (r.hint ≡ Some node) × (ways.far group node + 1 ≤ ways.far group r.me)
