@@ -26,7 +26,7 @@ use Rattle.sc_calm_law.proofs.OwedCounted.{counted_owes, leaving_owes}
 
 -- ---- whom an entry adds
 
-among_member : (x : ℕ) (xs : List ℕ) → Among x xs → is_member xs x ≡ true
+pub among_member : (x : ℕ) (xs : List ℕ) → Among x xs → is_member xs x ≡ true
 among_member x [] a = absurd a
 among_member x (y ∷ ys) (inl same) = ap (λ b. b || is_member ys x) (eq-eqb y x same)
 among_member x (y ∷ ys) (inr a) = or_right (eqb y x) (is_member ys x) (among_member x ys a)
@@ -40,13 +40,13 @@ none_new before test (x ∷ xs) all = by (test x) (none_new before test xs (λ y
     by true e = ap (λ m. cond (not m) (x ∷ filter (λ node. not (is_member before node)) (filter test xs)) (filter (λ node. not (is_member before node)) (filter test xs))) (all x (inl refl)) ∙ e
     by false e = e
 
-same_new : (before xs : List ℕ) → ((x : ℕ) → Among x xs → is_member before x ≡ true) → filter (λ node. not (is_member before node)) xs ≡ []
+pub same_new : (before xs : List ℕ) → ((x : ℕ) → Among x xs → is_member before x ≡ true) → filter (λ node. not (is_member before node)) xs ≡ []
 same_new before [] all = refl
 same_new before (x ∷ xs) all =
     ap (λ m. cond (not m) (x ∷ filter (λ node. not (is_member before node)) xs) (filter (λ node. not (is_member before node)) xs)) (all x (inl refl)) ∙ same_new before xs (λ y a. all y (inr a))
 
 -- one at most is
-one_new : (before : List ℕ) (node : ℕ) → length (filter (λ n. not (is_member before n)) (with_member before node)) ≤ 1
+pub one_new : (before : List ℕ) (node : ℕ) → length (filter (λ n. not (is_member before n)) (with_member before node)) ≤ 1
 one_new before node =
     let low = filter (λ member. ltb member node) before in
     let high = filter (λ member. ltb node member) before in
@@ -65,11 +65,11 @@ one_new before node =
 
 -- ---- the members after an entry
 
-entered_members : (command : Command) (r : ReplicaState) → members (entered command r) ≡ (applied r.group command).0.core.members
+pub entered_members : (command : Command) (r : ReplicaState) → members (entered command r) ≡ (applied r.group command).0.core.members
 unfolding entered forgotten
 entered_members command r = refl
 
-ordered_members : (P : List ℕ → Type 0) (gone : Option Route) (why : Option OrderRefusal) (after group : Group) → P after.core.members → P group.core.members → P (ordered gone why after group).0.core.members
+pub ordered_members : (P : List ℕ → Type 0) (gone : Option Route) (why : Option OrderRefusal) (after group : Group) → P after.core.members → P group.core.members → P (ordered gone why after group).0.core.members
 ordered_members P (Some into) why after group a g = g
 ordered_members P None (Some why) after group a g = g
 ordered_members P None None after group a g = a
@@ -142,7 +142,7 @@ module _ (ways : Ways) where
   spoken_silent before effect command r mails is =
       (refl, ap (sum_by (mail_owes ways)) (went_silent r.me r.group before effect command (told_begun r.me before effect command mails) is) ∙ begun_owes ways r.me before effect command mails)
 
-  silent_said : (command : Command) (r : ReplicaState) (mails : List Mail) → IsChange command →
+  pub silent_said : (command : Command) (r : ReplicaState) (mails : List Mail) → IsChange command →
       ((said_place command (r, mails)).0 ≡ entered command r) × (sum_by (mail_owes ways) (said_place command (r, mails)).1 ≡ sum_by (mail_owes ways) mails)
   silent_said command r mails is =
       let effect = (applied r.group command).1 in

@@ -105,6 +105,7 @@ module _ (ways : Ways) where
       ((landed true slot command (r, mails)).0.running ≡ r.running) × ((landed true slot command (r, mails)).0.group ≡ r.group) × ((landed true slot command (r, mails)).0.me ≡ r.me)
       × (replica_owes ways.most (landed true slot command (r, mails)).0 + offered_owes ways.most command ≤ replica_owes ways.most r) × ((landed true slot command (r, mails)).1 ≡ mails)
       × ((landed true slot command (r, mails)).0.leader.flights ≡ without_flight slot r.leader.flights) × ((landed true slot command (r, mails)).0.ready ≡ without_slot r.ready slot) × ((landed true slot command (r, mails)).0.calls ≡ r.calls)
+      × ((landed true slot command (r, mails)).0.sets ≡ r.sets) × ((landed true slot command (r, mails)).0.log ≡ r.log) × ((landed true slot command (r, mails)).0.leader.reports ≡ r.leader.reports)
   unfolding landed
   landed_counted slot command r mails ready = by (flying r slot)
     where
@@ -119,6 +120,7 @@ module _ (ways : Ways) where
           ((slot_lost true command o over).running ≡ r.running) × ((slot_lost true command o over).group ≡ r.group) × ((slot_lost true command o over).me ≡ r.me)
           × (replica_owes ways.most (slot_lost true command o over) + offered_owes ways.most command ≤ replica_owes ways.most r) × (mails ≡ mails)
           × ((slot_lost true command o over).leader.flights ≡ without_flight slot r.leader.flights) × ((slot_lost true command o over).ready ≡ without_slot r.ready slot) × ((slot_lost true command o over).calls ≡ r.calls)
+          × ((slot_lost true command o over).sets ≡ r.sets) × ((slot_lost true command o over).log ≡ r.log) × ((slot_lost true command o over).leader.reports ≡ r.leader.reports)
       by o =
           let same = lost o in
           let a = without_flight_owes ways.most slot r.leader.flights in
@@ -132,17 +134,20 @@ module _ (ways : Ways) where
             ap (λ (q : ReplicaState). q.leader.flights) same,
             ap (λ (q : ReplicaState). q.ready) same,
             ap (λ (q : ReplicaState). q.calls) same,
+            ap (λ (q : ReplicaState). q.sets) same,
+            ap (λ (q : ReplicaState). q.log) same,
+            ap (λ (q : ReplicaState). q.leader.reports) same,
           )
 
   -- ---- a leader that stays a member of a group that stands goes on
 
-  left_same : (r : ReplicaState) (mails : List Mail) → r.running ≡ true → r.group.core.gone ≡ None → is_member (members r) r.me ≡ true → left (r, mails) ≡ (r, mails)
+  pub left_same : (r : ReplicaState) (mails : List Mail) → r.running ≡ true → r.group.core.gone ≡ None → is_member (members r) r.me ≡ true → left (r, mails) ≡ (r, mails)
   unfolding left
   left_same r mails running stands mine =
       ap (λ c. cond c (left_gone r.group.core.gone (r, mails)) (r, mails)) running
       ∙ (ap (λ (g : Option Route). left_gone g (r, mails)) stands ∙ ap (λ c. cond c (r, mails) (stopped (Some (least_of (members r))) (r, mails))) mine)
 
-  looked_same : (r : ReplicaState) (mails : List Mail) → r.running ≡ true → looked (r, mails) ≡ (r, mails)
+  pub looked_same : (r : ReplicaState) (mails : List Mail) → r.running ≡ true → looked (r, mails) ≡ (r, mails)
   unfolding looked
   looked_same r mails running = ap (λ c. cond c (r, mails) (looked_for r.group.core.gone (r, mails))) running
 
@@ -166,6 +171,9 @@ module _ (ways : Ways) where
     pub flights : place.0.leader.flights ≡ without_flight (next before.0) before.0.leader.flights
     pub ready : place.0.ready ≡ without_slot before.0.ready (next before.0)
     pub calls : place.0.calls ≡ before.0.calls
+    pub sets : place.0.sets ≡ (entered command before.0).sets
+    pub log : place.0.log ≡ (entered command before.0).log
+    pub reports : place.0.leader.reports ≡ before.0.leader.reports
 
   -- what holds where it has seen that holds after the entry
   pub counted_ends : (P : Place → Type 0) (command : Command) (before : Place) (said : ℕ) → IsCounting command before.0 → (said_place command before).0 ≡ entered command before.0 → sum (said_place command before).1 ≤ sum before.1 + said
@@ -194,6 +202,9 @@ module _ (ways : Ways) where
         flights = c.5 ∙ (ap (λ (q : ReplicaState). without_flight (next r) q.leader.flights) is ∙ ap (λ (l : LeaderState Command). without_flight (next r) l.flights) (entered_flights ways command r));
         ready = c.6 ∙ (ap (λ (q : ReplicaState). without_slot q.ready (next r)) is ∙ ap (λ (es : List (ℕ × Command)). without_slot es (next r)) (entered_ready ways command r));
         calls = c.7 ∙ (ap (λ (q : ReplicaState). q.calls) is ∙ entered_calls command r);
+        sets = c.8 ∙ ap (λ (q : ReplicaState). q.sets) is;
+        log = c.9 ∙ ap (λ (q : ReplicaState). q.log) is;
+        reports = c.10 ∙ (ap (λ (q : ReplicaState). q.leader.reports) is ∙ ap (λ (l : LeaderState Command). l.reports) (entered_flights ways command r));
       } in
       then place5.0 place5.1 counts
 
@@ -212,13 +223,13 @@ module _ (ways : Ways) where
 
   -- ---- a leader that is no member any more stops, and its group is to elect another
 
-  taken_none : (r : ReplicaState) (slots : List ℕ) → r.leader.flights ≡ [] → r.ready ≡ [] → taken_from r slots ≡ []
+  pub taken_none : (r : ReplicaState) (slots : List ℕ) → r.leader.flights ≡ [] → r.ready ≡ [] → taken_from r slots ≡ []
   taken_none r [] f e = refl
   taken_none r (slot ∷ slots) f e =
       let none : taken_at r slot ≡ None = ap (λ (fs : List (Flight Command)). either (option_map (λ (flight : Flight Command). flight.value) (flight_at slot fs)) (at_slot r.ready slot)) f ∙ ap (λ (es : List (ℕ × Command)). at_slot es slot) e in
       ap (λ (o : Option Command). listed o ++ taken_from r slots) none ∙ taken_none r slots f e
 
-  stops_idle : (hint : Option ℕ) (r : ReplicaState) (mails : List Mail) → r.leader.flights ≡ [] → r.ready ≡ [] → r.calls ≡ [] →
+  pub stops_idle : (hint : Option ℕ) (r : ReplicaState) (mails : List Mail) → r.leader.flights ≡ [] → r.ready ≡ [] → r.calls ≡ [] →
       ((stopped hint (r, mails)).0.running ≡ false) × (replica_owes ways.most (stopped hint (r, mails)).0 ≡ 0) × ((stopped hint (r, mails)).1 ≡ mails)
   unfolding ended answered_all dismissed_all
   stops_idle hint r mails f e c = (
@@ -228,7 +239,7 @@ module _ (ways : Ways) where
         ∙ ap (λ (commands : List Command). answered_all r.me (name_of r) (Says.NotLeader hint) commands mails) (taken_none r (open_slots r) f e),
   )
 
-  left_stops : (r : ReplicaState) (mails : List Mail) → r.running ≡ true → r.group.core.gone ≡ None → is_member (members r) r.me ≡ false → left (r, mails) ≡ stopped (Some (least_of (members r))) (r, mails)
+  pub left_stops : (r : ReplicaState) (mails : List Mail) → r.running ≡ true → r.group.core.gone ≡ None → is_member (members r) r.me ≡ false → left (r, mails) ≡ stopped (Some (least_of (members r))) (r, mails)
   unfolding left
   left_stops r mails running stands other =
       ap (λ c. cond c (left_gone r.group.core.gone (r, mails)) (r, mails)) running

@@ -1,7 +1,7 @@
 -- The row of a Learn at a replica that does not run: the entry, and the pump where it is elected by it.
 use Rattle.std.proofs.Common.{◌≡◌, ℕ, ◌+◌, ◌-◌, ◌^◌, ◌≤◌, ◌&&◌, eqb, ltb, Bool, true, false, true≢false, cond, List, [], ◌∷◌, Option, Some, None, ◌⊎◌, inl, inr, refl, sym, ◌∙◌, ap, subst, arith}
 use Rattle.std.specs.Prelude.{nat_le}
-use Rattle.std.proofs.lemmas.Bool.{ltb-true}
+use Rattle.std.proofs.lemmas.Bool.{ltb-true, eqb-true}
 use Rattle.sc_base.specs.declared.names.Ballot.{Ballot}
 use Rattle.sc_cmd.specs.declared.commands.Command.{Command}
 use Rattle.sc_cmd.specs.declared.links.Route.{Route}
@@ -24,7 +24,7 @@ use Rattle.sc_calm_law.proofs.OwedPump.{pump_owes}
 use Rattle.sc_calm_law.proofs.OwedLearnt.{learnt_ends, learnt_owes}
 
 -- one that does not run, or was just elected
-abbrev IsFresh : Place → Type 0
+abbrev pub IsFresh : Place → Type 0
 IsFresh place = (place.0.running ≡ false) ⊎ ((place.0.ready ≡ []) × (place.0.leader.reports ≡ []) × AreNines place.0.sets)
 
 elected_fresh : (r : ReplicaState) (mails : List Mail) → r.running ≡ false → AreNines r.sets → IsFresh (elected (r, mails))
@@ -41,7 +41,7 @@ elected_fresh r mails stopped few = by (eqb r.top.round (2 ^ 32 - 1))
     by true = inl stopped
     by false = inr (refl, refl, few)
 
-looked_fresh : (r : ReplicaState) (mails : List Mail) → r.running ≡ false → AreNines r.sets → IsFresh (looked (r, mails))
+pub looked_fresh : (r : ReplicaState) (mails : List Mail) → r.running ≡ false → AreNines r.sets → IsFresh (looked (r, mails))
 unfolding looked
 looked_fresh r mails stopped few = by r.running stopped r.group.core.gone
   where
@@ -67,7 +67,7 @@ idle_ready (e ∷ es) place stopped =
     ap (λ (o : Option Command). elim o [ None ↦ childless place | Some command ↦ ending (next_child command place.0) (executed_ready es (executed_one true command place)) ])
     (ap (λ b. cond (b && has_room place.0) (at_slot place.0.ready (next place.0)) None) stopped)
 
-idle_pump : (place : Place) → place.0.running ≡ false → pumped place ≡ place
+pub idle_pump : (place : Place) → place.0.running ≡ false → pumped place ≡ place
 unfolding pumped
 idle_pump place stopped = ap (λ b. cond b (pumped_from (next place.0) place.0.sets place) place) (all_false place.0.running stopped)
   where
@@ -80,7 +80,7 @@ unfolding executed_ready
 ready_none [] place e = refl
 ready_none (x ∷ es) place e = cc
 
-unbound_new : (leader : LeaderState Command) → leader.reports ≡ [] → (slot : ℕ) → must slot leader ≡ Open
+pub unbound_new : (leader : LeaderState Command) → leader.reports ≡ [] → (slot : ℕ) → must slot leader ≡ Open
 unbound_new leader none slot = ap (λ (reports : List (Report Command)). must slot (record leader { reports = reports })) none
 
 module _ (ways : Ways) where
@@ -115,3 +115,15 @@ module _ (ways : Ways) where
       by false true c e le = omega (arith, le)
       by false false false e le = omega arith
       by false false true e le = absurd (let above = ltb-true (next r) slot e in omega (arith, above, low))
+
+  -- one of a slot that is executed changes nothing
+  pub old_lowers : (from slot : ℕ) (command : Command) (place : Place) → slot + 1 ≤ next place.0 → place_owes ways (learn_row from slot command place).0 + 1 ≤ place_owes ways place + 1
+  unfolding learn_row
+  old_lowers from slot command (r, mails) old = by (ltb last_slot slot) (eqb slot (next r)) (ltb (next r) slot) refl refl
+    where
+      by : (a b c : Bool) → eqb slot (next r) ≡ b → ltb (next r) slot ≡ c →
+          place_owes ways (cond {A = Executed} a (childless (r, mails)) (cond b (executed false command (r, mails)) (cond c (childless (r, sent r.me from (Ask (name_of r) (next r)) mails)) (childless (r, mails))))).0 + 1 ≤ place_owes ways (r, mails) + 1
+      by true b c same later = omega arith
+      by false true c same later = absurd (let is = eqb-true slot (next r) same in omega (arith, is, old))
+      by false false false same later = omega arith
+      by false false true same later = absurd (let above = ltb-true (next r) slot later in omega (arith, above, old))

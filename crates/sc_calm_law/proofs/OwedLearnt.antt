@@ -27,7 +27,7 @@ use Rattle.sc_calm_law.proofs.OwedSums.{sent_owes, all_owe, without_flight_owes,
 
 -- ---- the nodes of an election
 
-filter_short : {X : Type 0} (test : X → Bool) (xs : List X) → length (filter test xs) ≤ length xs
+pub filter_short : {X : Type 0} (test : X → Bool) (xs : List X) → length (filter test xs) ≤ length xs
 filter_short test [] = omega arith
 filter_short {X} test (x ∷ xs) = by (test x) (filter_short test xs)
   where

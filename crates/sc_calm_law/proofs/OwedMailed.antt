@@ -1,10 +1,11 @@
 -- What the rows of mail lower, by the body of the mail.
 use Rattle.sc_node_table.specs.Rows.{mailed}
-use Rattle.sc_calm_law.specs.Laws.{AnswersLower, AsksLower, LearnsLower, MovesLower, VotesLower}
+use Rattle.sc_calm_law.specs.Laws.{AnswersLower, AsksLower, CountsLower, LearnsLower, MovesLower, OldLearnsLower, VotesLower}
 use Rattle.sc_calm_law.proofs.OwedAsks.{promise_lowers, request_lowers, offer_lowers, watch_lowers}
 use Rattle.sc_calm_law.proofs.OwedInstalls.{install_lowers, elsewhere_lowers}
-use Rattle.sc_calm_law.proofs.OwedLearn.{learn_lowers}
+use Rattle.sc_calm_law.proofs.OwedLearn.{learn_lowers, old_lowers}
 use Rattle.sc_calm_law.proofs.OwedRows.{prepare_lowers, accept_lowers, nack_lowers, vote_lowers, watched_lowers, outcome_lowers}
+use Rattle.sc_calm_law.proofs.OwedVotes.{accepted_lowers}
 
 pub answers : AnswersLower
 unfolding mailed
@@ -41,3 +42,11 @@ moves = record {
   install = λ ways from group slot base sets place off stands. install_lowers ways from slot base sets place off stands;
   elsewhere = λ ways from tx coord node place asks. elsewhere_lowers ways from tx node place asks;
 }
+
+pub counts : CountsLower
+unfolding mailed
+counts = λ ways from group ballot slot place free. accepted_lowers ways from ballot slot place free
+
+pub old_learns : OldLearnsLower
+unfolding mailed
+old_learns = λ ways from group slot command place old. old_lowers ways from slot command place old

@@ -18,18 +18,19 @@ use Rattle.sc_cmd.specs.declared.votes.Outcome.{Outcome}
 use Rattle.sc_cmd.specs.declared.votes.Past.{Past}
 use Rattle.sc_cmd.specs.declared.votes.Vote.{Vote}
 use Rattle.sc_mail.specs.declared.bodies.MailBody.{MailBody}
-use Rattle.sc_mail.specs.declared.bodies.MailBody.TheVariants.{Request, Prepare, Promise, Accept, Nack, Learn, Install, TxElsewhere, TxPrepare, TxVote, TxOutcome, TxWatch, TxWatched}
+use Rattle.sc_mail.specs.declared.bodies.MailBody.TheVariants.{Request, Prepare, Promise, Accept, Accepted, Nack, Learn, Install, TxElsewhere, TxPrepare, TxVote, TxOutcome, TxWatch, TxWatched}
 use Rattle.sc_paxos_words.specs.Ballots.{below}
 use Rattle.sc_node_table.specs.Ordering.{ordered_row}
 use Rattle.sc_node_table.specs.Rows.{mailed}
 use Rattle.sc_cmd.specs.declared.commands.Command.TheVariants.{Noop, Call, Join, Leave, Split, Begin, Prepared, RecordVote, GiveUp, Finish, Watched, RecordWatch}
 use Rattle.sc_paxos_words.specs.declared.answers.Must.TheVariants.{Free as Open}
-use Rattle.sc_paxos_words.specs.Leaders.{must, without_flight}
+use Rattle.sc_paxos_words.specs.declared.flights.Flight.{Flight}
+use Rattle.sc_paxos_words.specs.Leaders.{must, flight_at, without_flight, without_flight_at}
 use Rattle.sc_member.specs.Roster.{is_member}
 use Rattle.sc_machine_table.specs.Machine.{applied}
-use Rattle.sc_node_table.specs.Slots.{at_slot, without_slot}
+use Rattle.sc_node_table.specs.Slots.{at_slot, with_slot, without_slot}
 use Rattle.sc_node_table.specs.Spoken.{before_of, spoken}
-use Rattle.sc_node_table.specs.Execute.{entered, announced, executed_one}
+use Rattle.sc_node_table.specs.Execute.{entered, announced, executed_one, has_room, executed}
 use Rattle.sc_node_table.specs.Pump.{pumped}
 use Rattle.sc_node_table.specs.Replica.{ReplicaState, Place, name_of, next, members}
 use Rattle.sc_calm_law.specs.Owed.{Ways, offered_owes, asked_owes, body_owes, mail_owes, place_owes}
@@ -155,6 +156,10 @@ abbrev pub LearnsLower : Type 0
 LearnsLower =
     (ways : Ways) (from : ℕ) (group : Draw) (slot : ℕ) (command : Command) (place : Place) → Follows command place.0 → slot ≤ next place.0 → Lowers ways from (Learn group slot command) place
 
+-- one that is told an entry again lowers what is owed, also where its group is gone
+abbrev pub OldLearnsLower : Type 0
+OldLearnsLower = (ways : Ways) (from : ℕ) (group : Draw) (slot : ℕ) (command : Command) (place : Place) → slot + 1 ≤ next place.0 → Lowers ways from (Learn group slot command) place
+
 -- one that does not run, of a group that stands, names one that is nearer to the one that runs
 abbrev pub Points : Ways → Draw → ReplicaState → Type 0
 Points ways group r = r.running ≡ false → r.group.core.gone ≡ None → (node : ℕ) × (r.hint ≡ Some node) × (ways.far group node + 1 ≤ ways.far group r.me)
@@ -180,3 +185,22 @@ AsksAs ways tx node r =
 pub record MovesLower : Type 0 where
   pub install : (ways : Ways) (from : ℕ) (group : Draw) (slot : ℕ) (base : Base) (sets : List (List ℕ)) (place : Place) → place.0.running ≡ false → place.0.group.core.gone ≡ None → Lowers ways from (Install group slot base sets) place
   pub elsewhere : (ways : Ways) (from : ℕ) (tx coord : Draw) (node : ℕ) (place : Place) → AsksAs ways tx node place.0 → Lowers ways from (TxElsewhere tx coord (Some node)) place
+
+-- one at which the command in flight at a slot was chosen, and is ready
+abbrev pub readied_at : ℕ → Command → ReplicaState → ReplicaState
+readied_at slot command r = record r { leader = without_flight_at slot r.leader; ready = with_slot r.ready slot command }
+
+-- what a place may execute as counted raises nothing, with all that follows it
+abbrev pub ExecutesFreely : Ways → Command → Place → Type 0
+ExecutesFreely ways command place = place_owes ways (executed true command place).0 ≤ place_owes ways place
+
+-- .. where the command in flight at the next slot was chosen
+abbrev pub DecidesFreely : Ways → ℕ → Place → Type 0
+DecidesFreely ways slot place =
+    (flight : Flight Command) → place.0.running ≡ true → has_room place.0 ≡ true → slot ≡ next place.0 → flight_at slot place.0.leader.flights ≡ Some flight
+    → ExecutesFreely ways flight.value (readied_at slot flight.value place.0, place.1)
+
+-- a vote that is counted lowers what is owed: what it decides goes from flight to what is ready, and what is executed then raises nothing
+abbrev pub CountsLower : Type 0
+CountsLower =
+    (ways : Ways) (from : ℕ) (group : Draw) (ballot : Ballot) (slot : ℕ) (place : Place) → DecidesFreely ways slot place → Lowers ways from (Accepted group ballot slot) place

@@ -1,3 +1,6 @@
+pub mod Births
+pub mod Clients
+pub mod Executing
 pub mod Laws
 pub mod Owed
 pub mod Quiet

@@ -3,7 +3,10 @@
 //! laws, no logic.
 #![tactic(auto)]
 
-ghost use Rattle.sc_calm_law.specs.Laws.{AnswersLower, AsksLower, ChangesRaiseNothing, CountedEntriesRaiseNothing, LeadersMayLeave, LearnsLower, LearntEntriesRaiseNothing, MovesLower, OrdersRaiseLittle, PumpsRaiseNothing, VotesLower};
+ghost use Rattle.sc_calm_law.specs.Births.{BornReplicasOwe, MadeReplicasOwe};
+ghost use Rattle.sc_calm_law.specs.Clients.{ClientsLower, GoneSendsOn, NotMineTeaches};
+ghost use Rattle.sc_calm_law.specs.Executing.{CallVotesLower, ExecutionsRaiseNothing, LoneEntriesArePaid, LoneVotesLower};
+ghost use Rattle.sc_calm_law.specs.Laws.{AnswersLower, AsksLower, ChangesRaiseNothing, CountedEntriesRaiseNothing, CountsLower, LeadersMayLeave, LearnsLower, LearntEntriesRaiseNothing, MovesLower, OldLearnsLower, OrdersRaiseLittle, PumpsRaiseNothing, VotesLower};
 ghost use Rattle.sc_calm_law.specs.Quiet.{FirstMembersLead, ReplicasBeginAtRest};
 
 /// What a leader offers was owed: a pump raises nothing, where no report names an open slot and at
@@ -78,4 +81,68 @@ pub fn leaders_may_leave()
 /// that sends a coordinator to another node, lower what is owed.
 pub fn moves_lower()
     ensures { MovesLower }
+{}
+
+/// A vote that a leader counts lowers what is owed: where it decides, its command goes from flight
+/// to what is ready, and nothing rises by what is executed then.
+pub fn counts_lower()
+    ensures { CountsLower }
+{}
+
+/// All that a leader executes at once, and the pump after each, raises nothing, where each entry is
+/// paid for as it comes: a call that the group serves, a change of the members, and each entry of a
+/// split or a transaction that is not given up.
+pub fn executions_raise_nothing()
+    ensures { ExecutionsRaiseNothing }
+{}
+
+/// A paid entry behind which nothing is ready needs no more than that, where the replica may pump.
+pub fn lone_entries_are_paid()
+    ensures { LoneEntriesArePaid }
+{}
+
+/// A vote lowers what is owed at a leader at which calls alone are under way, and its group serves
+/// them: no premise is left on what it executes.
+pub fn call_votes_lower()
+    ensures { CallVotesLower }
+{}
+
+/// A replica that is made at its group's birth, as the child of a split is, owes nothing but what a
+/// group owes in which none runs.
+pub fn born_replicas_owe()
+    ensures { BornReplicasOwe }
+{}
+
+/// A replica that is made of a state that is sent owes less than that mail and what a group owes in
+/// which none runs.
+pub fn made_replicas_owe()
+    ensures { MadeReplicasOwe }
+{}
+
+/// A vote lowers what is owed at a leader at which one entry is in flight, alone, and is paid for, as
+/// each order and each entry of a transaction is.
+pub fn lone_votes_lower()
+    ensures { LoneVotesLower }
+{}
+
+/// A reply, and an answer that names another node or none, lower what is owed at their client, and a
+/// client that goes raises it by the way of its first request at most.
+pub fn clients_lower()
+    ensures { ClientsLower }
+{}
+
+/// An answer that a key is another group's teaches its client one group, and what it sends then owes
+/// no more than the answer did and what a group owes that is asked in vain.
+pub fn not_mine_teaches()
+    ensures { NotMineTeaches }
+{}
+
+/// An answer that a group went into another sends a client that knows no other on to that one.
+pub fn gone_sends_on()
+    ensures { GoneSendsOn }
+{}
+
+/// A Learn of an entry that is executed lowers what is owed, also where the group is gone.
+pub fn old_learns_lower()
+    ensures { OldLearnsLower }
 {}

@@ -1,0 +1,17 @@
+-- What a replica owes when it is made.
+use Rattle.std.specs.Prelude.{◌≡◌, ℕ, ◌+◌, ◌≤◌, ◌==◌, false, List, []}
+use Rattle.sc_base.specs.declared.names.Draw.{Draw}
+use Rattle.sc_cmd.specs.declared.cores.Base.{Base}
+use Rattle.sc_mail.specs.declared.bodies.MailBody.TheVariants.{Install}
+use Rattle.sc_node_table.specs.Replica.{born_replica}
+use Rattle.sc_node_table.specs.Rows.{made_by}
+use Rattle.sc_calm_law.specs.Owed.{Ways, body_owes, idle_owes, place_owes}
+
+-- at its group's birth, as at the split that makes it: nothing but what its group owes where its first member is another node
+abbrev pub BornReplicasOwe : Type 0
+BornReplicasOwe = (ways : Ways) (ahead me : ℕ) (base : Base) → place_owes ways (born_replica ahead me base, []) ≡ idle_owes (base.core.first == me) base.core.gone
+
+-- of a state that is sent: with the mail that brought it, one less than that and what its group owes where none runs
+abbrev pub MadeReplicasOwe : Type 0
+MadeReplicasOwe =
+    (ways : Ways) (me from : ℕ) (group : Draw) (slot : ℕ) (base : Base) (sets : List (List ℕ)) → place_owes ways (made_by me from group slot base sets) + 1 ≤ idle_owes false base.core.gone + body_owes ways me (Install group slot base sets)

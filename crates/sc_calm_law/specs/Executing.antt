@@ -1,0 +1,142 @@
+-- What the entries that a leader executes one after another have to be, so that they raise nothing.
+use Rattle.std.specs.Prelude.{◌≡◌, ℕ, ◌≤◌, true, false, List, [], ◌∷◌, length, Option, None, Some, ◌⊎◌}
+use Rattle.sc_base.specs.Among.{Each}
+use Rattle.sc_base.specs.declared.names.Ballot.{Ballot}
+use Rattle.sc_base.specs.declared.names.Draw.{Draw}
+use Rattle.sc_base.specs.declared.ops.Op.{Op}
+use Rattle.sc_ideal.specs.IdealStore.{key_of, holds_key}
+use Rattle.sc_cmd.specs.declared.commands.Command.{Command}
+use Rattle.sc_cmd.specs.declared.commands.Command.TheVariants.{Noop, Call, Join, Leave, Split, Begin, Prepared, RecordVote, GiveUp, Finish, Watched, RecordWatch}
+use Rattle.sc_cmd.specs.declared.cores.Core.{Core}
+use Rattle.sc_cmd.specs.declared.cores.Lock.TheVariants.{Free}
+use Rattle.sc_cmd.specs.declared.links.Route.{Route}
+use Rattle.sc_cmd.specs.declared.votes.Past.{Past}
+use Rattle.sc_cmd.specs.declared.votes.Past.TheVariants as Cast
+use Rattle.sc_cmd.specs.Cores.{is_alone}
+use Rattle.sc_cmd.specs.Effects.{is_changed}
+use Rattle.sc_mail.specs.declared.bodies.MailBody.TheVariants.{Accepted}
+use Rattle.sc_member.specs.Roster.{is_member}
+use Rattle.sc_machine_table.specs.Machine.{applied}
+use Rattle.sc_paxos_words.specs.declared.flights.Flight.{Flight}
+use Rattle.sc_paxos_words.specs.Leaders.{without_flight}
+use Rattle.sc_node_table.specs.Pump.{serves_calls}
+use Rattle.sc_node_table.specs.Execute.{entered, executed_one, next_ready}
+use Rattle.sc_node_table.specs.Replica.{ReplicaState, Place, next, members}
+use Rattle.sc_node_table.specs.Slots.{without_slot}
+use Rattle.sc_node_table.specs.Spoken.{before_of}
+use Rattle.sc_calm_law.specs.Laws.{newcomers, IsCounting, LeadsOn, StopsAfter, MayPump, Lowers, readied_at, ExecutesFreely}
+use Rattle.sc_calm_law.specs.Owed.{Ways}
+
+-- no way by hints is longer than the longest
+abbrev pub AreBounded : Ways → Type 0
+AreBounded ways = (group : Draw) (node : ℕ) → ways.far group node ≤ ways.most
+
+-- a call that the group serves: it is not gone, no lock keeps calls waiting, and the key is its own
+pub record IsServed (op : Op) (core : Core) : Type 0 where
+  pub stands : core.gone ≡ None
+  pub serves : serves_calls core.lock ≡ true
+  pub holds : holds_key core.arc (key_of op) ≡ true
+
+-- such a call, and no other command
+abbrev pub IsServedCall : Core → Command → Type 0
+IsServedCall core (Call client seq op) = IsServed op core
+IsServedCall core Noop = ⊥
+IsServedCall core (Join node order) = ⊥
+IsServedCall core (Leave node order) = ⊥
+IsServedCall core (Split at child order) = ⊥
+IsServedCall core (Begin tx body order) = ⊥
+IsServedCall core (Prepared tx offer) = ⊥
+IsServedCall core (RecordVote tx vote by) = ⊥
+IsServedCall core (GiveUp tx) = ⊥
+IsServedCall core (Finish tx outcome) = ⊥
+IsServedCall core (Watched tx watch) = ⊥
+IsServedCall core (RecordWatch tx vote by) = ⊥
+
+-- a leader at which all that is in flight or ready is a call that the group serves, and which may pump
+pub record ServesAll (r : ReplicaState) : Type 0 where
+  pub running : r.running ≡ true
+  pub few : length (members r) ≤ 9
+  pub mine : is_member (members r) r.me ≡ true
+  pub may : MayPump r
+  pub flights : Each (λ (flight : Flight Command). IsServedCall r.group.core flight.value) r.leader.flights
+  pub ready : Each (λ (entry : ℕ × Command). IsServedCall r.group.core entry.1) r.ready
+
+-- a leader whose group is gone after the entry, and at which nothing else is in flight or ready
+pub record EndsAfter (command : Command) (r : ReplicaState) : Type 0 where
+  pub counting : IsCounting command r
+  pub into : Route
+  pub goes : (entered command r).group.core.gone ≡ Some into
+  pub flights : without_flight (next r) r.leader.flights ≡ []
+  pub alone : without_slot r.ready (next r) ≡ []
+
+-- a group has at most nine members after the entry
+abbrev pub LeavesFew : Command → ReplicaState → Type 0
+LeavesFew command r = length (members (entered command r)) ≤ 9
+
+-- a watcher's Yes; where it ends the leader's part, of a transaction in which no participant was heard, it adds nobody
+abbrev pub IsWatchPaid : Draw → Past → ℕ → ReplicaState → Type 0
+IsWatchPaid tx Cast.Yes by r =
+    LeavesFew (RecordWatch tx Cast.Yes by) r
+    × (LeadsOn (RecordWatch tx Cast.Yes by) r ⊎ (((before_of r.group.core).heard ≡ None) × (length (newcomers (RecordWatch tx Cast.Yes by) r) ≡ 0) × StopsAfter (RecordWatch tx Cast.Yes by) r))
+IsWatchPaid tx (Cast.No why) by r = ⊥
+IsWatchPaid tx Cast.Ended by r = ⊥
+
+-- what an entry has to be at the leader that counted it, by its kind. One that stops leading splits a group that is alone, or decides; no transaction is given up
+abbrev pub IsPaid : Command → ReplicaState → Type 0
+IsPaid Noop r = LeadsOn Noop r
+IsPaid (Call client seq op) r = IsCounting (Call client seq op) r × IsServed op r.group.core
+IsPaid (Join node order) r = LeadsOn (Join node order) r
+IsPaid (Leave node order) r = LeadsOn (Leave node order) r ⊎ StopsAfter (Leave node order) r
+IsPaid (Split at child order) r = (r.group.core.lock ≡ Free) × (LeadsOn (Split at child order) r ⊎ ((is_alone r.group.core ≡ true) × StopsAfter (Split at child order) r))
+IsPaid (Begin tx body order) r = LeadsOn (Begin tx body order) r
+IsPaid (Prepared tx offer) r = LeadsOn (Prepared tx offer) r
+IsPaid (RecordVote tx vote by) r = LeavesFew (RecordVote tx vote by) r × (LeadsOn (RecordVote tx vote by) r ⊎ ((is_changed (applied r.group (RecordVote tx vote by)).1 ≡ false) × StopsAfter (RecordVote tx vote by) r))
+IsPaid (GiveUp tx) r = ⊥
+IsPaid (Finish tx outcome) r = LeadsOn (Finish tx outcome) r ⊎ EndsAfter (Finish tx outcome) r
+IsPaid (Watched tx watch) r = LeadsOn (Watched tx watch) r
+IsPaid (RecordWatch tx vote by) r = IsWatchPaid tx vote by r
+
+-- a replica at which a pump raises nothing, where it runs
+abbrev pub MayGoOn : ReplicaState → Type 0
+MayGoOn r = r.running ≡ true → MayPump r
+
+-- one thing of the command that is there, and another where none is
+abbrev pub IfThere : (Command → Type 0) → Type 0 → Option Command → Type 0
+IfThere there none None = none
+IfThere there none (Some command) = there command
+
+-- the entries that are ready, so many at most, one after another; and what the pump then finds
+abbrev pub ArePaid : List (ℕ × Command) → Place → Type 0
+ArePaid [] place = MayGoOn place.0
+ArePaid (e ∷ es) place = IfThere (λ command. IsPaid command place.0 × ArePaid es (executed_one true command place)) (MayGoOn place.0) (next_ready place.0)
+
+-- an entry, and those that are ready behind it
+abbrev pub AllPaid : Command → Place → Type 0
+AllPaid command place = IsPaid command place.0 × ArePaid (executed_one true command place).0.ready (executed_one true command place)
+
+-- such entries raise nothing, with all that is offered after them
+abbrev pub ExecutionsRaiseNothing : Type 0
+ExecutionsRaiseNothing = (ways : Ways) (command : Command) (place : Place) → AreBounded ways → AllPaid command place → ExecutesFreely ways command place
+
+-- an entry behind which nothing is ready need only be one itself, and leave at most nine members
+abbrev pub LoneEntriesArePaid : Type 0
+LoneEntriesArePaid =
+    (command : Command) (place : Place) → IsPaid command place.0 → without_slot place.0.ready (next place.0) ≡ [] → MayPump place.0 → LeavesFew command place.0 → AllPaid command place
+
+-- a vote at a leader that serves calls alone lowers what is owed, with all that it executes then
+abbrev pub CallVotesLower : Type 0
+CallVotesLower =
+    (ways : Ways) (from : ℕ) (group : Draw) (ballot : Ballot) (slot : ℕ) (place : Place) → AreBounded ways → ServesAll place.0 → Lowers ways from (Accepted group ballot slot) place
+
+-- one entry is in flight, at this slot, and none is ready; where the slot is the next one, the entry is paid for
+pub record FliesAlone (slot : ℕ) (flight : Flight Command) (r : ReplicaState) : Type 0 where
+  pub flights : r.leader.flights ≡ flight ∷ []
+  pub ready : r.ready ≡ []
+  pub may : MayPump r
+  pub paid : slot ≡ next r → IsPaid flight.value (readied_at slot flight.value r)
+  pub leaves : slot ≡ next r → LeavesFew flight.value (readied_at slot flight.value r)
+
+-- a vote at a leader at which one paid entry is in flight, alone, lowers what is owed, with all that it executes then
+abbrev pub LoneVotesLower : Type 0
+LoneVotesLower =
+    (ways : Ways) (from : ℕ) (group : Draw) (ballot : Ballot) (slot : ℕ) (flight : Flight Command) (place : Place) → AreBounded ways → FliesAlone slot flight place.0 → Lowers ways from (Accepted group ballot slot) place
