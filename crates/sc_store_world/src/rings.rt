@@ -204,7 +204,7 @@ pub fn ring_after(
     ensures { MatchResult result
         (λ after. after.items ≡ ring_after core.now command.now effect.now ring.items)
         (λ fault. fault ≡ NoArc →
-            HaveArcs (ring_after core.now command.now effect.now ring.items) → ⊥) }
+        HaveArcs (ring_after core.now command.now effect.now ring.items) → ⊥) }
 {
     let outcome = decided_by(command, effect);
     let division = division_of(core, command, effect);

@@ -86,7 +86,7 @@ fn change_ring(
     ensures { MatchResult result
         (λ _. ring.new.items ≡ ring_after core.now command.now effect.now ring.old.items)
         (λ fault. fault ≡ NoArc →
-            HaveArcs (ring_after core.now command.now effect.now ring.old.items) → ⊥) }
+        HaveArcs (ring_after core.now command.now effect.now ring.old.items) → ⊥) }
 {
     let old = mem::replace(ring, Vec::new(alloc));
     match ring_after(alloc, core, command, effect, old) {
@@ -128,11 +128,11 @@ impl StoreWorld {
         requires { IsFirstNamed name self.old.groups at }
         ensures { MatchResult result
             (λ _. (group : Group) → named_group name self.old.groups ≡ Some group →
-                self.new ≡ with_result self.old group command.now (applied group command.now))
+            self.new ≡ with_result self.old group command.now (applied group command.now))
             (λ fault. fault ≡ NoArc →
-                (group : Group) → named_group name self.old.groups ≡ Some group →
-                HaveArcs (with_result self.old group command.now (applied group command.now)).ring →
-                ⊥) }
+            (group : Group) → named_group name self.old.groups ≡ Some group →
+            HaveArcs (with_result self.old group command.now (applied group command.now)).ring →
+            ⊥) }
     {
         let (core, effect) = execute(self.alloc, &mut self.groups, at, command)?;
         tell(self.alloc, &mut self.transactions, &core, command, &effect)?;
