@@ -2,21 +2,17 @@
 ghost use Rattle.std.specs.Prelude.{◌≡◌, ◌<◌, ◌≤◌, ◌+◌, ◌^◌, [], true, false, length, fold, slice_get, Some, IfOk, OnOk, MatchResult};
 ghost use Rattle.sc_actor.specs.Mail.{mails};
 ghost use Rattle.sc_actor.specs.declared.rows.Event.TheVariants.{Go};
-ghost use Rattle.sc_base.specs.Limits.{client_actor, most_requests};
+ghost use Rattle.sc_base.specs.Limits.{client_actor};
 ghost use Rattle.sc_by_hand.specs.Deeds.{after_deed, deeds_of, delivery};
-ghost use Rattle.sc_client_table.specs.Client.{born_client};
 ghost use Rattle.sc_mail.specs.declared.bodies.Mail.{Mail};
-ghost use Rattle.sc_node_table.specs.Node.{are_in_order, born_node};
-ghost use Rattle.sc_node_table.specs.Slots.{slots_ahead};
 ghost use Rattle.sc_scenario.specs.Valid.{IsValid};
 ghost use Rattle.sc_world.specs.Replays.{IsFault};
 ghost use Rattle.sc_world.specs.Worlds.{StandsFor};
 
-use crate::steps::{Log, act, deliver};
-use sc_actor::{Event, Input};
-use sc_base::{Dup, Op, OutOfMemory, Sequence};
+use crate::steps::{Log, deliver, start};
+use sc_base::OutOfMemory;
 use sc_client::ClientCore;
-use sc_cmd::{Base, OrderLine, Route};
+use sc_cmd::OrderLine;
 use sc_mail::{Mail, client_number};
 use sc_node::NodeCore;
 use sc_scenario::Scenario;
@@ -28,8 +24,8 @@ use std::alloc::Global;
 pub const SCENARIO: &[u8] =
     b"scatter 1\nnodes 2\ngroup 0 1 2\nclient 1\nput a x\nend\ngo 1\nsettle 1000\n";
 
-/// Two nodes and a client, and what they did.
-#[derive(Drop)]
+/// Two nodes and a client, and what they did. Whoever is done with it takes it apart: each part may
+/// be dropped by itself.
 pub struct Hand {
     pub first: NodeCore,
     pub second: NodeCore,
@@ -38,29 +34,20 @@ pub struct Hand {
 }
 
 impl Hand {
-    /// Nodes 1 and 2 at the birth of groups, and client 1 with its requests, which knows one group.
-    pub fn born(
-        alloc: Global,
-        groups: &Sequence<Base>,
-        requests: &Sequence<Op>,
-        known: Route,
-    ) -> Result<Hand, OutOfMemory>
-        requires ordered { are_in_order groups.now ≡ true }
-        requires few { length requests.now ≤ most_requests }
-        ensures first { IfOk result (λ hand.
-            hand.first ≡ born_node slots_ahead 1 groups.now false) }
-        ensures second { IfOk result (λ hand.
-            hand.second ≡ born_node slots_ahead 2 groups.now false) }
-        ensures client { IfOk result (λ hand. hand.client ≡ born_client 1 requests.now known) }
-        ensures idle { IfOk result (λ hand. (hand.log.rows ≡ []) × (hand.log.wire ≡ [])) }
-        ensures carried { IfOk result (λ hand. hand.log.wire ≡ mails hand.log.rows) }
+    /// These two nodes, numbered 1 and 2, and this client, numbered 1, as nothing was done yet.
+    pub fn new(alloc: Global, first: NodeCore, second: NodeCore, client: ClientCore) -> Hand
+        ensures first { result.first ≡ first }
+        ensures second { result.second ≡ second }
+        ensures client { result.client ≡ client }
+        ensures idle { (result.log.rows ≡ []) × (result.log.wire ≡ []) }
+        ensures carried { result.log.wire ≡ mails result.log.rows }
     {
-        Ok(Hand {
-            first: NodeCore::born(alloc, 1, groups, false)?,
-            second: NodeCore::born(alloc, 2, groups, false)?,
-            client: ClientCore::born(alloc, 1, requests.dup(alloc)?, known)?,
+        Hand {
+            first,
+            second,
+            client,
             log: Log::new(alloc),
-        })
+        }
     }
 
     // The mail at a place goes to whom it is for. What is for another, as for the desk, makes no row.
@@ -90,9 +77,7 @@ impl Hand {
         ensures deed { OnOk result (self.new ≡ after_deed self.old (client_actor 1, Go)) }
         ensures carried { OnOk result (self.new.log.wire ≡ mails self.new.log.rows) }
     {
-        let who = client_number(1);
-        let client = &mut self.client;
-        act(alloc, who, client, Event::Go, &Input::Go, &mut self.log)
+        start(alloc, client_number(1), &mut self.client, &mut self.log)
     }
 
     /// The client starts, and the first `most` mails are delivered in the order in which they are

@@ -7,4 +7,4 @@ mod hand;
 mod steps;
 
 pub use hand::{Hand, SCENARIO};
-pub use steps::{Log, act, deliver};
+pub use steps::{Log, act, deliver, start};

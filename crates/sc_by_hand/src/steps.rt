@@ -2,7 +2,7 @@
 ghost use Rattle.std.specs.Prelude.{◌≡◌, ◌<◌, ◌+◌, ◌++◌, ◌^◌, ◌∷◌, [], length, OnOk, OnErr};
 ghost use Rattle.sc_actor.specs.Mail.{mails};
 ghost use Rattle.sc_actor.specs.Replay.{acted, input_of};
-ghost use Rattle.sc_actor.specs.declared.rows.Event.TheVariants.{Deliver};
+ghost use Rattle.sc_actor.specs.declared.rows.Event.TheVariants.{Deliver, Go};
 
 use sc_actor::{Actor, Event, Input, Journal, Row, journals_grow};
 use sc_base::{Dup, OutOfMemory, Sequence};
@@ -91,4 +91,26 @@ pub fn deliver<A: Actor>(
     let mail = log.wire.at(place).dup(alloc)?;
     let event = Event::Deliver(place as u32 + 1);
     act(alloc, who, actor, event, &Input::Got(mail), log)
+}
+
+/// The actor with a number starts. After want of memory no row is added, and the actor and the log
+/// may only be dropped.
+pub fn start<A: Actor>(
+    alloc: Global,
+    who: u32,
+    actor: &mut A,
+    log: &mut Log<A::Mail, A::Order>,
+) -> Result<(), OutOfMemory>
+    requires carried { log.old.wire ≡ mails log.old.rows }
+    ensures actor { OnOk result (actor.new
+        ≡ (acted A.table actor.old (input_of (mails log.old.rows) Go)).0) }
+    ensures row { OnOk result (log.new.rows ≡ log.old.rows ++ record {
+      who = who;
+      event = Go;
+      sent = (acted A.table actor.old (input_of (mails log.old.rows) Go)).1;
+    } ∷ []) }
+    ensures carried { OnOk result (log.new.wire ≡ mails log.new.rows) }
+    ensures unchanged { OnErr result (log.new.rows ≡ log.old.rows) }
+{
+    act(alloc, who, actor, Event::Go, &Input::Go, log)
 }

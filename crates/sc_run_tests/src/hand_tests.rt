@@ -6,12 +6,13 @@ ghost use Rattle.sc_scenario.specs.Valid.{IsValid};
 
 use crate::replay_tests::scenario_of;
 use sc_actor::{Event, Input, Row, are_few};
-use sc_base::MOST_REQUESTS;
+use sc_base::{Dup, MOST_REQUESTS};
 use sc_by_hand::{Hand, SCENARIO, act};
+use sc_client::ClientCore;
 use sc_cmd::{OrderLine, Route};
 use sc_journal::row_text;
 use sc_mail::Mail;
-use sc_node::are_in_order;
+use sc_node::{NodeCore, are_in_order};
 use sc_scenario::Scenario;
 use sc_world::ReplayFault;
 use std::alloc::Global;
@@ -54,7 +55,11 @@ fn born(rt: &impl Abort, alloc: Global, scenario: &Scenario) -> Hand
     };
     let requests = &scenario.clients.at(0).ops;
     assert!(rt; requests.len() <= MOST_REQUESTS);
-    Hand::born(alloc, groups, requests, known).expect(rt, "memory")
+    let first = NodeCore::born(alloc, 1, groups, false).expect(rt, "memory");
+    let second = NodeCore::born(alloc, 2, groups, false).expect(rt, "memory");
+    let asks = requests.dup(alloc).expect(rt, "memory");
+    let client = ClientCore::born(alloc, 1, asks, known).expect(rt, "memory");
+    Hand::new(alloc, first, second, client)
 }
 
 fn have_texts(
