@@ -74,7 +74,6 @@ fn scan_of(
     entries: &[LogEntry],
     arc: &RingArc,
 ) -> Result<Vec<Shown>, OutOfMemory>
-    requires { CoverThroughout bases.now (entries_at as_nodes bases.now rows.now) }
     ensures scan { IfOk result
         (λ scan. scan.items ≡ scan_of world.now (entries_in entries.now) arc.now) }
     ensures arc { IsArc arc.now × (arc.now.lo < 2 ^ 32) }
@@ -97,6 +96,7 @@ pub fn scan(
     rows: &[Row<Mail, OrderLine>],
     arc: &RingArc,
 ) -> Result<Vec<Shown>, OutOfMemory>
+    requires { CoverThroughout bases.now (entries_at as_nodes bases.now rows.now) }
     ensures scan { IfOk result (λ scan. scan.items ≡ scan_of (world_at as_nodes bases.now rows.now)
         (entries_in (entries_at as_nodes bases.now rows.now)) arc.now) }
     ensures arc { IfOk result (λ _. IsArc arc.now × (arc.now.lo < 2 ^ 32)) }
