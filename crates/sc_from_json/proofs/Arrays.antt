@@ -1,8 +1,9 @@
 -- The items of arrays.
-use Rattle.std.proofs.Common.{◌≡◌, ℕ, zero, suc, ◌+◌, ◌<◌, ◌≤◌, List, [], ◌∷◌, ◌++◌, length, take, get_or, refl, ap, sym, ◌∙◌, arith}
-use Rattle.std.proofs.lemmas.List.{take_all}
-use Rattle.serde_json.specs.Data.{Data, item}
-use Rattle.serde_json.specs.View.{view, items_view}
+use Rattle.std.proofs.Common.{◌≡◌, ℕ, zero, suc, ◌+◌, ◌<◌, ◌≤◌, List, [], ◌∷◌, ◌++◌, length, map, take, get_or, Some, refl, ap, ap₂, sym, ◌∙◌, arith}
+use Rattle.std.proofs.lemmas.List.{take_all, take_more, map-append}
+use Rattle.serde_json.specs.Data.{Data, Items, null, boolean, number, string, array, object, item}
+use Rattle.serde_json.specs.Find.{as_array}
+use Rattle.serde_json.specs.View.{view, items_of, items_view}
 use Rattle.serde_json.specs.declared.value.Value.{Value}
 use Rattle.sc_base.specs.Among.{Each}
 use Rattle.sc_row_text.specs.Shapes.{items_json}
@@ -33,3 +34,25 @@ pub one_more : {T : Type 0} (values : List T) (i : ℕ) (found value : T) (old n
 one_more values i found value old new before pushed is next =
     let more : suc i ≡ i + 1 = omega arith in
     pushed ∙ (ap (λ l. l ++ found ∷ []) before ∙ (ap (λ x. take i values ++ x ∷ []) is ∙ (sym next ∙ ap (λ n. take n values) more)))
+
+-- one more item is seen as its value
+pub seen_more : {T : Type 0} (json_of : T → Data) (list : List Value) (i : ℕ) (json : Value) (found : T) (old new : List T) → i < length list → json ≡ get_or list i json → view json ≡ json_of found → new ≡ old ++ found ∷ [] → map view (take i list) ≡ map json_of old → map view (take (i + 1) list) ≡ map json_of new
+seen_more json_of list i json found old new within is read pushed before =
+    ap (map view) (take_more list i json within) ∙ (map-append view (take i list) (get_or list i json ∷ []) ∙ (ap₂ (λ a b. a ++ b ∷ []) before (ap view (sym is) ∙ read) ∙ (sym (map-append json_of old (found ∷ [])) ∙ ap (map json_of) (sym pushed))))
+
+items_by : {T : Type 0} (json_of : T → Data) (values : List T) → items_of (map json_of values) ≡ items_json json_of values
+items_by json_of [] = refl
+items_by json_of (x ∷ xs) = ap (item (json_of x)) (items_by json_of xs)
+
+-- all items are seen as their values
+pub all_seen : {T : Type 0} (json_of : T → Data) (list : List Value) (values : List T) (i : ℕ) → length list ≤ i → map view (take i list) ≡ map json_of values → items_view list ≡ items_json json_of values
+all_seen json_of list values i full seen = ap (λ l. items_of (map view l)) (sym (take_all i list full)) ∙ (ap items_of seen ∙ items_by json_of values)
+
+-- what has these items is an array of them
+pub is_array : (json : Data) (ds : Items) → Some ds ≡ as_array json → json ≡ array ds
+is_array null ds is = absurd (cc)
+is_array (boolean b) ds is = absurd (cc)
+is_array (number n) ds is = absurd (cc)
+is_array (string s) ds is = absurd (cc)
+is_array (array es) ds is = cc
+is_array (object ms) ds is = absurd (cc)

@@ -1,12 +1,14 @@
 -- The digits of numbers.
-use Rattle.std.proofs.Common.{◌≡◌, ℕ, suc, ◌+◌, ◌*◌, ◌-◌, ◌%◌, ◌^◌, ◌<◌, ◌≤◌, ◌==◌, ◌&&◌, not, true, false, cond, leb, nat_lt, List, [], ◌∷◌, ◌++◌, length, take, drop, get_or, position, Option, Some, None, Result, Ok, Err, codes, refl, ap, ap₂, ◌∙◌, arith, inl, inr, append_assoc, length-append}
+use Rattle.std.proofs.Common.{◌≡◌, ℕ, suc, ◌+◌, ◌*◌, ◌-◌, ◌%◌, ◌^◌, ◌<◌, ◌≤◌, ◌==◌, ◌&&◌, not, Bool, true, false, cond, leb, nat_lt, List, [], ◌∷◌, ◌++◌, length, take, drop, get_or, position, Option, Some, None, Result, Ok, Err, codes, refl, ap, ap₂, sym, ◌∙◌, arith, rules, inl, inr, append_assoc, length-append}
 use Rattle.std.specs.Fmt.{decimal}
 use Rattle.std.specs.Char.{is_ascii_digit}
 use Rattle.std.specs.List.{list_all, prefix_len}
-use Rattle.std.proofs.lemmas.Fmt.{decimal_by_steps, decimal_nonempty, decimal_digit, first_decimal}
+use Rattle.std.proofs.lemmas.Fmt.{decimal_by_steps, decimal_nonempty, decimal_digit, first_decimal, decimal-digits_value}
 use Rattle.std.proofs.lemmas.Nat.{mod_below}
-use Rattle.std.proofs.lemmas.Bool.{le-leb, ne_eqb, and_parts, cases_lt}
-use Rattle.std.proofs.lemmas.List.{take_all}
+use Rattle.std.proofs.lemmas.Bool.{le-leb, leb-true, eqb-true, ne_eqb, and_parts, cases_lt}
+use Rattle.std.proofs.lemmas.List.{take_all, take_rest, take-append-drop, drop_more}
+use Rattle.std.proofs.lemmas.List.Quantifiers.{position-Some}
+use Rattle.std.proofs.lemmas.Str.Parse.{IsNumeralModel, numerals_by_fold}
 use Rattle.std.proofs.lemmas.List.Folds.{list_all-append}
 use Rattle.sc_base.specs.Number.{value_from, is_numeral, number_of}
 use Rattle.sc_base.specs.declared.names.Draw.{Draw}
@@ -115,3 +117,42 @@ not_none read x none some = let clash : None ≡ Some x = none ∙ some in cc
 pub kept : {E : Type 0} (P : Type 0) (result : Result ℕ E) (n found : ℕ) → OkIff result P n → Some found ≡ result_ok result → found ≡ n
 kept P (Ok m) n found iff is = cc iff.1
 kept P (Err e) n found iff is = absurd (cc)
+
+-- ---- from a text to its number, and back
+
+own : IsNumeralModel (λ ds. list_all is_ascii_digit ds ≡ true) (value_from 0)
+own = numerals_by_fold _ (search rules) value_from (search rules)
+
+-- a numeral is what is written of its value
+numeral_back : (ds : List ℕ) → is_numeral ds ≡ true → value_from 0 ds < 2 ^ 64 → decimal (value_from 0 ds) ≡ ds
+numeral_back [] is small = absurd (cc)
+numeral_back (d ∷ []) is small = decimal-digits_value own (d ∷ []) (ap (λ b. b && true) is) (omega arith) (λ z. refl) small
+numeral_back (d ∷ e ∷ ds) is small =
+    let parts = and_parts (not (d == 48)) (list_all is_ascii_digit (d ∷ e ∷ ds)) is in
+    let first : d ≡ 48 → length (d ∷ e ∷ ds) ≡ 1 = λ z. let clash : not (d == 48) ≡ false = ap (λ n. not (n == 48)) z in absurd (cc) in
+    decimal-digits_value own (d ∷ e ∷ ds) parts.1 (omega arith) first small
+
+guarded : (b : Bool) (v n : ℕ) → Some n ≡ cond b (Some v) None → (b ≡ true) × (n ≡ v)
+guarded true v n is = (refl, cc)
+guarded false v n is = absurd (cc)
+
+-- what is read as a number is what is written of it
+pub number_back : (text : List ℕ) (most n : ℕ) → most < 2 ^ 64 → Some n ≡ number_of text most → decimal n ≡ text
+number_back text most n small is =
+    let both = guarded (is_numeral text && leb (value_from 0 text) most) (value_from 0 text) n is in
+    let tests = and_parts (is_numeral text) (leb (value_from 0 text) most) both.0 in
+    ap decimal both.1 ∙ numeral_back text tests.0 (omega (arith, leb-true (value_from 0 text) most tests.1))
+
+-- a text is what stands before its dot, the dot, and what stands behind
+split_at : (text : List ℕ) (dot : ℕ) → Some dot ≡ position (λ byte. byte == 46) text → text ≡ take dot text ++ 46 ∷ drop (dot + 1) text
+split_at text dot place =
+    let at = position-Some (λ byte. byte == 46) text dot 0 (sym place) in
+    sym (take-append-drop dot text) ∙ ap (λ l. take dot text ++ l) (drop_more text dot 0 at.0 ∙ ap (λ x. x ∷ drop (dot + 1) text) (eqb-true (get_or text dot 0) 46 at.1))
+
+-- a text that is read as a name is its JSON
+pub draw_back : (text : List ℕ) (draw : Draw) (dot node count : ℕ) → Some dot ≡ position (λ byte. byte == 46) text → Some node ≡ number_of (take dot text) 65535 → Some count ≡ number_of (take (length text - (dot + 1)) (drop (dot + 1) text)) 4294967295 → draw.node ≡ node → draw.count ≡ count → string text ≡ draw_json draw
+unfolding draw_json
+draw_back text draw dot node count place before behind first second =
+    let front : decimal draw.node ≡ take dot text = ap decimal first ∙ number_back (take dot text) 65535 node (omega arith) before in
+    let rest : decimal draw.count ≡ drop (dot + 1) text = ap decimal second ∙ (number_back (take (length text - (dot + 1)) (drop (dot + 1) text)) 4294967295 count (omega arith) behind ∙ take_rest text (dot + 1)) in
+    ap string (split_at text dot place ∙ (sym (append_assoc (take dot text) (codes ".") (drop (dot + 1) text)) ∙ ap₂ (λ a b. (a ++ codes ".") ++ b) (sym front) (sym rest)))

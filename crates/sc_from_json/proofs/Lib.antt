@@ -1,7 +1,10 @@
 pub mod Arrays
 pub mod Digits
+pub mod Echoes
 pub mod Finding
 pub mod Members
 pub mod Nodes
+pub mod Rests
 pub mod Risen
 pub mod TextSteps
+pub mod Variants

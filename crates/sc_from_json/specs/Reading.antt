@@ -1,6 +1,8 @@
 -- What a reader finds.
-use Rattle.std.specs.Prelude.{◌≡◌, Result, MatchResult, ⊤}
+use Rattle.std.specs.Prelude.{◌≡◌, ℕ, List, Result, MatchResult, IsSome, ⊤}
+use Rattle.serde_json.specs.Find.{as_str}
 use Rattle.serde_json.specs.Data.{Data, null, boolean, number, string, array, object, Members, no_members, member}
+use Rattle.sc_row_text.specs.Shapes.{variant}
 use Rattle.sc_from_json.specs.declared.faults.RowFault.{RowFault}
 use Rattle.sc_from_json.specs.declared.faults.RowFault.TheVariants.{OutOfMemory}
 
@@ -26,16 +28,34 @@ content_of (string name) = string name
 content_of (array ds) = null
 content_of (object ms) = first_content ms
 
--- members of which there is a first
-abbrev pub HasFirst : Members → Type 0
-HasFirst no_members = ⊥
-HasFirst (member name content ms) = ⊤
+-- no more members
+abbrev pub IsEnd : Members → Type 0
+IsEnd no_members = ⊤
+IsEnd (member name content ms) = ⊥
 
--- what may be a variant: a string, or an object that is not empty
+-- exactly one member
+abbrev pub IsSingle : Members → Type 0
+IsSingle no_members = ⊥
+IsSingle (member name content ms) = IsEnd ms
+
+-- what may be a variant: a string, or an object of one member
 abbrev pub MayBeVariant : Data → Type 0
 MayBeVariant null = ⊥
 MayBeVariant (boolean b) = ⊥
 MayBeVariant (number n) = ⊥
 MayBeVariant (string name) = ⊤
 MayBeVariant (array ds) = ⊥
-MayBeVariant (object ms) = HasFirst ms
+MayBeVariant (object ms) = IsSingle ms
+
+-- a string: a variant without content is its name alone
+abbrev pub IsWord : Data → Type 0
+IsWord json = IsSome (as_str json)
+
+-- a JSON is this name alone, or an object of one member with this name and this content
+abbrev pub Spells : Data → List ℕ → Data → Type 0
+Spells null name content = ⊥
+Spells (boolean b) name content = ⊥
+Spells (number n) name content = ⊥
+Spells (string word) name content = (word ≡ name) × (content ≡ string word)
+Spells (array ds) name content = ⊥
+Spells (object ms) name content = object ms ≡ variant name content

@@ -1,5 +1,5 @@
 //! Answers.
-ghost use Rattle.std.specs.Prelude.{◌≡◌, codes};
+ghost use Rattle.std.specs.Prelude.{◌≡◌, IfOk, codes};
 ghost use Rattle.serde_json.specs.View.{view};
 ghost use Rattle.sc_mail.specs.declared.bodies.AnswerBody.{AnswerBody};
 ghost use Rattle.sc_row_text.specs.Shapes.{variant as variant_json};
@@ -8,56 +8,66 @@ ghost use Rattle.sc_row_text.specs.Answers.{answer_body_json, FitsAnswerBody};
 
 use crate::faults::RowFault;
 use crate::from_json::FromJson;
-use crate::reading::{member, pair_of, variant_parts, whole};
+use crate::reading::{pair_of, single_of, variant_parts, whole};
 use sc_mail::AnswerBody;
 use serde_json::Value as Json;
 use std::alloc::Global;
 
 fn answer_body_value(alloc: Global, content: &Json) -> Result<AnswerBody, RowFault>
-    ensures { (inner : _) → FitsAnswerBody (AnswerBody.Value inner)
+    ensures finds { (inner : _) → FitsAnswerBody (AnswerBody.Value inner)
         → variant_json (codes "Value") (view content.now)
         ≡ answer_body_json (AnswerBody.Value inner)
         → Finds (AnswerBody.Value inner) result }
+    ensures exact { IfOk result (λ value.
+        variant_json (codes "Value") (view content.now) ≡ answer_body_json value) }
 {
     let inner = whole(alloc, content)?;
     Ok(AnswerBody::Value(inner))
 }
 
 fn answer_body_not_leader(alloc: Global, content: &Json) -> Result<AnswerBody, RowFault>
-    ensures { (hint : _) → FitsAnswerBody (AnswerBody.NotLeader hint)
+    ensures finds { (hint : _) → FitsAnswerBody (AnswerBody.NotLeader hint)
         → variant_json (codes "NotLeader") (view content.now)
         ≡ answer_body_json (AnswerBody.NotLeader hint)
         → Finds (AnswerBody.NotLeader hint) result }
+    ensures exact { IfOk result (λ value.
+        variant_json (codes "NotLeader") (view content.now) ≡ answer_body_json value) }
 {
-    let hint = member(alloc, content, "hint")?;
+    let hint = single_of(alloc, content, "hint")?;
     Ok(AnswerBody::NotLeader { hint })
 }
 
 fn answer_body_not_mine(alloc: Global, content: &Json) -> Result<AnswerBody, RowFault>
-    ensures { (arc : _) (succ : _) → FitsAnswerBody (AnswerBody.NotMine arc succ)
+    ensures finds { (arc : _) (succ : _) → FitsAnswerBody (AnswerBody.NotMine arc succ)
         → variant_json (codes "NotMine") (view content.now)
         ≡ answer_body_json (AnswerBody.NotMine arc succ)
         → Finds (AnswerBody.NotMine arc succ) result }
+    ensures exact { IfOk result (λ value.
+        variant_json (codes "NotMine") (view content.now) ≡ answer_body_json value) }
 {
     let (arc, succ) = pair_of(alloc, content, "arc", "succ")?;
     Ok(AnswerBody::NotMine { arc, succ })
 }
 
 fn answer_body_gone(alloc: Global, content: &Json) -> Result<AnswerBody, RowFault>
-    ensures { (into : _) → FitsAnswerBody (AnswerBody.Gone into)
+    ensures finds { (into : _) → FitsAnswerBody (AnswerBody.Gone into)
         → variant_json (codes "Gone") (view content.now) ≡ answer_body_json (AnswerBody.Gone into)
         → Finds (AnswerBody.Gone into) result }
+    ensures exact { IfOk result (λ value.
+        variant_json (codes "Gone") (view content.now) ≡ answer_body_json value) }
 {
-    let into = member(alloc, content, "into")?;
+    let into = single_of(alloc, content, "into")?;
     Ok(AnswerBody::Gone { into })
 }
 
 fn answer_body_stale(alloc: Global, content: &Json) -> Result<AnswerBody, RowFault>
-    ensures { (last : _) → FitsAnswerBody (AnswerBody.Stale last)
+    ensures finds { (last : _) → FitsAnswerBody (AnswerBody.Stale last)
         → variant_json (codes "Stale") (view content.now) ≡ answer_body_json (AnswerBody.Stale last)
         → Finds (AnswerBody.Stale last) result }
+    ensures exact { IfOk result (λ value.
+        variant_json (codes "Stale") (view content.now) ≡ answer_body_json value) }
 {
-    let last = member(alloc, content, "last")?;
+    let last = single_of(alloc, content, "last")?;
     Ok(AnswerBody::Stale { last })
 }
 

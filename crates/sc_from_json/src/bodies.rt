@@ -1,5 +1,5 @@
 //! What transactions do and ask.
-ghost use Rattle.std.specs.Prelude.{◌≡◌, codes};
+ghost use Rattle.std.specs.Prelude.{◌≡◌, IfOk, codes};
 ghost use Rattle.serde_json.specs.View.{view};
 ghost use Rattle.sc_cmd.specs.declared.bodies.Body.{Body};
 ghost use Rattle.sc_row_text.specs.Shapes.{variant as variant_json};
@@ -10,33 +10,39 @@ ghost use Rattle.sc_row_text.specs.Bodies.{watch_json, FitsWatch};
 
 use crate::faults::RowFault;
 use crate::from_json::FromJson;
-use crate::reading::{member, pair_of, six_of, variant_parts};
+use crate::reading::{pair_of, single_of, six_of, variant_parts, word};
 use sc_cmd::{Body, Offer, Watch};
 use serde_json::Value as Json;
 use std::alloc::Global;
 
 fn body_repart(alloc: Global, content: &Json) -> Result<Body, RowFault>
-    ensures { (at : _) → FitsBody (Body.Repart at)
+    ensures finds { (at : _) → FitsBody (Body.Repart at)
         → variant_json (codes "Repart") (view content.now) ≡ body_json (Body.Repart at)
         → Finds (Body.Repart at) result }
+    ensures exact { IfOk result (λ value.
+        variant_json (codes "Repart") (view content.now) ≡ body_json value) }
 {
-    let at = member(alloc, content, "at")?;
+    let at = single_of(alloc, content, "at")?;
     Ok(Body::Repart { at })
 }
 
 fn body_migrate(alloc: Global, content: &Json) -> Result<Body, RowFault>
-    ensures { (node : _) → FitsBody (Body.Migrate node)
+    ensures finds { (node : _) → FitsBody (Body.Migrate node)
         → variant_json (codes "Migrate") (view content.now) ≡ body_json (Body.Migrate node)
         → Finds (Body.Migrate node) result }
+    ensures exact { IfOk result (λ value.
+        variant_json (codes "Migrate") (view content.now) ≡ body_json value) }
 {
-    let node = member(alloc, content, "node")?;
+    let node = single_of(alloc, content, "node")?;
     Ok(Body::Migrate { node })
 }
 
 fn body_split(alloc: Global, content: &Json) -> Result<Body, RowFault>
-    ensures { (at : _) (child : _) → FitsBody (Body.Split at child)
+    ensures finds { (at : _) (child : _) → FitsBody (Body.Split at child)
         → variant_json (codes "Split") (view content.now) ≡ body_json (Body.Split at child)
         → Finds (Body.Split at child) result }
+    ensures exact { IfOk result (λ value.
+        variant_json (codes "Split") (view content.now) ≡ body_json value) }
 {
     let (at, child) = pair_of(alloc, content, "at", "child")?;
     Ok(Body::Split { at, child })
@@ -52,7 +58,7 @@ impl FromJson for Body {
             return Err(RowFault::NoRow);
         };
         match name {
-            "Merge" => Ok(Body::Merge),
+            "Merge" => word(json, Body::Merge),
             "Repart" => body_repart(alloc, content),
             "Migrate" => body_migrate(alloc, content),
             "Split" => body_split(alloc, content),

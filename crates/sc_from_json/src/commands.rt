@@ -1,5 +1,5 @@
 //! Commands and reports of them.
-ghost use Rattle.std.specs.Prelude.{◌≡◌, codes};
+ghost use Rattle.std.specs.Prelude.{◌≡◌, IfOk, codes};
 ghost use Rattle.serde_json.specs.View.{view};
 ghost use Rattle.sc_cmd.specs.declared.commands.Command.{Command};
 ghost use Rattle.sc_row_text.specs.Shapes.{variant as variant_json};
@@ -9,113 +9,135 @@ ghost use Rattle.sc_row_text.specs.Commands.{report_json, FitsReport};
 
 use crate::faults::RowFault;
 use crate::from_json::FromJson;
-use crate::reading::{member, pair_of, triple_of, variant_parts};
+use crate::reading::{pair_of, single_of, triple_of, variant_parts, word};
 use sc_cmd::Command;
 use sc_paxos_words::Report;
 use serde_json::Value as Json;
 use std::alloc::Global;
 
 fn command_call(alloc: Global, content: &Json) -> Result<Command, RowFault>
-    ensures { (client : _) (seq : _) (op : _) → FitsCommand (Command.Call client seq op)
+    ensures finds { (client : _) (seq : _) (op : _) → FitsCommand (Command.Call client seq op)
         → variant_json (codes "Call") (view content.now) ≡ command_json (Command.Call client seq op)
         → Finds (Command.Call client seq op) result }
+    ensures exact { IfOk result (λ value.
+        variant_json (codes "Call") (view content.now) ≡ command_json value) }
 {
     let (client, op, seq) = triple_of(alloc, content, "client", "op", "seq")?;
     Ok(Command::Call { client, seq, op })
 }
 
 fn command_join(alloc: Global, content: &Json) -> Result<Command, RowFault>
-    ensures { (node : _) (order : _) → FitsCommand (Command.Join node order)
+    ensures finds { (node : _) (order : _) → FitsCommand (Command.Join node order)
         → variant_json (codes "Join") (view content.now) ≡ command_json (Command.Join node order)
         → Finds (Command.Join node order) result }
+    ensures exact { IfOk result (λ value.
+        variant_json (codes "Join") (view content.now) ≡ command_json value) }
 {
     let (node, order) = pair_of(alloc, content, "node", "order")?;
     Ok(Command::Join { node, order })
 }
 
 fn command_leave(alloc: Global, content: &Json) -> Result<Command, RowFault>
-    ensures { (node : _) (order : _) → FitsCommand (Command.Leave node order)
+    ensures finds { (node : _) (order : _) → FitsCommand (Command.Leave node order)
         → variant_json (codes "Leave") (view content.now) ≡ command_json (Command.Leave node order)
         → Finds (Command.Leave node order) result }
+    ensures exact { IfOk result (λ value.
+        variant_json (codes "Leave") (view content.now) ≡ command_json value) }
 {
     let (node, order) = pair_of(alloc, content, "node", "order")?;
     Ok(Command::Leave { node, order })
 }
 
 fn command_split(alloc: Global, content: &Json) -> Result<Command, RowFault>
-    ensures { (at : _) (child : _) (order : _) → FitsCommand (Command.Split at child order)
+    ensures finds { (at : _) (child : _) (order : _) → FitsCommand (Command.Split at child order)
         → variant_json (codes "Split") (view content.now)
         ≡ command_json (Command.Split at child order)
         → Finds (Command.Split at child order) result }
+    ensures exact { IfOk result (λ value.
+        variant_json (codes "Split") (view content.now) ≡ command_json value) }
 {
     let (at, child, order) = triple_of(alloc, content, "at", "child", "order")?;
     Ok(Command::Split { at, child, order })
 }
 
 fn command_begin(alloc: Global, content: &Json) -> Result<Command, RowFault>
-    ensures { (tx : _) (body : _) (order : _) → FitsCommand (Command.Begin tx body order)
+    ensures finds { (tx : _) (body : _) (order : _) → FitsCommand (Command.Begin tx body order)
         → variant_json (codes "Begin") (view content.now)
         ≡ command_json (Command.Begin tx body order)
         → Finds (Command.Begin tx body order) result }
+    ensures exact { IfOk result (λ value.
+        variant_json (codes "Begin") (view content.now) ≡ command_json value) }
 {
     let (body, order, tx) = triple_of(alloc, content, "body", "order", "tx")?;
     Ok(Command::Begin { tx, body, order })
 }
 
 fn command_prepared(alloc: Global, content: &Json) -> Result<Command, RowFault>
-    ensures { (tx : _) (offer : _) → FitsCommand (Command.Prepared tx offer)
+    ensures finds { (tx : _) (offer : _) → FitsCommand (Command.Prepared tx offer)
         → variant_json (codes "Prepared") (view content.now)
         ≡ command_json (Command.Prepared tx offer)
         → Finds (Command.Prepared tx offer) result }
+    ensures exact { IfOk result (λ value.
+        variant_json (codes "Prepared") (view content.now) ≡ command_json value) }
 {
     let (offer, tx) = pair_of(alloc, content, "offer", "tx")?;
     Ok(Command::Prepared { tx, offer })
 }
 
 fn command_record_vote(alloc: Global, content: &Json) -> Result<Command, RowFault>
-    ensures { (tx : _) (vote : _) (by : _) → FitsCommand (Command.RecordVote tx vote by)
+    ensures finds { (tx : _) (vote : _) (by : _) → FitsCommand (Command.RecordVote tx vote by)
         → variant_json (codes "RecordVote") (view content.now)
         ≡ command_json (Command.RecordVote tx vote by)
         → Finds (Command.RecordVote tx vote by) result }
+    ensures exact { IfOk result (λ value.
+        variant_json (codes "RecordVote") (view content.now) ≡ command_json value) }
 {
     let (by, tx, vote) = triple_of(alloc, content, "by", "tx", "vote")?;
     Ok(Command::RecordVote { tx, vote, by })
 }
 
 fn command_give_up(alloc: Global, content: &Json) -> Result<Command, RowFault>
-    ensures { (tx : _) → FitsCommand (Command.GiveUp tx)
+    ensures finds { (tx : _) → FitsCommand (Command.GiveUp tx)
         → variant_json (codes "GiveUp") (view content.now) ≡ command_json (Command.GiveUp tx)
         → Finds (Command.GiveUp tx) result }
+    ensures exact { IfOk result (λ value.
+        variant_json (codes "GiveUp") (view content.now) ≡ command_json value) }
 {
-    let tx = member(alloc, content, "tx")?;
+    let tx = single_of(alloc, content, "tx")?;
     Ok(Command::GiveUp { tx })
 }
 
 fn command_finish(alloc: Global, content: &Json) -> Result<Command, RowFault>
-    ensures { (tx : _) (outcome : _) → FitsCommand (Command.Finish tx outcome)
+    ensures finds { (tx : _) (outcome : _) → FitsCommand (Command.Finish tx outcome)
         → variant_json (codes "Finish") (view content.now)
         ≡ command_json (Command.Finish tx outcome)
         → Finds (Command.Finish tx outcome) result }
+    ensures exact { IfOk result (λ value.
+        variant_json (codes "Finish") (view content.now) ≡ command_json value) }
 {
     let (outcome, tx) = pair_of(alloc, content, "outcome", "tx")?;
     Ok(Command::Finish { tx, outcome })
 }
 
 fn command_watched(alloc: Global, content: &Json) -> Result<Command, RowFault>
-    ensures { (tx : _) (watch : _) → FitsCommand (Command.Watched tx watch)
+    ensures finds { (tx : _) (watch : _) → FitsCommand (Command.Watched tx watch)
         → variant_json (codes "Watched") (view content.now)
         ≡ command_json (Command.Watched tx watch)
         → Finds (Command.Watched tx watch) result }
+    ensures exact { IfOk result (λ value.
+        variant_json (codes "Watched") (view content.now) ≡ command_json value) }
 {
     let (tx, watch) = pair_of(alloc, content, "tx", "watch")?;
     Ok(Command::Watched { tx, watch })
 }
 
 fn command_record_watch(alloc: Global, content: &Json) -> Result<Command, RowFault>
-    ensures { (tx : _) (vote : _) (by : _) → FitsCommand (Command.RecordWatch tx vote by)
+    ensures finds { (tx : _) (vote : _) (by : _) → FitsCommand (Command.RecordWatch tx vote by)
         → variant_json (codes "RecordWatch") (view content.now)
         ≡ command_json (Command.RecordWatch tx vote by)
         → Finds (Command.RecordWatch tx vote by) result }
+    ensures exact { IfOk result (λ value.
+        variant_json (codes "RecordWatch") (view content.now) ≡ command_json value) }
 {
     let (by, tx, vote) = triple_of(alloc, content, "by", "tx", "vote")?;
     Ok(Command::RecordWatch { tx, vote, by })
@@ -131,7 +153,7 @@ impl FromJson for Command {
             return Err(RowFault::NoRow);
         };
         match name {
-            "Noop" => Ok(Command::Noop),
+            "Noop" => word(json, Command::Noop),
             "Call" => command_call(alloc, content),
             "Join" => command_join(alloc, content),
             "Leave" => command_leave(alloc, content),

@@ -1,5 +1,5 @@
 //! Groups.
-ghost use Rattle.std.specs.Prelude.{◌≡◌, codes};
+ghost use Rattle.std.specs.Prelude.{◌≡◌, IfOk, codes};
 ghost use Rattle.serde_json.specs.View.{view};
 ghost use Rattle.sc_cmd.specs.declared.cores.Lock.{Lock};
 ghost use Rattle.sc_row_text.specs.Shapes.{variant as variant_json};
@@ -10,17 +10,19 @@ ghost use Rattle.sc_row_text.specs.Cores.{base_json, FitsBase};
 
 use crate::faults::RowFault;
 use crate::from_json::FromJson;
-use crate::reading::{four_of, pair_of, six_of, triple_of, variant_parts};
+use crate::reading::{four_of, pair_of, triple_of, twelve_of, variant_parts, word};
 use sc_cmd::{Base, Core, Lock};
 use serde_json::Value as Json;
 use std::alloc::Global;
 
 fn lock_coordinating(alloc: Global, content: &Json) -> Result<Lock, RowFault>
-    ensures { (tx : _) (body : _) (order : _) (heard : _)
+    ensures finds { (tx : _) (body : _) (order : _) (heard : _)
         → FitsLock (Lock.Coordinating tx body order heard)
         → variant_json (codes "Coordinating") (view content.now)
         ≡ lock_json (Lock.Coordinating tx body order heard)
         → Finds (Lock.Coordinating tx body order heard) result }
+    ensures exact { IfOk result (λ value.
+        variant_json (codes "Coordinating") (view content.now) ≡ lock_json value) }
 {
     let (body, heard, order, tx) = four_of(alloc, content, "body", "heard", "order", "tx")?;
     Ok(Lock::Coordinating {
@@ -32,18 +34,22 @@ fn lock_coordinating(alloc: Global, content: &Json) -> Result<Lock, RowFault>
 }
 
 fn lock_promised(alloc: Global, content: &Json) -> Result<Lock, RowFault>
-    ensures { (tx : _) (offer : _) → FitsLock (Lock.Promised tx offer)
+    ensures finds { (tx : _) (offer : _) → FitsLock (Lock.Promised tx offer)
         → variant_json (codes "Promised") (view content.now) ≡ lock_json (Lock.Promised tx offer)
         → Finds (Lock.Promised tx offer) result }
+    ensures exact { IfOk result (λ value.
+        variant_json (codes "Promised") (view content.now) ≡ lock_json value) }
 {
     let (offer, tx) = pair_of(alloc, content, "offer", "tx")?;
     Ok(Lock::Promised { tx, offer })
 }
 
 fn lock_watching(alloc: Global, content: &Json) -> Result<Lock, RowFault>
-    ensures { (tx : _) (watch : _) → FitsLock (Lock.Watching tx watch)
+    ensures finds { (tx : _) (watch : _) → FitsLock (Lock.Watching tx watch)
         → variant_json (codes "Watching") (view content.now) ≡ lock_json (Lock.Watching tx watch)
         → Finds (Lock.Watching tx watch) result }
+    ensures exact { IfOk result (λ value.
+        variant_json (codes "Watching") (view content.now) ≡ lock_json value) }
 {
     let (tx, watch) = pair_of(alloc, content, "tx", "watch")?;
     Ok(Lock::Watching { tx, watch })
@@ -59,7 +65,7 @@ impl FromJson for Lock {
             return Err(RowFault::NoRow);
         };
         match name {
-            "Free" => Ok(Lock::Free),
+            "Free" => word(json, Lock::Free),
             "Coordinating" => lock_coordinating(alloc, content),
             "Promised" => lock_promised(alloc, content),
             "Watching" => lock_watching(alloc, content),
@@ -74,12 +80,13 @@ impl FromJson for Core {
     ghost Fits = { FitsCore };
 
     fn from_json(alloc: Global, json: &Json) -> Result<Core, RowFault> {
-        let (arc, begun, born, decided, first, gone) = six_of(
-            alloc, json, "arc", "begun", "born", "decided", "first", "gone",
-        )?;
-        let (id, lock, members, pred, succ, voted) = six_of(
-            alloc, json, "id", "lock", "members", "pred", "succ", "voted",
-        )?;
+        let ((arc, begun, born, decided, first, gone), (id, lock, members, pred, succ, voted)) =
+            twelve_of(
+                alloc,
+                json,
+                ("arc", "begun", "born", "decided", "first", "gone"),
+                ("id", "lock", "members", "pred", "succ", "voted"),
+            )?;
         Ok(Core {
             id,
             first,

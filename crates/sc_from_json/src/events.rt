@@ -1,5 +1,5 @@
 //! Events of rows.
-ghost use Rattle.std.specs.Prelude.{◌≡◌, codes};
+ghost use Rattle.std.specs.Prelude.{◌≡◌, IfOk, codes};
 ghost use Rattle.serde_json.specs.View.{view};
 ghost use Rattle.sc_row_text.specs.Shapes.{variant as variant_json};
 ghost use Rattle.sc_from_json.specs.Reading.{Finds};
@@ -7,43 +7,51 @@ ghost use Rattle.sc_row_text.specs.Rows.{event_json, FitsEvent};
 
 use crate::faults::RowFault;
 use crate::from_json::FromJson;
-use crate::reading::{variant_parts, whole};
+use crate::reading::{variant_parts, whole, word};
 use sc_actor::Event;
 use sc_cmd::OrderLine;
 use serde_json::Value as Json;
 use std::alloc::Global;
 
 fn event_deliver(alloc: Global, content: &Json) -> Result<Event<OrderLine>, RowFault>
-    ensures { (inner : _) → FitsEvent (Event.Deliver inner)
+    ensures finds { (inner : _) → FitsEvent (Event.Deliver inner)
         → variant_json (codes "Deliver") (view content.now) ≡ event_json (Event.Deliver inner)
         → Finds (Event.Deliver inner) result }
+    ensures exact { IfOk result (λ value.
+        variant_json (codes "Deliver") (view content.now) ≡ event_json value) }
 {
     let inner = whole(alloc, content)?;
     Ok(Event::Deliver(inner))
 }
 
 fn event_told(alloc: Global, content: &Json) -> Result<Event<OrderLine>, RowFault>
-    ensures { (inner : _) → FitsEvent (Event.Told inner)
+    ensures finds { (inner : _) → FitsEvent (Event.Told inner)
         → variant_json (codes "Told") (view content.now) ≡ event_json (Event.Told inner)
         → Finds (Event.Told inner) result }
+    ensures exact { IfOk result (λ value.
+        variant_json (codes "Told") (view content.now) ≡ event_json value) }
 {
     let inner = whole(alloc, content)?;
     Ok(Event::Told(inner))
 }
 
 fn event_drop(alloc: Global, content: &Json) -> Result<Event<OrderLine>, RowFault>
-    ensures { (inner : _) → FitsEvent (Event.Drop inner)
+    ensures finds { (inner : _) → FitsEvent (Event.Drop inner)
         → variant_json (codes "Drop") (view content.now) ≡ event_json (Event.Drop inner)
         → Finds (Event.Drop inner) result }
+    ensures exact { IfOk result (λ value.
+        variant_json (codes "Drop") (view content.now) ≡ event_json value) }
 {
     let inner = whole(alloc, content)?;
     Ok(Event::Drop(inner))
 }
 
 fn event_again(alloc: Global, content: &Json) -> Result<Event<OrderLine>, RowFault>
-    ensures { (inner : _) → FitsEvent (Event.Again inner)
+    ensures finds { (inner : _) → FitsEvent (Event.Again inner)
         → variant_json (codes "Again") (view content.now) ≡ event_json (Event.Again inner)
         → Finds (Event.Again inner) result }
+    ensures exact { IfOk result (λ value.
+        variant_json (codes "Again") (view content.now) ≡ event_json value) }
 {
     let inner = whole(alloc, content)?;
     Ok(Event::Again(inner))
@@ -60,10 +68,10 @@ impl FromJson for Event<OrderLine> {
         };
         match name {
             "Deliver" => event_deliver(alloc, content),
-            "Tick" => Ok(Event::Tick),
-            "Go" => Ok(Event::Go),
+            "Tick" => word(json, Event::Tick),
+            "Go" => word(json, Event::Go),
             "Told" => event_told(alloc, content),
-            "Crash" => Ok(Event::Crash),
+            "Crash" => word(json, Event::Crash),
             "Drop" => event_drop(alloc, content),
             "Again" => event_again(alloc, content),
             _ => Err(RowFault::NoRow),

@@ -1,5 +1,5 @@
 //! What is found again in its JSON.
-ghost use Rattle.std.specs.Prelude.{◌≡◌};
+ghost use Rattle.std.specs.Prelude.{◌≡◌, IfOk};
 ghost use Rattle.serde_json.specs.Data.{Data, null};
 ghost use Rattle.serde_json.specs.View.{view};
 ghost use Rattle.sc_from_json.specs.Reading.{Finds};
@@ -17,9 +17,13 @@ pub trait FromJson: Sized {
     ghost Fits: { Self → Type 0 };
 
     /// The value that has this JSON.
+    ///
+    /// Each value is found in its JSON, and what is found has exactly this JSON: a JSON that is
+    /// no value's is refused.
     fn from_json(alloc: Global, json: &Json) -> Result<Self, RowFault>
-        ensures { (value : Self) → Fits value → view json.now ≡ json_of value
-            → Finds value result };
+        ensures finds { (value : Self) → Fits value → view json.now ≡ json_of value
+            → Finds value result }
+        ensures exact { IfOk result (λ value. view json.now ≡ json_of value) };
 }
 
 /// What is stored otherwise than as null, so that what may be absent is told from it.

@@ -1,5 +1,5 @@
 //! Lists, pairs, what may be absent, and values in blocks of their own.
-ghost use Rattle.std.specs.Prelude.{◌≡◌, List};
+ghost use Rattle.std.specs.Prelude.{◌≡◌, List, IfOk};
 ghost use Rattle.serde_json.specs.View.{view, items_view};
 ghost use Rattle.sc_base.specs.Among.{Each};
 ghost use Rattle.sc_row_text.specs.Held.{OptionFits, PairFits};
@@ -8,16 +8,17 @@ ghost use Rattle.sc_from_json.specs.Reading.{Shows};
 
 use crate::faults::RowFault;
 use crate::from_json::{FromJson, Present};
-use crate::reading::pair_of;
+use crate::reading::pair_in;
 use sc_base::{Boxed, Sequence};
 use serde_json::Value as Json;
 use std::alloc::Global;
 
 /// The values that have these JSONs.
 fn values_of<T: FromJson + Drop>(alloc: Global, list: &[Json]) -> Result<Vec<T>, RowFault>
-    ensures { (values : List T) → Each T.Fits values
+    ensures finds { (values : List T) → Each T.Fits values
         → items_view list.now ≡ items_json T.json_of values
         → Shows (λ found. found.items) values result }
+    ensures exact { IfOk result (λ found. items_view list.now ≡ items_json T.json_of found.items) }
 {
     let mut values = Vec::new(alloc);
     for json in list {
@@ -28,10 +29,12 @@ fn values_of<T: FromJson + Drop>(alloc: Global, list: &[Json]) -> Result<Vec<T>,
 }
 
 /// The values of which this is an array.
+#[tactic(auto, using(crate::proofs::Arrays::is_array))]
 pub(crate) fn items_of<T: FromJson + Drop>(alloc: Global, json: &Json) -> Result<Vec<T>, RowFault>
-    ensures { (values : List T) → Each T.Fits values
+    ensures finds { (values : List T) → Each T.Fits values
         → view json.now ≡ list_json T.json_of values
         → Shows (λ found. found.items) values result }
+    ensures exact { IfOk result (λ found. view json.now ≡ list_json T.json_of found.items) }
 {
     match json.as_array() {
         Some(list) => values_of(alloc, list.as_slice()),
@@ -60,7 +63,7 @@ impl<A: FromJson + Drop, B: FromJson + Drop> FromJson for (A, B) {
     ghost Fits = { PairFits A.Fits B.Fits };
 
     fn from_json(alloc: Global, json: &Json) -> Result<(A, B), RowFault> {
-        pair_of(alloc, json, 0usize, 1usize)
+        pair_in(alloc, json)
     }
 }
 
@@ -88,6 +91,7 @@ impl<T: Present> FromJson for Option<T> {
 
     ghost Fits = { OptionFits T.FromJson.Fits };
 
+    #[tactic(auto, using(crate::proofs::TextSteps::is_null))]
     fn from_json(alloc: Global, json: &Json) -> Result<Option<T>, RowFault> {
         if json.is_null() {
             Ok(None)

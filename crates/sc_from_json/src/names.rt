@@ -6,7 +6,7 @@ ghost use Rattle.sc_row_text.specs.Names.{draw_json, FitsDraw, ballot_json, Fits
 
 use crate::faults::RowFault;
 use crate::from_json::{FromJson, Present};
-use crate::reading::pair_of;
+use crate::reading::pair_in;
 use sc_base::{Ballot, Draw, read_number};
 use serde_json::Value as Json;
 use std::alloc::Global;
@@ -22,8 +22,9 @@ fn dot_of(text: &[u8]) -> Option<usize>
 /// The name that a text spells.
 #[tactic(auto, unfolding(crate::specs::Json::draw_json, crate::specs::Json::FitsDraw))]
 fn draw_of(text: &[u8]) -> Option<Draw>
-    ensures { (draw : Draw) → FitsDraw draw → string text.now ≡ draw_json draw
+    ensures finds { (draw : Draw) → FitsDraw draw → string text.now ≡ draw_json draw
         → result ≡ Some draw }
+    ensures exact { IfSome result (λ draw. string text.now ≡ draw_json draw) }
 {
     let dot = dot_of(text)?;
     let node = read_number(&text[..dot], u16::MAX as u64)?;
@@ -39,7 +40,7 @@ impl FromJson for Draw {
 
     ghost Fits = { FitsDraw };
 
-    #[tactic(auto, unfolding(sc_row_text::specs::Names::draw_json))]
+    #[tactic(auto, using(crate::proofs::TextSteps::is_string), unfolding(sc_row_text::specs::Names::draw_json))]
     fn from_json(_alloc: Global, json: &Json) -> Result<Draw, RowFault> {
         match json.as_str() {
             Some(text) => match draw_of(text.as_bytes()) {
@@ -64,7 +65,7 @@ impl FromJson for Ballot {
 
     #[tactic(auto, unfolding(crate::specs::Json::ballot_json, crate::specs::Json::FitsBallot))]
     fn from_json(alloc: Global, json: &Json) -> Result<Ballot, RowFault> {
-        let (round, node) = pair_of(alloc, json, 0usize, 1usize)?;
+        let (round, node) = pair_in(alloc, json)?;
         Ok(Ballot { round, node })
     }
 }

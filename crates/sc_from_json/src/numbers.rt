@@ -1,9 +1,6 @@
 //! Numbers: what is read as one is that number, and no other JSON is taken for it.
-ghost use Rattle.std.specs.Prelude.{◌≡◌, ℕ, IfOk};
-ghost use Rattle.serde_json.specs.View.{view};
 ghost use Rattle.sc_row_text.specs.Shapes.{number_json};
 ghost use Rattle.sc_row_text.specs.Held.{FitsU8, FitsU16, FitsU32, FitsU64};
-ghost use Rattle.sc_from_json.specs.Reading.{Finds};
 
 use crate::faults::RowFault;
 use crate::from_json::{FromJson, Present};
@@ -15,11 +12,7 @@ impl FromJson for u8 {
 
     ghost Fits = { FitsU8 };
 
-    fn from_json(_alloc: Global, json: &Json) -> Result<u8, RowFault>
-        ensures finds { (value : ℕ) → FitsU8 value → view json.now ≡ number_json value
-            → Finds value result }
-        ensures exact { IfOk result (λ value. view json.now ≡ number_json value) }
-    {
+    fn from_json(_alloc: Global, json: &Json) -> Result<u8, RowFault> {
         match json.as_u64() {
             Some(n) if n <= u8::MAX as u64 => Ok(n as u8),
             _ => Err(RowFault::NoRow),
@@ -32,11 +25,7 @@ impl FromJson for u16 {
 
     ghost Fits = { FitsU16 };
 
-    fn from_json(_alloc: Global, json: &Json) -> Result<u16, RowFault>
-        ensures finds { (value : ℕ) → FitsU16 value → view json.now ≡ number_json value
-            → Finds value result }
-        ensures exact { IfOk result (λ value. view json.now ≡ number_json value) }
-    {
+    fn from_json(_alloc: Global, json: &Json) -> Result<u16, RowFault> {
         match json.as_u64() {
             Some(n) if n <= u16::MAX as u64 => Ok(n as u16),
             _ => Err(RowFault::NoRow),
@@ -49,11 +38,7 @@ impl FromJson for u32 {
 
     ghost Fits = { FitsU32 };
 
-    fn from_json(_alloc: Global, json: &Json) -> Result<u32, RowFault>
-        ensures finds { (value : ℕ) → FitsU32 value → view json.now ≡ number_json value
-            → Finds value result }
-        ensures exact { IfOk result (λ value. view json.now ≡ number_json value) }
-    {
+    fn from_json(_alloc: Global, json: &Json) -> Result<u32, RowFault> {
         match json.as_u64() {
             Some(n) if n <= u32::MAX as u64 => Ok(n as u32),
             _ => Err(RowFault::NoRow),
@@ -66,11 +51,7 @@ impl FromJson for u64 {
 
     ghost Fits = { FitsU64 };
 
-    fn from_json(_alloc: Global, json: &Json) -> Result<u64, RowFault>
-        ensures finds { (value : ℕ) → FitsU64 value → view json.now ≡ number_json value
-            → Finds value result }
-        ensures exact { IfOk result (λ value. view json.now ≡ number_json value) }
-    {
+    fn from_json(_alloc: Global, json: &Json) -> Result<u64, RowFault> {
         match json.as_u64() {
             Some(n) => Ok(n),
             None => Err(RowFault::NoRow),

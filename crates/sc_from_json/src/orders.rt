@@ -1,5 +1,5 @@
 //! Orders and what is told of them.
-ghost use Rattle.std.specs.Prelude.{◌≡◌, codes};
+ghost use Rattle.std.specs.Prelude.{◌≡◌, IfOk, codes};
 ghost use Rattle.serde_json.specs.View.{view};
 ghost use Rattle.sc_cmd.specs.declared.orders.Order.{Order};
 ghost use Rattle.sc_cmd.specs.declared.orders.OrderRefusal.{OrderRefusal};
@@ -13,60 +13,72 @@ ghost use Rattle.sc_row_text.specs.Orders.{told_result_json, FitsToldResult};
 
 use crate::faults::RowFault;
 use crate::from_json::FromJson;
-use crate::reading::{member, pair_of, variant_parts, whole};
+use crate::reading::{pair_of, single_of, variant_parts, whole, word};
 use sc_cmd::{Order, OrderLine, OrderRefusal, ToldResult};
 use serde_json::Value as Json;
 use std::alloc::Global;
 
 fn order_join(alloc: Global, content: &Json) -> Result<Order, RowFault>
-    ensures { (node : _) (group : _) → FitsOrder (Order.Join node group)
+    ensures finds { (node : _) (group : _) → FitsOrder (Order.Join node group)
         → variant_json (codes "Join") (view content.now) ≡ order_json (Order.Join node group)
         → Finds (Order.Join node group) result }
+    ensures exact { IfOk result (λ value.
+        variant_json (codes "Join") (view content.now) ≡ order_json value) }
 {
     let (group, node) = pair_of(alloc, content, "group", "node")?;
     Ok(Order::Join { node, group })
 }
 
 fn order_leave(alloc: Global, content: &Json) -> Result<Order, RowFault>
-    ensures { (node : _) (group : _) → FitsOrder (Order.Leave node group)
+    ensures finds { (node : _) (group : _) → FitsOrder (Order.Leave node group)
         → variant_json (codes "Leave") (view content.now) ≡ order_json (Order.Leave node group)
         → Finds (Order.Leave node group) result }
+    ensures exact { IfOk result (λ value.
+        variant_json (codes "Leave") (view content.now) ≡ order_json value) }
 {
     let (group, node) = pair_of(alloc, content, "group", "node")?;
     Ok(Order::Leave { node, group })
 }
 
 fn order_split(alloc: Global, content: &Json) -> Result<Order, RowFault>
-    ensures { (group : _) (at : _) → FitsOrder (Order.Split group at)
+    ensures finds { (group : _) (at : _) → FitsOrder (Order.Split group at)
         → variant_json (codes "Split") (view content.now) ≡ order_json (Order.Split group at)
         → Finds (Order.Split group at) result }
+    ensures exact { IfOk result (λ value.
+        variant_json (codes "Split") (view content.now) ≡ order_json value) }
 {
     let (at, group) = pair_of(alloc, content, "at", "group")?;
     Ok(Order::Split { group, at })
 }
 
 fn order_merge(alloc: Global, content: &Json) -> Result<Order, RowFault>
-    ensures { (group : _) → FitsOrder (Order.Merge group)
+    ensures finds { (group : _) → FitsOrder (Order.Merge group)
         → variant_json (codes "Merge") (view content.now) ≡ order_json (Order.Merge group)
         → Finds (Order.Merge group) result }
+    ensures exact { IfOk result (λ value.
+        variant_json (codes "Merge") (view content.now) ≡ order_json value) }
 {
-    let group = member(alloc, content, "group")?;
+    let group = single_of(alloc, content, "group")?;
     Ok(Order::Merge { group })
 }
 
 fn order_repart(alloc: Global, content: &Json) -> Result<Order, RowFault>
-    ensures { (group : _) (at : _) → FitsOrder (Order.Repart group at)
+    ensures finds { (group : _) (at : _) → FitsOrder (Order.Repart group at)
         → variant_json (codes "Repart") (view content.now) ≡ order_json (Order.Repart group at)
         → Finds (Order.Repart group at) result }
+    ensures exact { IfOk result (λ value.
+        variant_json (codes "Repart") (view content.now) ≡ order_json value) }
 {
     let (at, group) = pair_of(alloc, content, "at", "group")?;
     Ok(Order::Repart { group, at })
 }
 
 fn order_migrate(alloc: Global, content: &Json) -> Result<Order, RowFault>
-    ensures { (group : _) (node : _) → FitsOrder (Order.Migrate group node)
+    ensures finds { (group : _) (node : _) → FitsOrder (Order.Migrate group node)
         → variant_json (codes "Migrate") (view content.now) ≡ order_json (Order.Migrate group node)
         → Finds (Order.Migrate group node) result }
+    ensures exact { IfOk result (λ value.
+        variant_json (codes "Migrate") (view content.now) ≡ order_json value) }
 {
     let (group, node) = pair_of(alloc, content, "group", "node")?;
     Ok(Order::Migrate { group, node })
@@ -105,32 +117,38 @@ impl FromJson for OrderLine {
 }
 
 fn order_refusal_not_leader(alloc: Global, content: &Json) -> Result<OrderRefusal, RowFault>
-    ensures { (hint : _) → FitsOrderRefusal (OrderRefusal.NotLeader hint)
+    ensures finds { (hint : _) → FitsOrderRefusal (OrderRefusal.NotLeader hint)
         → variant_json (codes "NotLeader") (view content.now)
         ≡ order_refusal_json (OrderRefusal.NotLeader hint)
         → Finds (OrderRefusal.NotLeader hint) result }
+    ensures exact { IfOk result (λ value.
+        variant_json (codes "NotLeader") (view content.now) ≡ order_refusal_json value) }
 {
-    let hint = member(alloc, content, "hint")?;
+    let hint = single_of(alloc, content, "hint")?;
     Ok(OrderRefusal::NotLeader { hint })
 }
 
 fn order_refusal_in_transaction(alloc: Global, content: &Json) -> Result<OrderRefusal, RowFault>
-    ensures { (tx : _) → FitsOrderRefusal (OrderRefusal.InTransaction tx)
+    ensures finds { (tx : _) → FitsOrderRefusal (OrderRefusal.InTransaction tx)
         → variant_json (codes "InTransaction") (view content.now)
         ≡ order_refusal_json (OrderRefusal.InTransaction tx)
         → Finds (OrderRefusal.InTransaction tx) result }
+    ensures exact { IfOk result (λ value.
+        variant_json (codes "InTransaction") (view content.now) ≡ order_refusal_json value) }
 {
-    let tx = member(alloc, content, "tx")?;
+    let tx = single_of(alloc, content, "tx")?;
     Ok(OrderRefusal::InTransaction { tx })
 }
 
 fn order_refusal_too_many_members(alloc: Global, content: &Json) -> Result<OrderRefusal, RowFault>
-    ensures { (n : _) → FitsOrderRefusal (OrderRefusal.TooManyMembers n)
+    ensures finds { (n : _) → FitsOrderRefusal (OrderRefusal.TooManyMembers n)
         → variant_json (codes "TooManyMembers") (view content.now)
         ≡ order_refusal_json (OrderRefusal.TooManyMembers n)
         → Finds (OrderRefusal.TooManyMembers n) result }
+    ensures exact { IfOk result (λ value.
+        variant_json (codes "TooManyMembers") (view content.now) ≡ order_refusal_json value) }
 {
-    let n = member(alloc, content, "n")?;
+    let n = single_of(alloc, content, "n")?;
     Ok(OrderRefusal::TooManyMembers { n })
 }
 
@@ -146,23 +164,25 @@ impl FromJson for OrderRefusal {
         match name {
             "NotLeader" => order_refusal_not_leader(alloc, content),
             "InTransaction" => order_refusal_in_transaction(alloc, content),
-            "NoNeighbour" => Ok(OrderRefusal::NoNeighbour),
-            "BadBoundary" => Ok(OrderRefusal::BadBoundary),
+            "NoNeighbour" => word(json, OrderRefusal::NoNeighbour),
+            "BadBoundary" => word(json, OrderRefusal::BadBoundary),
             "TooManyMembers" => order_refusal_too_many_members(alloc, content),
-            "NotMember" => Ok(OrderRefusal::NotMember),
-            "LastMember" => Ok(OrderRefusal::LastMember),
-            "TxLimit" => Ok(OrderRefusal::TxLimit),
-            "IsMember" => Ok(OrderRefusal::IsMember),
+            "NotMember" => word(json, OrderRefusal::NotMember),
+            "LastMember" => word(json, OrderRefusal::LastMember),
+            "TxLimit" => word(json, OrderRefusal::TxLimit),
+            "IsMember" => word(json, OrderRefusal::IsMember),
             _ => Err(RowFault::NoRow),
         }
     }
 }
 
 fn told_result_refused(alloc: Global, content: &Json) -> Result<ToldResult, RowFault>
-    ensures { (inner : _) → FitsToldResult (ToldResult.Refused inner)
+    ensures finds { (inner : _) → FitsToldResult (ToldResult.Refused inner)
         → variant_json (codes "Refused") (view content.now)
         ≡ told_result_json (ToldResult.Refused inner)
         → Finds (ToldResult.Refused inner) result }
+    ensures exact { IfOk result (λ value.
+        variant_json (codes "Refused") (view content.now) ≡ told_result_json value) }
 {
     let inner = whole(alloc, content)?;
     Ok(ToldResult::Refused(inner))
@@ -178,9 +198,9 @@ impl FromJson for ToldResult {
             return Err(RowFault::NoRow);
         };
         match name {
-            "Done" => Ok(ToldResult::Done),
-            "Committed" => Ok(ToldResult::Committed),
-            "Aborted" => Ok(ToldResult::Aborted),
+            "Done" => word(json, ToldResult::Done),
+            "Committed" => word(json, ToldResult::Committed),
+            "Aborted" => word(json, ToldResult::Aborted),
             "Refused" => told_result_refused(alloc, content),
             _ => Err(RowFault::NoRow),
         }

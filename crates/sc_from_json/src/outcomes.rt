@@ -1,5 +1,5 @@
 //! Outcomes.
-ghost use Rattle.std.specs.Prelude.{◌≡◌, codes};
+ghost use Rattle.std.specs.Prelude.{◌≡◌, IfOk, codes};
 ghost use Rattle.serde_json.specs.View.{view};
 ghost use Rattle.sc_cmd.specs.declared.votes.Outcome.{Outcome};
 ghost use Rattle.sc_row_text.specs.Shapes.{variant as variant_json};
@@ -9,7 +9,7 @@ ghost use Rattle.sc_row_text.specs.Outcomes.{outcome_json, FitsOutcome};
 
 use crate::faults::RowFault;
 use crate::from_json::{FromJson, Present};
-use crate::reading::{member, pair_of, variant_parts};
+use crate::reading::{pair_of, single_of, variant_parts, word};
 use sc_cmd::{Gift, Outcome};
 use serde_json::Value as Json;
 use std::alloc::Global;
@@ -26,29 +26,35 @@ impl FromJson for Gift {
 }
 
 fn outcome_merged(alloc: Global, content: &Json) -> Result<Outcome, RowFault>
-    ensures { (into : _) → FitsOutcome (Outcome.Merged into)
+    ensures finds { (into : _) → FitsOutcome (Outcome.Merged into)
         → variant_json (codes "Merged") (view content.now) ≡ outcome_json (Outcome.Merged into)
         → Finds (Outcome.Merged into) result }
+    ensures exact { IfOk result (λ value.
+        variant_json (codes "Merged") (view content.now) ≡ outcome_json value) }
 {
-    let into = member(alloc, content, "into")?;
+    let into = single_of(alloc, content, "into")?;
     Ok(Outcome::Merged { into })
 }
 
 fn outcome_moved(alloc: Global, content: &Json) -> Result<Outcome, RowFault>
-    ensures { (at : _) (gift : _) → FitsOutcome (Outcome.Moved at gift)
+    ensures finds { (at : _) (gift : _) → FitsOutcome (Outcome.Moved at gift)
         → variant_json (codes "Moved") (view content.now) ≡ outcome_json (Outcome.Moved at gift)
         → Finds (Outcome.Moved at gift) result }
+    ensures exact { IfOk result (λ value.
+        variant_json (codes "Moved") (view content.now) ≡ outcome_json value) }
 {
     let (at, gift) = pair_of(alloc, content, "at", "gift")?;
     Ok(Outcome::Moved { at, gift })
 }
 
 fn outcome_migrated(alloc: Global, content: &Json) -> Result<Outcome, RowFault>
-    ensures { (node : _) → FitsOutcome (Outcome.Migrated node)
+    ensures finds { (node : _) → FitsOutcome (Outcome.Migrated node)
         → variant_json (codes "Migrated") (view content.now) ≡ outcome_json (Outcome.Migrated node)
         → Finds (Outcome.Migrated node) result }
+    ensures exact { IfOk result (λ value.
+        variant_json (codes "Migrated") (view content.now) ≡ outcome_json value) }
 {
-    let node = member(alloc, content, "node")?;
+    let node = single_of(alloc, content, "node")?;
     Ok(Outcome::Migrated { node })
 }
 
@@ -62,11 +68,11 @@ impl FromJson for Outcome {
             return Err(RowFault::NoRow);
         };
         match name {
-            "Abort" => Ok(Outcome::Abort),
+            "Abort" => word(json, Outcome::Abort),
             "Merged" => outcome_merged(alloc, content),
             "Moved" => outcome_moved(alloc, content),
             "Migrated" => outcome_migrated(alloc, content),
-            "Divided" => Ok(Outcome::Divided),
+            "Divided" => word(json, Outcome::Divided),
             _ => Err(RowFault::NoRow),
         }
     }

@@ -1,5 +1,5 @@
 //! Arcs, sets of nodes, pairs of keys and values, and client tables.
-ghost use Rattle.std.specs.Prelude.{◌≡◌, ℕ, List, IfOk, Some, IsTrue, ◌↔◌};
+ghost use Rattle.std.specs.Prelude.{◌≡◌, ℕ, List, IfOk, IfSome, Some, IsTrue, ◌↔◌};
 ghost use Rattle.serde_json.specs.View.{view, items_view};
 ghost use Rattle.sc_base.specs.Among.{Each};
 ghost use Rattle.sc_base.specs.Ascending.{IsAscending, EndsBelow};
@@ -13,7 +13,7 @@ ghost use Rattle.sc_from_json.specs.Reading.{Finds, Shows};
 use crate::faults::RowFault;
 use crate::from_json::{FromJson, Present};
 use crate::lists::items_of;
-use crate::reading::{pair_of, triple_of};
+use crate::reading::{pair_in, triple_in};
 use sc_base::{Key, Noted, Ordered, OutOfMemory, RingArc, Value};
 use sc_member::Members;
 use serde_json::Value as Json;
@@ -27,7 +27,7 @@ impl FromJson for RingArc {
 
     #[tactic(auto, unfolding(sc_row_text::specs::Sets::arc_json))]
     fn from_json(alloc: Global, json: &Json) -> Result<RingArc, RowFault> {
-        let (lo, len) = pair_of(alloc, json, 0usize, 1usize)?;
+        let (lo, len) = pair_in(alloc, json)?;
         match RingArc::try_new(lo, len) {
             Ok(arc) => Ok(arc),
             Err(_) => Err(RowFault::NoRow),
@@ -43,7 +43,8 @@ impl Present for RingArc {
 
 /// The set of these nodes, where they are one to nine, ascending.
 fn set_of(nodes: &[u16]) -> Option<Members>
-    ensures { IsRoster nodes.now → result ≡ Some nodes.now }
+    ensures finds { IsRoster nodes.now → result ≡ Some nodes.now }
+    ensures exact { IfSome result (λ members. members ≡ nodes.now) }
 {
     if nodes.is_empty() {
         return None;
@@ -54,7 +55,11 @@ fn set_of(nodes: &[u16]) -> Option<Members>
             return None;
         }
     }
-    Some(members)
+    if members.as_slice() == nodes {
+        Some(members)
+    } else {
+        None
+    }
 }
 
 impl FromJson for Members {
@@ -92,8 +97,9 @@ fn rising<K: Ord + Drop, V: Drop>(
     alloc: Global,
     entries: Vec<(K, V)>,
 ) -> Result<Option<Ordered<K, V>>, OutOfMemory>
-    ensures { IfOk result
+    ensures finds { IfOk result
         (λ list. IsAscending K.cmp entries.items → list ≡ Some entries.items) }
+    ensures exact { IfOk result (λ list. IfSome list (λ kept. kept ≡ entries.items)) }
 {
     let mut list = Ordered::new(alloc);
     for (key, value) in entries {
@@ -129,18 +135,20 @@ impl Present for Ordered<Key, Value> {
 /// The entry of a client table that has this JSON.
 #[tactic(auto, unfolding(crate::specs::Json::client_json, crate::specs::Json::FitsNoted))]
 fn client_from_json(alloc: Global, json: &Json) -> Result<(u16, Noted), RowFault>
-    ensures { (entry : ℕ × Noted) → PairFits FitsU16 FitsNoted entry
+    ensures finds { (entry : ℕ × Noted) → PairFits FitsU16 FitsNoted entry
         → view json.now ≡ client_json entry → Finds entry result }
+    ensures exact { IfOk result (λ entry. view json.now ≡ client_json entry) }
 {
-    let (client, seq, reply) = triple_of(alloc, json, 0usize, 1usize, 2usize)?;
+    let (client, seq, reply) = triple_in(alloc, json)?;
     Ok((client, Noted { seq, reply }))
 }
 
 /// The entries of a client table that have these JSONs.
 fn clients_of(alloc: Global, list: &[Json]) -> Result<Vec<(u16, Noted)>, RowFault>
-    ensures { (entries : List (ℕ × Noted)) → Each (PairFits FitsU16 FitsNoted) entries
+    ensures finds { (entries : List (ℕ × Noted)) → Each (PairFits FitsU16 FitsNoted) entries
         → items_view list.now ≡ items_json client_json entries
         → Shows (λ found. found.items) entries result }
+    ensures exact { IfOk result (λ found. items_view list.now ≡ items_json client_json found.items) }
 {
     let mut entries = Vec::new(alloc);
     for json in list {
@@ -155,7 +163,7 @@ impl FromJson for Ordered<u16, Noted> {
 
     ghost Fits = { FitsClients };
 
-    #[tactic(auto, unfolding(crate::specs::Json::clients_json, crate::specs::Json::FitsClients))]
+    #[tactic(auto, using(crate::proofs::Arrays::is_array), unfolding(crate::specs::Json::clients_json, crate::specs::Json::FitsClients))]
     fn from_json(alloc: Global, json: &Json) -> Result<Ordered<u16, Noted>, RowFault> {
         let Some(list) = json.as_array() else {
             return Err(RowFault::NoRow);

@@ -13,6 +13,7 @@ impl FromJson for Key {
 
     ghost Fits = { FitsKey };
 
+    #[tactic(auto, using(crate::proofs::TextSteps::is_string))]
     fn from_json(alloc: Global, json: &Json) -> Result<Key, RowFault> {
         match json.as_str() {
             Some(text) => Ok(Key::try_new(alloc, text.as_bytes())?),
@@ -26,6 +27,7 @@ impl FromJson for Value {
 
     ghost Fits = { FitsValue };
 
+    #[tactic(auto, using(crate::proofs::TextSteps::is_string))]
     fn from_json(alloc: Global, json: &Json) -> Result<Value, RowFault> {
         match json.as_str() {
             Some(text) => Ok(Value::try_new(alloc, text.as_bytes())?),

@@ -1,5 +1,5 @@
 //! Votes.
-ghost use Rattle.std.specs.Prelude.{◌≡◌, codes};
+ghost use Rattle.std.specs.Prelude.{◌≡◌, IfOk, codes};
 ghost use Rattle.serde_json.specs.View.{view};
 ghost use Rattle.sc_cmd.specs.declared.votes.No.{No};
 ghost use Rattle.sc_cmd.specs.declared.votes.Vote.{Vote};
@@ -14,26 +14,30 @@ ghost use Rattle.sc_row_text.specs.Votes.{past_json, FitsPast};
 
 use crate::faults::RowFault;
 use crate::from_json::{FromJson, Present};
-use crate::reading::{five_of, member, pair_of, variant_parts, whole};
+use crate::reading::{five_of, pair_of, single_of, variant_parts, whole, word};
 use sc_cmd::{Frozen, Heard, No, Past, Vote};
 use serde_json::Value as Json;
 use std::alloc::Global;
 
 fn no_busy(alloc: Global, content: &Json) -> Result<No, RowFault>
-    ensures { (tx : _) → FitsNo (No.Busy tx)
+    ensures finds { (tx : _) → FitsNo (No.Busy tx)
         → variant_json (codes "Busy") (view content.now) ≡ no_json (No.Busy tx)
         → Finds (No.Busy tx) result }
+    ensures exact { IfOk result (λ value.
+        variant_json (codes "Busy") (view content.now) ≡ no_json value) }
 {
-    let tx = member(alloc, content, "tx")?;
+    let tx = single_of(alloc, content, "tx")?;
     Ok(No::Busy { tx })
 }
 
 fn no_too_many(alloc: Global, content: &Json) -> Result<No, RowFault>
-    ensures { (n : _) → FitsNo (No.TooMany n)
+    ensures finds { (n : _) → FitsNo (No.TooMany n)
         → variant_json (codes "TooMany") (view content.now) ≡ no_json (No.TooMany n)
         → Finds (No.TooMany n) result }
+    ensures exact { IfOk result (λ value.
+        variant_json (codes "TooMany") (view content.now) ≡ no_json value) }
 {
-    let n = member(alloc, content, "n")?;
+    let n = single_of(alloc, content, "n")?;
     Ok(No::TooMany { n })
 }
 
@@ -48,8 +52,8 @@ impl FromJson for No {
         };
         match name {
             "Busy" => no_busy(alloc, content),
-            "Gone" => Ok(No::Gone),
-            "Apart" => Ok(No::Apart),
+            "Gone" => word(json, No::Gone),
+            "Apart" => word(json, No::Apart),
             "TooMany" => no_too_many(alloc, content),
             _ => Err(RowFault::NoRow),
         }
@@ -87,18 +91,22 @@ impl FromJson for Heard {
 }
 
 fn vote_yes(alloc: Global, content: &Json) -> Result<Vote, RowFault>
-    ensures { (inner : _) → FitsVote (Vote.Yes inner)
+    ensures finds { (inner : _) → FitsVote (Vote.Yes inner)
         → variant_json (codes "Yes") (view content.now) ≡ vote_json (Vote.Yes inner)
         → Finds (Vote.Yes inner) result }
+    ensures exact { IfOk result (λ value.
+        variant_json (codes "Yes") (view content.now) ≡ vote_json value) }
 {
     let inner = whole(alloc, content)?;
     Ok(Vote::Yes(inner))
 }
 
 fn vote_no(alloc: Global, content: &Json) -> Result<Vote, RowFault>
-    ensures { (inner : _) → FitsVote (Vote.No inner)
+    ensures finds { (inner : _) → FitsVote (Vote.No inner)
         → variant_json (codes "No") (view content.now) ≡ vote_json (Vote.No inner)
         → Finds (Vote.No inner) result }
+    ensures exact { IfOk result (λ value.
+        variant_json (codes "No") (view content.now) ≡ vote_json value) }
 {
     let inner = whole(alloc, content)?;
     Ok(Vote::No(inner))
@@ -122,9 +130,11 @@ impl FromJson for Vote {
 }
 
 fn past_no(alloc: Global, content: &Json) -> Result<Past, RowFault>
-    ensures { (inner : _) → FitsPast (Past.No inner)
+    ensures finds { (inner : _) → FitsPast (Past.No inner)
         → variant_json (codes "No") (view content.now) ≡ past_json (Past.No inner)
         → Finds (Past.No inner) result }
+    ensures exact { IfOk result (λ value.
+        variant_json (codes "No") (view content.now) ≡ past_json value) }
 {
     let inner = whole(alloc, content)?;
     Ok(Past::No(inner))
@@ -140,9 +150,9 @@ impl FromJson for Past {
             return Err(RowFault::NoRow);
         };
         match name {
-            "Yes" => Ok(Past::Yes),
+            "Yes" => word(json, Past::Yes),
             "No" => past_no(alloc, content),
-            "Ended" => Ok(Past::Ended),
+            "Ended" => word(json, Past::Ended),
             _ => Err(RowFault::NoRow),
         }
     }

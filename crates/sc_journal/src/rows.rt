@@ -1,6 +1,5 @@
 //! Rows, read from their JSON.
-ghost use Rattle.std.specs.Prelude.{◌≡◌, List, Some, codes};
-ghost use Rattle.serde_json.specs.Find.{get};
+ghost use Rattle.std.specs.Prelude.{◌≡◌, IfOk};
 ghost use Rattle.serde_json.specs.View.{view};
 ghost use Rattle.sc_base.specs.Among.{Each};
 ghost use Rattle.sc_actor.specs.declared.rows.Row.{Row};
@@ -15,29 +14,38 @@ use crate::mails::mails_from_json;
 use sc_actor::Row;
 use sc_base::Sequence;
 use sc_cmd::OrderLine;
-use sc_from_json::{RowFault, pair_of};
+use sc_from_json::{FromJson, RowFault, triple_of};
 use sc_mail::Mail;
 use serde_json::Value as Json;
 use std::alloc::Global;
 
 /// The mails that a row sent, as a member of the row's JSON.
-fn sent_in(alloc: Global, json: &Json) -> Result<Sequence<Mail>, RowFault>
-    ensures { (sent : List Mail) → Each FitsMail sent
-        → get (codes "sent") (view json.now) ≡ Some (list_json mail_json sent)
-        → Finds sent result }
-{
-    match json.get("sent") {
-        Some(inner) => mails_from_json(alloc, inner),
-        None => Err(RowFault::NoRow),
+#[derive(Drop)]
+struct Sent {
+    mails: Sequence<Mail>,
+}
+
+impl FromJson for Sent {
+    ghost json_of = { λ sent. list_json mail_json sent.mails };
+
+    ghost Fits = { λ sent. Each FitsMail sent.mails };
+
+    fn from_json(alloc: Global, json: &Json) -> Result<Sent, RowFault> {
+        let mails = mails_from_json(alloc, json)?;
+        Ok(Sent { mails })
     }
 }
 
 /// The row of which this is the JSON.
 pub(crate) fn row_from_json(alloc: Global, json: &Json) -> Result<Row<Mail, OrderLine>, RowFault>
-    ensures { (row : Row Mail OrderLine) → FitsRow row → view json.now ≡ row_json row
+    ensures finds { (row : Row Mail OrderLine) → FitsRow row → view json.now ≡ row_json row
         → Finds row result }
+    ensures exact { IfOk result (λ row. view json.now ≡ row_json row) }
 {
-    let (event, who) = pair_of(alloc, json, "event", "who")?;
-    let sent = sent_in(alloc, json)?;
-    Ok(Row { who, event, sent })
+    let (event, sent, who): (_, Sent, _) = triple_of(alloc, json, "event", "sent", "who")?;
+    Ok(Row {
+        who,
+        event,
+        sent: sent.mails,
+    })
 }

@@ -1,15 +1,19 @@
 use Rattle.std.proofs.Common.{codes, ap}
-use Rattle.serde_json.specs.Find.{get}
 use Rattle.sc_mail.specs.declared.bodies.AnswerBody.TheVariants.{NotLeader}
 use Rattle.sc_row_text.specs.Answers.{answer_body_json, FitsAnswerBody}
+use Rattle.sc_row_text.specs.Shapes.{variant}
 use Rattle.sc_from_json.specs.Reading.{content_of}
 use Rattle.sc_from_json.proofs.Finding.{failed}
 use Rattle.sc_from_json.proofs.answers.answer_body_not_leader.Goals as goal
 
-pub returns-in_err-hint : goal.returns-in_err-hint
+pub returns-in_err-hint-clause-finds : goal.returns-in_err-hint-clause-finds
 unfolding answer_body_json FitsAnswerBody
-returns-in_err-hint c = λ hint fits e. failed _ _ _ c.from_residual.ensures (c.in_err-hint.ensures hint fits (ap (λ d. get (codes "hint") (content_of d)) e))
+returns-in_err-hint-clause-finds c = λ hint fits e. failed _ _ _ c.from_residual.ensures (c.in_err-hint.ensures.finds hint fits (ap content_of e))
 
-pub returns : goal.returns
+pub returns-clause-finds : goal.returns-clause-finds
 unfolding answer_body_json FitsAnswerBody
-returns c = λ hint fits e. ap NotLeader (c.in_ok-hint.ensures hint fits (ap (λ d. get (codes "hint") (content_of d)) e))
+returns-clause-finds c = λ hint fits e. ap NotLeader (c.in_ok-hint.ensures.finds hint fits (ap content_of e))
+
+pub returns-clause-exact : goal.returns-clause-exact
+unfolding answer_body_json
+returns-clause-exact c = ap (variant (codes "NotLeader")) c.in_ok-hint.ensures.exact

@@ -1,15 +1,19 @@
 use Rattle.std.proofs.Common.{codes, ap}
-use Rattle.serde_json.specs.Find.{get}
 use Rattle.sc_mail.specs.declared.bodies.AnswerBody.TheVariants.{Stale}
 use Rattle.sc_row_text.specs.Answers.{answer_body_json, FitsAnswerBody}
+use Rattle.sc_row_text.specs.Shapes.{variant}
 use Rattle.sc_from_json.specs.Reading.{content_of}
 use Rattle.sc_from_json.proofs.Finding.{failed}
 use Rattle.sc_from_json.proofs.answers.answer_body_stale.Goals as goal
 
-pub returns-in_err-last : goal.returns-in_err-last
+pub returns-in_err-last-clause-finds : goal.returns-in_err-last-clause-finds
 unfolding answer_body_json FitsAnswerBody
-returns-in_err-last c = λ last fits e. failed _ _ _ c.from_residual.ensures (c.in_err-last.ensures last fits (ap (λ d. get (codes "last") (content_of d)) e))
+returns-in_err-last-clause-finds c = λ last fits e. failed _ _ _ c.from_residual.ensures (c.in_err-last.ensures.finds last fits (ap content_of e))
 
-pub returns : goal.returns
+pub returns-clause-finds : goal.returns-clause-finds
 unfolding answer_body_json FitsAnswerBody
-returns c = λ last fits e. ap Stale (c.in_ok-last.ensures last fits (ap (λ d. get (codes "last") (content_of d)) e))
+returns-clause-finds c = λ last fits e. ap Stale (c.in_ok-last.ensures.finds last fits (ap content_of e))
+
+pub returns-clause-exact : goal.returns-clause-exact
+unfolding answer_body_json
+returns-clause-exact c = ap (variant (codes "Stale")) c.in_ok-last.ensures.exact

@@ -1,15 +1,19 @@
 use Rattle.std.proofs.Common.{codes, ap}
-use Rattle.serde_json.specs.Find.{get}
 use Rattle.sc_cmd.specs.declared.bodies.Body.TheVariants.{Repart}
 use Rattle.sc_row_text.specs.Bodies.{body_json, FitsBody}
+use Rattle.sc_row_text.specs.Shapes.{variant}
 use Rattle.sc_from_json.specs.Reading.{content_of}
 use Rattle.sc_from_json.proofs.Finding.{failed}
 use Rattle.sc_from_json.proofs.bodies.body_repart.Goals as goal
 
-pub returns-in_err-at : goal.returns-in_err-at
+pub returns-in_err-at-clause-finds : goal.returns-in_err-at-clause-finds
 unfolding body_json FitsBody
-returns-in_err-at c = λ at fits e. failed _ _ _ c.from_residual.ensures (c.in_err-at.ensures at fits (ap (λ d. get (codes "at") (content_of d)) e))
+returns-in_err-at-clause-finds c = λ at fits e. failed _ _ _ c.from_residual.ensures (c.in_err-at.ensures.finds at fits (ap content_of e))
 
-pub returns : goal.returns
+pub returns-clause-finds : goal.returns-clause-finds
 unfolding body_json FitsBody
-returns c = λ at fits e. ap Repart (c.in_ok-at.ensures at fits (ap (λ d. get (codes "at") (content_of d)) e))
+returns-clause-finds c = λ at fits e. ap Repart (c.in_ok-at.ensures.finds at fits (ap content_of e))
+
+pub returns-clause-exact : goal.returns-clause-exact
+unfolding body_json
+returns-clause-exact c = ap (variant (codes "Repart")) c.in_ok-at.ensures.exact

@@ -1,15 +1,19 @@
 use Rattle.std.proofs.Common.{codes, ap}
-use Rattle.serde_json.specs.Find.{get}
 use Rattle.sc_cmd.specs.declared.commands.Command.TheVariants.{Split}
 use Rattle.sc_row_text.specs.Commands.{command_json, FitsCommand}
+use Rattle.sc_row_text.specs.Shapes.{variant}
 use Rattle.sc_from_json.specs.Reading.{content_of}
 use Rattle.sc_from_json.proofs.Finding.{failed}
 use Rattle.sc_from_json.proofs.commands.command_split.Goals as goal
 
-pub returns-in_err-at : goal.returns-in_err-at
+pub returns-in_err-at-clause-finds : goal.returns-in_err-at-clause-finds
 unfolding command_json FitsCommand
-returns-in_err-at c = λ at child order fits e. failed _ _ _ c.from_residual.ensures (c.in_err-at.ensures at child order fits.0 fits.1 fits.2 (ap (λ d. get (codes "at") (content_of d)) e) (ap (λ d. get (codes "child") (content_of d)) e) (ap (λ d. get (codes "order") (content_of d)) e))
+returns-in_err-at-clause-finds c = λ at child order fits e. failed _ _ _ c.from_residual.ensures (c.in_err-at.ensures.finds at child order fits.0 fits.1 fits.2 (ap content_of e))
 
-pub returns : goal.returns
+pub returns-clause-finds : goal.returns-clause-finds
 unfolding command_json FitsCommand
-returns c = λ at child order fits e. ap (λ p. Split p.0 p.1 p.2) (c.in_ok-at.ensures at child order fits.0 fits.1 fits.2 (ap (λ d. get (codes "at") (content_of d)) e) (ap (λ d. get (codes "child") (content_of d)) e) (ap (λ d. get (codes "order") (content_of d)) e))
+returns-clause-finds c = λ at child order fits e. ap (λ p. Split p.0 p.1 p.2) (c.in_ok-at.ensures.finds at child order fits.0 fits.1 fits.2 (ap content_of e))
+
+pub returns-clause-exact : goal.returns-clause-exact
+unfolding command_json
+returns-clause-exact c = ap (variant (codes "Split")) c.in_ok-at.ensures.exact

@@ -1,15 +1,19 @@
 use Rattle.std.proofs.Common.{codes, ap}
-use Rattle.serde_json.specs.Find.{get}
 use Rattle.sc_base.specs.declared.ops.Op.TheVariants.{Get}
 use Rattle.sc_row_text.specs.Ops.{op_json, FitsOp}
+use Rattle.sc_row_text.specs.Shapes.{variant}
 use Rattle.sc_from_json.specs.Reading.{content_of}
 use Rattle.sc_from_json.proofs.Finding.{failed}
 use Rattle.sc_from_json.proofs.ops.op_get.Goals as goal
 
-pub returns-in_err-key : goal.returns-in_err-key
+pub returns-in_err-key-clause-finds : goal.returns-in_err-key-clause-finds
 unfolding op_json FitsOp
-returns-in_err-key c = λ key fits e. failed _ _ _ c.from_residual.ensures (c.in_err-key.ensures key fits (ap (λ d. get (codes "key") (content_of d)) e))
+returns-in_err-key-clause-finds c = λ key fits e. failed _ _ _ c.from_residual.ensures (c.in_err-key.ensures.finds key fits (ap content_of e))
 
-pub returns : goal.returns
+pub returns-clause-finds : goal.returns-clause-finds
 unfolding op_json FitsOp
-returns c = λ key fits e. ap Get (c.in_ok-key.ensures key fits (ap (λ d. get (codes "key") (content_of d)) e))
+returns-clause-finds c = λ key fits e. ap Get (c.in_ok-key.ensures.finds key fits (ap content_of e))
+
+pub returns-clause-exact : goal.returns-clause-exact
+unfolding op_json
+returns-clause-exact c = ap (variant (codes "Get")) c.in_ok-key.ensures.exact

@@ -1,15 +1,19 @@
 use Rattle.std.proofs.Common.{codes, ap}
-use Rattle.serde_json.specs.Find.{get}
 use Rattle.sc_cmd.specs.declared.orders.Order.TheVariants.{Leave}
 use Rattle.sc_row_text.specs.Orders.{order_json, FitsOrder}
+use Rattle.sc_row_text.specs.Shapes.{variant}
 use Rattle.sc_from_json.specs.Reading.{content_of}
 use Rattle.sc_from_json.proofs.Finding.{failed}
 use Rattle.sc_from_json.proofs.orders.order_leave.Goals as goal
 
-pub returns-in_err-group : goal.returns-in_err-group
+pub returns-in_err-group-clause-finds : goal.returns-in_err-group-clause-finds
 unfolding order_json FitsOrder
-returns-in_err-group c = λ node group fits e. failed _ _ _ c.from_residual.ensures (c.in_err-group.ensures group node fits.0 fits.1 (ap (λ d. get (codes "group") (content_of d)) e) (ap (λ d. get (codes "node") (content_of d)) e))
+returns-in_err-group-clause-finds c = λ node group fits e. failed _ _ _ c.from_residual.ensures (c.in_err-group.ensures.finds group node fits.0 fits.1 (ap content_of e))
 
-pub returns : goal.returns
+pub returns-clause-finds : goal.returns-clause-finds
 unfolding order_json FitsOrder
-returns c = λ node group fits e. ap (λ p. Leave p.1 p.0) (c.in_ok-group.ensures group node fits.0 fits.1 (ap (λ d. get (codes "group") (content_of d)) e) (ap (λ d. get (codes "node") (content_of d)) e))
+returns-clause-finds c = λ node group fits e. ap (λ p. Leave p.1 p.0) (c.in_ok-group.ensures.finds group node fits.0 fits.1 (ap content_of e))
+
+pub returns-clause-exact : goal.returns-clause-exact
+unfolding order_json
+returns-clause-exact c = ap (variant (codes "Leave")) c.in_ok-group.ensures.exact

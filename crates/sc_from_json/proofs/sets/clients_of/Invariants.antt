@@ -1,5 +1,5 @@
-use Rattle.std.proofs.Common.{◌≡◌, ℕ, List, take}
-use Rattle.serde_json.specs.View.{items_view}
+use Rattle.std.proofs.Common.{◌≡◌, ℕ, List, map, take}
+use Rattle.serde_json.specs.View.{view, items_view}
 use Rattle.sc_base.specs.Among.{Each}
 use Rattle.sc_base.specs.declared.ops.Noted.{Noted}
 use Rattle.sc_row_text.specs.Held.{FitsU16, PairFits}
@@ -8,4 +8,4 @@ use Rattle.sc_row_text.specs.Shapes.{items_json}
 use Rattle.sc_from_json.proofs.sets.clients_of.Given as goal
 
 abbrev pub invariant-loop-json : goal.invariant-loop-json
-invariant-loop-json l = (entries : List (ℕ × Noted)) → Each (PairFits FitsU16 FitsNoted) entries → items_view l.list ≡ items_json client_json entries → l.entries.items ≡ take l.json-index entries
+invariant-loop-json l = ((entries : List (ℕ × Noted)) → Each (PairFits FitsU16 FitsNoted) entries → items_view l.list ≡ items_json client_json entries → l.entries.items ≡ take l.json-index entries) × (map view (take l.json-index l.list) ≡ map client_json l.entries.items)

@@ -2,8 +2,8 @@ use Rattle.std.proofs.Common.{sym, ◌∙◌}
 use Rattle.sc_from_json.proofs.Risen.{falls, given}
 use Rattle.sc_from_json.proofs.sets.rising.Goals as goal
 
-pub returns-then-not-ends_below : goal.returns-then-not-ends_below
-returns-then-not-ends_below g c rises =
+pub returns-then-not-ends_below-clause-finds : goal.returns-then-not-ends_below-clause-finds
+returns-then-not-ends_below-clause-finds g c rises =
     let start = c.into_iter-key-iterator.ensures.into_iter_gives.0 in
     let whole = given c.into_iter-key-iterator.result c.loop-key.key-iterator c.loop-key.yielded c.loop-key.yielded_by in
     let test = c.if-not-ends_below.true in

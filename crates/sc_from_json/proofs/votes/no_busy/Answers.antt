@@ -1,15 +1,19 @@
 use Rattle.std.proofs.Common.{codes, ap}
-use Rattle.serde_json.specs.Find.{get}
 use Rattle.sc_cmd.specs.declared.votes.No.TheVariants.{Busy}
 use Rattle.sc_row_text.specs.Votes.{no_json, FitsNo}
+use Rattle.sc_row_text.specs.Shapes.{variant}
 use Rattle.sc_from_json.specs.Reading.{content_of}
 use Rattle.sc_from_json.proofs.Finding.{failed}
 use Rattle.sc_from_json.proofs.votes.no_busy.Goals as goal
 
-pub returns-in_err-tx : goal.returns-in_err-tx
+pub returns-in_err-tx-clause-finds : goal.returns-in_err-tx-clause-finds
 unfolding no_json FitsNo
-returns-in_err-tx c = λ tx fits e. failed _ _ _ c.from_residual.ensures (c.in_err-tx.ensures tx fits (ap (λ d. get (codes "tx") (content_of d)) e))
+returns-in_err-tx-clause-finds c = λ tx fits e. failed _ _ _ c.from_residual.ensures (c.in_err-tx.ensures.finds tx fits (ap content_of e))
 
-pub returns : goal.returns
+pub returns-clause-finds : goal.returns-clause-finds
 unfolding no_json FitsNo
-returns c = λ tx fits e. ap Busy (c.in_ok-tx.ensures tx fits (ap (λ d. get (codes "tx") (content_of d)) e))
+returns-clause-finds c = λ tx fits e. ap Busy (c.in_ok-tx.ensures.finds tx fits (ap content_of e))
+
+pub returns-clause-exact : goal.returns-clause-exact
+unfolding no_json
+returns-clause-exact c = ap (variant (codes "Busy")) c.in_ok-tx.ensures.exact

@@ -1,15 +1,19 @@
 use Rattle.std.proofs.Common.{codes, ap}
-use Rattle.serde_json.specs.Find.{get}
 use Rattle.sc_mail.specs.declared.bodies.MailBody.TheVariants.{Accept}
 use Rattle.sc_row_text.specs.Mails.{mail_body_json, FitsMailBody}
+use Rattle.sc_row_text.specs.Shapes.{variant}
 use Rattle.sc_from_json.specs.Reading.{content_of}
 use Rattle.sc_from_json.proofs.Finding.{failed}
 use Rattle.sc_journal.proofs.mails.mail_body_accept.Goals as goal
 
-pub returns-in_err-ballot : goal.returns-in_err-ballot
+pub returns-in_err-ballot-clause-finds : goal.returns-in_err-ballot-clause-finds
 unfolding mail_body_json FitsMailBody
-returns-in_err-ballot c = λ group ballot slot command fits e. failed _ _ _ c.from_residual.ensures (c.in_err-ballot.ensures ballot command group slot fits.0 fits.1 fits.2 fits.3 (ap (λ d. get (codes "ballot") (content_of d)) e) (ap (λ d. get (codes "command") (content_of d)) e) (ap (λ d. get (codes "group") (content_of d)) e) (ap (λ d. get (codes "slot") (content_of d)) e))
+returns-in_err-ballot-clause-finds c = λ group ballot slot command fits e. failed _ _ _ c.from_residual.ensures (c.in_err-ballot.ensures.finds ballot command group slot fits.0 fits.1 fits.2 fits.3 (ap content_of e))
 
-pub returns : goal.returns
+pub returns-clause-finds : goal.returns-clause-finds
 unfolding mail_body_json FitsMailBody
-returns c = λ group ballot slot command fits e. ap (λ p. Accept p.2 p.0 p.3 p.1) (c.in_ok-ballot.ensures ballot command group slot fits.0 fits.1 fits.2 fits.3 (ap (λ d. get (codes "ballot") (content_of d)) e) (ap (λ d. get (codes "command") (content_of d)) e) (ap (λ d. get (codes "group") (content_of d)) e) (ap (λ d. get (codes "slot") (content_of d)) e))
+returns-clause-finds c = λ group ballot slot command fits e. ap (λ p. Accept p.2 p.0 p.3 p.1) (c.in_ok-ballot.ensures.finds ballot command group slot fits.0 fits.1 fits.2 fits.3 (ap content_of e))
+
+pub returns-clause-exact : goal.returns-clause-exact
+unfolding mail_body_json
+returns-clause-exact c = ap (variant (codes "Accept")) c.in_ok-ballot.ensures.exact

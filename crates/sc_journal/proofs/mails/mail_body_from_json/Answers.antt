@@ -1,6 +1,6 @@
 use Rattle.std.proofs.Common.{◌≡◌, List, ℕ, codes, ap, sym, ◌∙◌, Result, refl, subst}
 use Rattle.std.specs.Prelude.{⊤}
-use Rattle.serde_json.specs.Data.{Data}
+use Rattle.serde_json.specs.Data.{Data, string}
 use Rattle.sc_mail.specs.declared.bodies.MailBody.{MailBody}
 use Rattle.sc_mail.specs.declared.bodies.MailBody.TheVariants.{Request, Answer, Prepare, Promise, Accept, Accepted, Nack, Learn, Ask, Install, TxPrepare, TxVote, TxOutcome, TxElsewhere, TxWatch, TxWatched, Told}
 use Rattle.sc_row_text.specs.Mails.{mail_body_json, FitsMailBody}
@@ -10,6 +10,7 @@ use Rattle.sc_row_text.specs.Shapes.{variant_name}
 use Rattle.sc_from_json.specs.declared.faults.RowFault.{RowFault}
 use Rattle.sc_from_json.specs.declared.faults.RowFault.TheVariants.{NoRow, OutOfMemory}
 use Rattle.sc_row_text.proofs.Apart.{apart}
+use Rattle.sc_from_json.proofs.Variants.{arm_exact}
 use Rattle.sc_journal.proofs.mails.mail_body_from_json.Goals as goal
 
 -- the name of each variant
@@ -248,59 +249,131 @@ unfolding name HasContent
 at_told json content found (Told order outcome) result e inner_is called_so is fits read = read order outcome fits (rebuilt json content (Told order outcome) e inner_is tt)
 at_told json content found _ result e inner_is called_so is fits read = absurd (apart _ _ (sym is ∙ called_so) refl)
 
-pub returns-in_default : goal.returns-in_default
-returns-in_default c = λ value fits e. absurd (c.in_default.ensures (shaped _ value e))
+pub returns-in_default-clause-finds : goal.returns-in_default-clause-finds
+returns-in_default-clause-finds c = λ value fits e. absurd (c.in_default.ensures.finds (shaped _ value e))
 
-pub returns-in-Request : goal.returns-in-Request
-returns-in-Request c = λ value fits e. let parts = c.in-Some.ensures (shaped _ value e) in at_request _ _ _ value _ e parts.1 (called _ _ value e parts.0) c.in-Request.is fits c.mail_body_request.ensures
+pub returns-in-Request-clause-finds : goal.returns-in-Request-clause-finds
+returns-in-Request-clause-finds c = λ value fits e. let parts = c.in-Some.ensures.finds (shaped _ value e) in at_request _ _ _ value _ e parts.1 (called _ _ value e parts.0) c.in-Request.is fits c.mail_body_request.ensures.finds
 
-pub returns-in-Answer : goal.returns-in-Answer
-returns-in-Answer c = λ value fits e. let parts = c.in-Some.ensures (shaped _ value e) in at_answer _ _ _ value _ e parts.1 (called _ _ value e parts.0) c.in-Answer.is fits c.mail_body_answer.ensures
+pub returns-in-Answer-clause-finds : goal.returns-in-Answer-clause-finds
+returns-in-Answer-clause-finds c = λ value fits e. let parts = c.in-Some.ensures.finds (shaped _ value e) in at_answer _ _ _ value _ e parts.1 (called _ _ value e parts.0) c.in-Answer.is fits c.mail_body_answer.ensures.finds
 
-pub returns-in-Prepare : goal.returns-in-Prepare
-returns-in-Prepare c = λ value fits e. let parts = c.in-Some.ensures (shaped _ value e) in at_prepare _ _ _ value _ e parts.1 (called _ _ value e parts.0) c.in-Prepare.is fits c.mail_body_prepare.ensures
+pub returns-in-Prepare-clause-finds : goal.returns-in-Prepare-clause-finds
+returns-in-Prepare-clause-finds c = λ value fits e. let parts = c.in-Some.ensures.finds (shaped _ value e) in at_prepare _ _ _ value _ e parts.1 (called _ _ value e parts.0) c.in-Prepare.is fits c.mail_body_prepare.ensures.finds
 
-pub returns-in-Promise : goal.returns-in-Promise
-returns-in-Promise c = λ value fits e. let parts = c.in-Some.ensures (shaped _ value e) in at_promise _ _ _ value _ e parts.1 (called _ _ value e parts.0) c.in-Promise.is fits c.mail_body_promise.ensures
+pub returns-in-Promise-clause-finds : goal.returns-in-Promise-clause-finds
+returns-in-Promise-clause-finds c = λ value fits e. let parts = c.in-Some.ensures.finds (shaped _ value e) in at_promise _ _ _ value _ e parts.1 (called _ _ value e parts.0) c.in-Promise.is fits c.mail_body_promise.ensures.finds
 
-pub returns-in-Accept : goal.returns-in-Accept
-returns-in-Accept c = λ value fits e. let parts = c.in-Some.ensures (shaped _ value e) in at_accept _ _ _ value _ e parts.1 (called _ _ value e parts.0) c.in-Accept.is fits c.mail_body_accept.ensures
+pub returns-in-Accept-clause-finds : goal.returns-in-Accept-clause-finds
+returns-in-Accept-clause-finds c = λ value fits e. let parts = c.in-Some.ensures.finds (shaped _ value e) in at_accept _ _ _ value _ e parts.1 (called _ _ value e parts.0) c.in-Accept.is fits c.mail_body_accept.ensures.finds
 
-pub returns-in-Accepted : goal.returns-in-Accepted
-returns-in-Accepted c = λ value fits e. let parts = c.in-Some.ensures (shaped _ value e) in at_accepted _ _ _ value _ e parts.1 (called _ _ value e parts.0) c.in-Accepted.is fits c.mail_body_accepted.ensures
+pub returns-in-Accepted-clause-finds : goal.returns-in-Accepted-clause-finds
+returns-in-Accepted-clause-finds c = λ value fits e. let parts = c.in-Some.ensures.finds (shaped _ value e) in at_accepted _ _ _ value _ e parts.1 (called _ _ value e parts.0) c.in-Accepted.is fits c.mail_body_accepted.ensures.finds
 
-pub returns-in-Nack : goal.returns-in-Nack
-returns-in-Nack c = λ value fits e. let parts = c.in-Some.ensures (shaped _ value e) in at_nack _ _ _ value _ e parts.1 (called _ _ value e parts.0) c.in-Nack.is fits c.mail_body_nack.ensures
+pub returns-in-Nack-clause-finds : goal.returns-in-Nack-clause-finds
+returns-in-Nack-clause-finds c = λ value fits e. let parts = c.in-Some.ensures.finds (shaped _ value e) in at_nack _ _ _ value _ e parts.1 (called _ _ value e parts.0) c.in-Nack.is fits c.mail_body_nack.ensures.finds
 
-pub returns-in-Learn : goal.returns-in-Learn
-returns-in-Learn c = λ value fits e. let parts = c.in-Some.ensures (shaped _ value e) in at_learn _ _ _ value _ e parts.1 (called _ _ value e parts.0) c.in-Learn.is fits c.mail_body_learn.ensures
+pub returns-in-Learn-clause-finds : goal.returns-in-Learn-clause-finds
+returns-in-Learn-clause-finds c = λ value fits e. let parts = c.in-Some.ensures.finds (shaped _ value e) in at_learn _ _ _ value _ e parts.1 (called _ _ value e parts.0) c.in-Learn.is fits c.mail_body_learn.ensures.finds
 
-pub returns-in-Ask : goal.returns-in-Ask
-returns-in-Ask c = λ value fits e. let parts = c.in-Some.ensures (shaped _ value e) in at_ask _ _ _ value _ e parts.1 (called _ _ value e parts.0) c.in-Ask.is fits c.mail_body_ask.ensures
+pub returns-in-Ask-clause-finds : goal.returns-in-Ask-clause-finds
+returns-in-Ask-clause-finds c = λ value fits e. let parts = c.in-Some.ensures.finds (shaped _ value e) in at_ask _ _ _ value _ e parts.1 (called _ _ value e parts.0) c.in-Ask.is fits c.mail_body_ask.ensures.finds
 
-pub returns-in-Install : goal.returns-in-Install
-returns-in-Install c = λ value fits e. let parts = c.in-Some.ensures (shaped _ value e) in at_install _ _ _ value _ e parts.1 (called _ _ value e parts.0) c.in-Install.is fits c.mail_body_install.ensures
+pub returns-in-Install-clause-finds : goal.returns-in-Install-clause-finds
+returns-in-Install-clause-finds c = λ value fits e. let parts = c.in-Some.ensures.finds (shaped _ value e) in at_install _ _ _ value _ e parts.1 (called _ _ value e parts.0) c.in-Install.is fits c.mail_body_install.ensures.finds
 
-pub returns-in-TxPrepare : goal.returns-in-TxPrepare
-returns-in-TxPrepare c = λ value fits e. let parts = c.in-Some.ensures (shaped _ value e) in at_tx_prepare _ _ _ value _ e parts.1 (called _ _ value e parts.0) c.in-TxPrepare.is fits c.mail_body_tx_prepare.ensures
+pub returns-in-TxPrepare-clause-finds : goal.returns-in-TxPrepare-clause-finds
+returns-in-TxPrepare-clause-finds c = λ value fits e. let parts = c.in-Some.ensures.finds (shaped _ value e) in at_tx_prepare _ _ _ value _ e parts.1 (called _ _ value e parts.0) c.in-TxPrepare.is fits c.mail_body_tx_prepare.ensures.finds
 
-pub returns-in-TxVote : goal.returns-in-TxVote
-returns-in-TxVote c = λ value fits e. let parts = c.in-Some.ensures (shaped _ value e) in at_tx_vote _ _ _ value _ e parts.1 (called _ _ value e parts.0) c.in-TxVote.is fits c.mail_body_tx_vote.ensures
+pub returns-in-TxVote-clause-finds : goal.returns-in-TxVote-clause-finds
+returns-in-TxVote-clause-finds c = λ value fits e. let parts = c.in-Some.ensures.finds (shaped _ value e) in at_tx_vote _ _ _ value _ e parts.1 (called _ _ value e parts.0) c.in-TxVote.is fits c.mail_body_tx_vote.ensures.finds
 
-pub returns-in-TxOutcome : goal.returns-in-TxOutcome
-returns-in-TxOutcome c = λ value fits e. let parts = c.in-Some.ensures (shaped _ value e) in at_tx_outcome _ _ _ value _ e parts.1 (called _ _ value e parts.0) c.in-TxOutcome.is fits c.mail_body_tx_outcome.ensures
+pub returns-in-TxOutcome-clause-finds : goal.returns-in-TxOutcome-clause-finds
+returns-in-TxOutcome-clause-finds c = λ value fits e. let parts = c.in-Some.ensures.finds (shaped _ value e) in at_tx_outcome _ _ _ value _ e parts.1 (called _ _ value e parts.0) c.in-TxOutcome.is fits c.mail_body_tx_outcome.ensures.finds
 
-pub returns-in-TxElsewhere : goal.returns-in-TxElsewhere
-returns-in-TxElsewhere c = λ value fits e. let parts = c.in-Some.ensures (shaped _ value e) in at_tx_elsewhere _ _ _ value _ e parts.1 (called _ _ value e parts.0) c.in-TxElsewhere.is fits c.mail_body_tx_elsewhere.ensures
+pub returns-in-TxElsewhere-clause-finds : goal.returns-in-TxElsewhere-clause-finds
+returns-in-TxElsewhere-clause-finds c = λ value fits e. let parts = c.in-Some.ensures.finds (shaped _ value e) in at_tx_elsewhere _ _ _ value _ e parts.1 (called _ _ value e parts.0) c.in-TxElsewhere.is fits c.mail_body_tx_elsewhere.ensures.finds
 
-pub returns-in-TxWatch : goal.returns-in-TxWatch
-returns-in-TxWatch c = λ value fits e. let parts = c.in-Some.ensures (shaped _ value e) in at_tx_watch _ _ _ value _ e parts.1 (called _ _ value e parts.0) c.in-TxWatch.is fits c.mail_body_tx_watch.ensures
+pub returns-in-TxWatch-clause-finds : goal.returns-in-TxWatch-clause-finds
+returns-in-TxWatch-clause-finds c = λ value fits e. let parts = c.in-Some.ensures.finds (shaped _ value e) in at_tx_watch _ _ _ value _ e parts.1 (called _ _ value e parts.0) c.in-TxWatch.is fits c.mail_body_tx_watch.ensures.finds
 
-pub returns-in-TxWatched : goal.returns-in-TxWatched
-returns-in-TxWatched c = λ value fits e. let parts = c.in-Some.ensures (shaped _ value e) in at_tx_watched _ _ _ value _ e parts.1 (called _ _ value e parts.0) c.in-TxWatched.is fits c.mail_body_tx_watched.ensures
+pub returns-in-TxWatched-clause-finds : goal.returns-in-TxWatched-clause-finds
+returns-in-TxWatched-clause-finds c = λ value fits e. let parts = c.in-Some.ensures.finds (shaped _ value e) in at_tx_watched _ _ _ value _ e parts.1 (called _ _ value e parts.0) c.in-TxWatched.is fits c.mail_body_tx_watched.ensures.finds
 
-pub returns-in-Told : goal.returns-in-Told
-returns-in-Told c = λ value fits e. let parts = c.in-Some.ensures (shaped _ value e) in at_told _ _ _ value _ e parts.1 (called _ _ value e parts.0) c.in-Told.is fits c.mail_body_told.ensures
+pub returns-in-Told-clause-finds : goal.returns-in-Told-clause-finds
+returns-in-Told-clause-finds c = λ value fits e. let parts = c.in-Some.ensures.finds (shaped _ value e) in at_told _ _ _ value _ e parts.1 (called _ _ value e parts.0) c.in-Told.is fits c.mail_body_told.ensures.finds
 
-pub returns-in_default-name : goal.returns-in_default-name
-returns-in_default-name c = λ value fits e. let parts = c.in-Some.ensures (shaped _ value e) in none_left _ value (called _ _ value e parts.0) c.in_default-name.not-Request c.in_default-name.not-Answer c.in_default-name.not-Prepare c.in_default-name.not-Promise c.in_default-name.not-Accept c.in_default-name.not-Accepted c.in_default-name.not-Nack c.in_default-name.not-Learn c.in_default-name.not-Ask c.in_default-name.not-Install c.in_default-name.not-TxPrepare c.in_default-name.not-TxVote c.in_default-name.not-TxOutcome c.in_default-name.not-TxElsewhere c.in_default-name.not-TxWatch c.in_default-name.not-TxWatched c.in_default-name.not-Told
+pub returns-in_default-name-clause-finds : goal.returns-in_default-name-clause-finds
+returns-in_default-name-clause-finds c = λ value fits e. let parts = c.in-Some.ensures.finds (shaped _ value e) in none_left _ value (called _ _ value e parts.0) c.in_default-name.not-Request c.in_default-name.not-Answer c.in_default-name.not-Prepare c.in_default-name.not-Promise c.in_default-name.not-Accept c.in_default-name.not-Accepted c.in_default-name.not-Nack c.in_default-name.not-Learn c.in_default-name.not-Ask c.in_default-name.not-Install c.in_default-name.not-TxPrepare c.in_default-name.not-TxVote c.in_default-name.not-TxOutcome c.in_default-name.not-TxElsewhere c.in_default-name.not-TxWatch c.in_default-name.not-TxWatched c.in_default-name.not-Told
+
+-- no value is its own name in an object
+no_echo : (value : MailBody) (called : List ℕ) → variant called (string called) ≡ mail_body_json value → ⊥
+unfolding mail_body_json
+no_echo (Request group client seq op) called same = cc
+no_echo (Answer group seq answer) called same = cc
+no_echo (Prepare group ballot from_slot) called same = cc
+no_echo (Promise group ballot reports) called same = cc
+no_echo (Accept group ballot slot command) called same = cc
+no_echo (Accepted group ballot slot) called same = cc
+no_echo (Nack group promised) called same = cc
+no_echo (Learn group slot command) called same = cc
+no_echo (Ask group from_slot) called same = cc
+no_echo (Install group slot base sets) called same = cc
+no_echo (TxPrepare tx offer) called same = cc
+no_echo (TxVote tx coord part vote) called same = cc
+no_echo (TxOutcome tx part outcome) called same = cc
+no_echo (TxElsewhere tx coord hint) called same = cc
+no_echo (TxWatch tx watch) called same = cc
+no_echo (TxWatched tx coord part vote) called same = cc
+no_echo (Told order outcome) called same = cc
+
+pub returns-in-Request-clause-exact : goal.returns-in-Request-clause-exact
+returns-in-Request-clause-exact c = arm_exact mail_body_json no_echo _ _ _ (codes "Request") _ c.in-Some.ensures.exact c.in-Request.is c.mail_body_request.ensures.exact
+
+pub returns-in-Answer-clause-exact : goal.returns-in-Answer-clause-exact
+returns-in-Answer-clause-exact c = arm_exact mail_body_json no_echo _ _ _ (codes "Answer") _ c.in-Some.ensures.exact c.in-Answer.is c.mail_body_answer.ensures.exact
+
+pub returns-in-Prepare-clause-exact : goal.returns-in-Prepare-clause-exact
+returns-in-Prepare-clause-exact c = arm_exact mail_body_json no_echo _ _ _ (codes "Prepare") _ c.in-Some.ensures.exact c.in-Prepare.is c.mail_body_prepare.ensures.exact
+
+pub returns-in-Promise-clause-exact : goal.returns-in-Promise-clause-exact
+returns-in-Promise-clause-exact c = arm_exact mail_body_json no_echo _ _ _ (codes "Promise") _ c.in-Some.ensures.exact c.in-Promise.is c.mail_body_promise.ensures.exact
+
+pub returns-in-Accept-clause-exact : goal.returns-in-Accept-clause-exact
+returns-in-Accept-clause-exact c = arm_exact mail_body_json no_echo _ _ _ (codes "Accept") _ c.in-Some.ensures.exact c.in-Accept.is c.mail_body_accept.ensures.exact
+
+pub returns-in-Accepted-clause-exact : goal.returns-in-Accepted-clause-exact
+returns-in-Accepted-clause-exact c = arm_exact mail_body_json no_echo _ _ _ (codes "Accepted") _ c.in-Some.ensures.exact c.in-Accepted.is c.mail_body_accepted.ensures.exact
+
+pub returns-in-Nack-clause-exact : goal.returns-in-Nack-clause-exact
+returns-in-Nack-clause-exact c = arm_exact mail_body_json no_echo _ _ _ (codes "Nack") _ c.in-Some.ensures.exact c.in-Nack.is c.mail_body_nack.ensures.exact
+
+pub returns-in-Learn-clause-exact : goal.returns-in-Learn-clause-exact
+returns-in-Learn-clause-exact c = arm_exact mail_body_json no_echo _ _ _ (codes "Learn") _ c.in-Some.ensures.exact c.in-Learn.is c.mail_body_learn.ensures.exact
+
+pub returns-in-Ask-clause-exact : goal.returns-in-Ask-clause-exact
+returns-in-Ask-clause-exact c = arm_exact mail_body_json no_echo _ _ _ (codes "Ask") _ c.in-Some.ensures.exact c.in-Ask.is c.mail_body_ask.ensures.exact
+
+pub returns-in-Install-clause-exact : goal.returns-in-Install-clause-exact
+returns-in-Install-clause-exact c = arm_exact mail_body_json no_echo _ _ _ (codes "Install") _ c.in-Some.ensures.exact c.in-Install.is c.mail_body_install.ensures.exact
+
+pub returns-in-TxPrepare-clause-exact : goal.returns-in-TxPrepare-clause-exact
+returns-in-TxPrepare-clause-exact c = arm_exact mail_body_json no_echo _ _ _ (codes "TxPrepare") _ c.in-Some.ensures.exact c.in-TxPrepare.is c.mail_body_tx_prepare.ensures.exact
+
+pub returns-in-TxVote-clause-exact : goal.returns-in-TxVote-clause-exact
+returns-in-TxVote-clause-exact c = arm_exact mail_body_json no_echo _ _ _ (codes "TxVote") _ c.in-Some.ensures.exact c.in-TxVote.is c.mail_body_tx_vote.ensures.exact
+
+pub returns-in-TxOutcome-clause-exact : goal.returns-in-TxOutcome-clause-exact
+returns-in-TxOutcome-clause-exact c = arm_exact mail_body_json no_echo _ _ _ (codes "TxOutcome") _ c.in-Some.ensures.exact c.in-TxOutcome.is c.mail_body_tx_outcome.ensures.exact
+
+pub returns-in-TxElsewhere-clause-exact : goal.returns-in-TxElsewhere-clause-exact
+returns-in-TxElsewhere-clause-exact c = arm_exact mail_body_json no_echo _ _ _ (codes "TxElsewhere") _ c.in-Some.ensures.exact c.in-TxElsewhere.is c.mail_body_tx_elsewhere.ensures.exact
+
+pub returns-in-TxWatch-clause-exact : goal.returns-in-TxWatch-clause-exact
+returns-in-TxWatch-clause-exact c = arm_exact mail_body_json no_echo _ _ _ (codes "TxWatch") _ c.in-Some.ensures.exact c.in-TxWatch.is c.mail_body_tx_watch.ensures.exact
+
+pub returns-in-TxWatched-clause-exact : goal.returns-in-TxWatched-clause-exact
+returns-in-TxWatched-clause-exact c = arm_exact mail_body_json no_echo _ _ _ (codes "TxWatched") _ c.in-Some.ensures.exact c.in-TxWatched.is c.mail_body_tx_watched.ensures.exact
+
+pub returns-in-Told-clause-exact : goal.returns-in-Told-clause-exact
+returns-in-Told-clause-exact c = arm_exact mail_body_json no_echo _ _ _ (codes "Told") _ c.in-Some.ensures.exact c.in-Told.is c.mail_body_told.ensures.exact

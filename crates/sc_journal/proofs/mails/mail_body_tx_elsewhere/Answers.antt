@@ -1,15 +1,19 @@
 use Rattle.std.proofs.Common.{codes, ap}
-use Rattle.serde_json.specs.Find.{get}
 use Rattle.sc_mail.specs.declared.bodies.MailBody.TheVariants.{TxElsewhere}
 use Rattle.sc_row_text.specs.Mails.{mail_body_json, FitsMailBody}
+use Rattle.sc_row_text.specs.Shapes.{variant}
 use Rattle.sc_from_json.specs.Reading.{content_of}
 use Rattle.sc_from_json.proofs.Finding.{failed}
 use Rattle.sc_journal.proofs.mails.mail_body_tx_elsewhere.Goals as goal
 
-pub returns-in_err-coord : goal.returns-in_err-coord
+pub returns-in_err-coord-clause-finds : goal.returns-in_err-coord-clause-finds
 unfolding mail_body_json FitsMailBody
-returns-in_err-coord c = λ tx coord hint fits e. failed _ _ _ c.from_residual.ensures (c.in_err-coord.ensures coord hint tx fits.0 fits.1 fits.2 (ap (λ d. get (codes "coord") (content_of d)) e) (ap (λ d. get (codes "hint") (content_of d)) e) (ap (λ d. get (codes "tx") (content_of d)) e))
+returns-in_err-coord-clause-finds c = λ tx coord hint fits e. failed _ _ _ c.from_residual.ensures (c.in_err-coord.ensures.finds coord hint tx fits.0 fits.1 fits.2 (ap content_of e))
 
-pub returns : goal.returns
+pub returns-clause-finds : goal.returns-clause-finds
 unfolding mail_body_json FitsMailBody
-returns c = λ tx coord hint fits e. ap (λ p. TxElsewhere p.2 p.0 p.1) (c.in_ok-coord.ensures coord hint tx fits.0 fits.1 fits.2 (ap (λ d. get (codes "coord") (content_of d)) e) (ap (λ d. get (codes "hint") (content_of d)) e) (ap (λ d. get (codes "tx") (content_of d)) e))
+returns-clause-finds c = λ tx coord hint fits e. ap (λ p. TxElsewhere p.2 p.0 p.1) (c.in_ok-coord.ensures.finds coord hint tx fits.0 fits.1 fits.2 (ap content_of e))
+
+pub returns-clause-exact : goal.returns-clause-exact
+unfolding mail_body_json
+returns-clause-exact c = ap (variant (codes "TxElsewhere")) c.in_ok-coord.ensures.exact

@@ -1,5 +1,5 @@
-use Rattle.std.proofs.Common.{◌≡◌, List, take}
-use Rattle.serde_json.specs.View.{items_view}
+use Rattle.std.proofs.Common.{◌≡◌, List, map, take}
+use Rattle.serde_json.specs.View.{view, items_view}
 use Rattle.sc_base.specs.Among.{Each}
 use Rattle.sc_mail.specs.declared.bodies.Mail.{Mail}
 use Rattle.sc_row_text.specs.Mails.{mail_json, FitsMail}
@@ -7,4 +7,4 @@ use Rattle.sc_row_text.specs.Shapes.{items_json}
 use Rattle.sc_journal.proofs.mails.mails_of.Given as goal
 
 abbrev pub invariant-loop-json : goal.invariant-loop-json
-invariant-loop-json l = (mails : List Mail) → Each FitsMail mails → items_view l.list ≡ items_json mail_json mails → l.mails.items ≡ take l.json-index mails
+invariant-loop-json l = ((mails : List Mail) → Each FitsMail mails → items_view l.list ≡ items_json mail_json mails → l.mails.items ≡ take l.json-index mails) × (map view (take l.json-index l.list) ≡ map mail_json l.mails.items)

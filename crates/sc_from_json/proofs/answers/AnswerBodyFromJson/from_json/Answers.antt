@@ -1,15 +1,17 @@
 use Rattle.std.proofs.Common.{◌≡◌, List, ℕ, codes, ap, sym, ◌∙◌, Result, refl, subst}
 use Rattle.std.specs.Prelude.{⊤}
-use Rattle.serde_json.specs.Data.{Data}
+use Rattle.serde_json.specs.Data.{Data, string}
 use Rattle.sc_mail.specs.declared.bodies.AnswerBody.{AnswerBody}
 use Rattle.sc_mail.specs.declared.bodies.AnswerBody.TheVariants.{Value, NotLeader, NotMine, Gone, Stale}
 use Rattle.sc_row_text.specs.Answers.{answer_body_json, FitsAnswerBody}
+use Rattle.sc_row_text.specs.Ops.{reply_json}
 use Rattle.sc_row_text.specs.Shapes.{variant}
 use Rattle.sc_from_json.specs.Reading.{Finds, MayBeVariant, content_of}
 use Rattle.sc_row_text.specs.Shapes.{variant_name}
 use Rattle.sc_from_json.specs.declared.faults.RowFault.{RowFault}
 use Rattle.sc_from_json.specs.declared.faults.RowFault.TheVariants.{NoRow, OutOfMemory}
 use Rattle.sc_row_text.proofs.Apart.{apart}
+use Rattle.sc_from_json.proofs.Variants.{arm_exact}
 use Rattle.sc_from_json.proofs.answers.AnswerBodyFromJson.from_json.Goals as goal
 
 -- the name of each variant
@@ -104,23 +106,47 @@ unfolding name HasContent
 at_stale json content found (Stale last) result e inner_is called_so is fits read = read last fits (rebuilt json content (Stale last) e inner_is tt)
 at_stale json content found _ result e inner_is called_so is fits read = absurd (apart _ _ (sym is ∙ called_so) refl)
 
-pub returns-in_default : goal.returns-in_default
-returns-in_default c = λ value fits e. absurd (c.in_default.ensures (shaped _ value e))
+pub returns-in_default-clause-finds : goal.returns-in_default-clause-finds
+returns-in_default-clause-finds c = λ value fits e. absurd (c.in_default.ensures.finds (shaped _ value e))
 
-pub returns-in-Value : goal.returns-in-Value
-returns-in-Value c = λ value fits e. let parts = c.in-Some.ensures (shaped _ value e) in at_value _ _ _ value _ e parts.1 (called _ _ value e parts.0) c.in-Value.is fits c.answer_body_value.ensures
+pub returns-in-Value-clause-finds : goal.returns-in-Value-clause-finds
+returns-in-Value-clause-finds c = λ value fits e. let parts = c.in-Some.ensures.finds (shaped _ value e) in at_value _ _ _ value _ e parts.1 (called _ _ value e parts.0) c.in-Value.is fits c.answer_body_value.ensures.finds
 
-pub returns-in-NotLeader : goal.returns-in-NotLeader
-returns-in-NotLeader c = λ value fits e. let parts = c.in-Some.ensures (shaped _ value e) in at_not_leader _ _ _ value _ e parts.1 (called _ _ value e parts.0) c.in-NotLeader.is fits c.answer_body_not_leader.ensures
+pub returns-in-NotLeader-clause-finds : goal.returns-in-NotLeader-clause-finds
+returns-in-NotLeader-clause-finds c = λ value fits e. let parts = c.in-Some.ensures.finds (shaped _ value e) in at_not_leader _ _ _ value _ e parts.1 (called _ _ value e parts.0) c.in-NotLeader.is fits c.answer_body_not_leader.ensures.finds
 
-pub returns-in-NotMine : goal.returns-in-NotMine
-returns-in-NotMine c = λ value fits e. let parts = c.in-Some.ensures (shaped _ value e) in at_not_mine _ _ _ value _ e parts.1 (called _ _ value e parts.0) c.in-NotMine.is fits c.answer_body_not_mine.ensures
+pub returns-in-NotMine-clause-finds : goal.returns-in-NotMine-clause-finds
+returns-in-NotMine-clause-finds c = λ value fits e. let parts = c.in-Some.ensures.finds (shaped _ value e) in at_not_mine _ _ _ value _ e parts.1 (called _ _ value e parts.0) c.in-NotMine.is fits c.answer_body_not_mine.ensures.finds
 
-pub returns-in-Gone : goal.returns-in-Gone
-returns-in-Gone c = λ value fits e. let parts = c.in-Some.ensures (shaped _ value e) in at_gone _ _ _ value _ e parts.1 (called _ _ value e parts.0) c.in-Gone.is fits c.answer_body_gone.ensures
+pub returns-in-Gone-clause-finds : goal.returns-in-Gone-clause-finds
+returns-in-Gone-clause-finds c = λ value fits e. let parts = c.in-Some.ensures.finds (shaped _ value e) in at_gone _ _ _ value _ e parts.1 (called _ _ value e parts.0) c.in-Gone.is fits c.answer_body_gone.ensures.finds
 
-pub returns-in-Stale : goal.returns-in-Stale
-returns-in-Stale c = λ value fits e. let parts = c.in-Some.ensures (shaped _ value e) in at_stale _ _ _ value _ e parts.1 (called _ _ value e parts.0) c.in-Stale.is fits c.answer_body_stale.ensures
+pub returns-in-Stale-clause-finds : goal.returns-in-Stale-clause-finds
+returns-in-Stale-clause-finds c = λ value fits e. let parts = c.in-Some.ensures.finds (shaped _ value e) in at_stale _ _ _ value _ e parts.1 (called _ _ value e parts.0) c.in-Stale.is fits c.answer_body_stale.ensures.finds
 
-pub returns-in_default-name : goal.returns-in_default-name
-returns-in_default-name c = λ value fits e. let parts = c.in-Some.ensures (shaped _ value e) in none_left _ value (called _ _ value e parts.0) c.in_default-name.not-Value c.in_default-name.not-NotLeader c.in_default-name.not-NotMine c.in_default-name.not-Gone c.in_default-name.not-Stale
+pub returns-in_default-name-clause-finds : goal.returns-in_default-name-clause-finds
+returns-in_default-name-clause-finds c = λ value fits e. let parts = c.in-Some.ensures.finds (shaped _ value e) in none_left _ value (called _ _ value e parts.0) c.in_default-name.not-Value c.in_default-name.not-NotLeader c.in_default-name.not-NotMine c.in_default-name.not-Gone c.in_default-name.not-Stale
+
+-- no value is its own name in an object
+no_echo : (value : AnswerBody) (called : List ℕ) → variant called (string called) ≡ answer_body_json value → ⊥
+unfolding answer_body_json reply_json
+no_echo (Value inner) called same = cc
+no_echo (NotLeader hint) called same = cc
+no_echo (NotMine arc succ) called same = cc
+no_echo (Gone into) called same = cc
+no_echo (Stale last) called same = cc
+
+pub returns-in-Value-clause-exact : goal.returns-in-Value-clause-exact
+returns-in-Value-clause-exact c = arm_exact answer_body_json no_echo _ _ _ (codes "Value") _ c.in-Some.ensures.exact c.in-Value.is c.answer_body_value.ensures.exact
+
+pub returns-in-NotLeader-clause-exact : goal.returns-in-NotLeader-clause-exact
+returns-in-NotLeader-clause-exact c = arm_exact answer_body_json no_echo _ _ _ (codes "NotLeader") _ c.in-Some.ensures.exact c.in-NotLeader.is c.answer_body_not_leader.ensures.exact
+
+pub returns-in-NotMine-clause-exact : goal.returns-in-NotMine-clause-exact
+returns-in-NotMine-clause-exact c = arm_exact answer_body_json no_echo _ _ _ (codes "NotMine") _ c.in-Some.ensures.exact c.in-NotMine.is c.answer_body_not_mine.ensures.exact
+
+pub returns-in-Gone-clause-exact : goal.returns-in-Gone-clause-exact
+returns-in-Gone-clause-exact c = arm_exact answer_body_json no_echo _ _ _ (codes "Gone") _ c.in-Some.ensures.exact c.in-Gone.is c.answer_body_gone.ensures.exact
+
+pub returns-in-Stale-clause-exact : goal.returns-in-Stale-clause-exact
+returns-in-Stale-clause-exact c = arm_exact answer_body_json no_echo _ _ _ (codes "Stale") _ c.in-Some.ensures.exact c.in-Stale.is c.answer_body_stale.ensures.exact

@@ -1,6 +1,6 @@
 use Rattle.std.proofs.Common.{◌≡◌, List, ℕ, codes, ap, sym, ◌∙◌, Result, refl, subst}
 use Rattle.std.specs.Prelude.{⊤}
-use Rattle.serde_json.specs.Data.{Data}
+use Rattle.serde_json.specs.Data.{Data, string}
 use Rattle.sc_cmd.specs.declared.bodies.Body.{Body}
 use Rattle.sc_cmd.specs.declared.bodies.Body.TheVariants.{Merge, Repart, Migrate, Split}
 use Rattle.sc_row_text.specs.Bodies.{body_json, FitsBody}
@@ -10,6 +10,7 @@ use Rattle.sc_row_text.specs.Shapes.{variant_name}
 use Rattle.sc_from_json.specs.declared.faults.RowFault.{RowFault}
 use Rattle.sc_from_json.specs.declared.faults.RowFault.TheVariants.{NoRow, OutOfMemory}
 use Rattle.sc_row_text.proofs.Apart.{apart}
+use Rattle.sc_from_json.proofs.Variants.{arm_exact, unit_exact, unit_found}
 use Rattle.sc_from_json.proofs.bodies.BodyFromJson.from_json.Goals as goal
 
 -- the name of each variant
@@ -91,20 +92,42 @@ unfolding name HasContent
 at_split json content found (Split at child) result e inner_is called_so is fits read = read at child fits (rebuilt json content (Split at child) e inner_is tt)
 at_split json content found _ result e inner_is called_so is fits read = absurd (apart _ _ (sym is ∙ called_so) refl)
 
-pub returns-in_default : goal.returns-in_default
-returns-in_default c = λ value fits e. absurd (c.in_default.ensures (shaped _ value e))
+pub returns-in_default-clause-finds : goal.returns-in_default-clause-finds
+returns-in_default-clause-finds c = λ value fits e. absurd (c.in_default.ensures.finds (shaped _ value e))
 
-pub returns-in-Merge : goal.returns-in-Merge
-returns-in-Merge c = λ value fits e. let parts = c.in-Some.ensures (shaped _ value e) in at_merge _ value (called _ _ value e parts.0) c.in-Merge.is
+pub returns-in-Merge-clause-finds : goal.returns-in-Merge-clause-finds
+unfolding body_json
+returns-in-Merge-clause-finds c = λ value fits e. let parts = c.in-Some.ensures.finds (shaped _ value e) in unit_found body_json _ value Merge _ e (at_merge _ value (called _ _ value e parts.0) c.in-Merge.is) refl c.word.ensures.finds
 
-pub returns-in-Repart : goal.returns-in-Repart
-returns-in-Repart c = λ value fits e. let parts = c.in-Some.ensures (shaped _ value e) in at_repart _ _ _ value _ e parts.1 (called _ _ value e parts.0) c.in-Repart.is fits c.body_repart.ensures
+pub returns-in-Repart-clause-finds : goal.returns-in-Repart-clause-finds
+returns-in-Repart-clause-finds c = λ value fits e. let parts = c.in-Some.ensures.finds (shaped _ value e) in at_repart _ _ _ value _ e parts.1 (called _ _ value e parts.0) c.in-Repart.is fits c.body_repart.ensures.finds
 
-pub returns-in-Migrate : goal.returns-in-Migrate
-returns-in-Migrate c = λ value fits e. let parts = c.in-Some.ensures (shaped _ value e) in at_migrate _ _ _ value _ e parts.1 (called _ _ value e parts.0) c.in-Migrate.is fits c.body_migrate.ensures
+pub returns-in-Migrate-clause-finds : goal.returns-in-Migrate-clause-finds
+returns-in-Migrate-clause-finds c = λ value fits e. let parts = c.in-Some.ensures.finds (shaped _ value e) in at_migrate _ _ _ value _ e parts.1 (called _ _ value e parts.0) c.in-Migrate.is fits c.body_migrate.ensures.finds
 
-pub returns-in-Split : goal.returns-in-Split
-returns-in-Split c = λ value fits e. let parts = c.in-Some.ensures (shaped _ value e) in at_split _ _ _ value _ e parts.1 (called _ _ value e parts.0) c.in-Split.is fits c.body_split.ensures
+pub returns-in-Split-clause-finds : goal.returns-in-Split-clause-finds
+returns-in-Split-clause-finds c = λ value fits e. let parts = c.in-Some.ensures.finds (shaped _ value e) in at_split _ _ _ value _ e parts.1 (called _ _ value e parts.0) c.in-Split.is fits c.body_split.ensures.finds
 
-pub returns-in_default-name : goal.returns-in_default-name
-returns-in_default-name c = λ value fits e. let parts = c.in-Some.ensures (shaped _ value e) in none_left _ value (called _ _ value e parts.0) c.in_default-name.not-Merge c.in_default-name.not-Repart c.in_default-name.not-Migrate c.in_default-name.not-Split
+pub returns-in_default-name-clause-finds : goal.returns-in_default-name-clause-finds
+returns-in_default-name-clause-finds c = λ value fits e. let parts = c.in-Some.ensures.finds (shaped _ value e) in none_left _ value (called _ _ value e parts.0) c.in_default-name.not-Merge c.in_default-name.not-Repart c.in_default-name.not-Migrate c.in_default-name.not-Split
+
+-- no value is its own name in an object
+no_echo : (value : Body) (called : List ℕ) → variant called (string called) ≡ body_json value → ⊥
+unfolding body_json
+no_echo Merge called same = cc
+no_echo (Repart at) called same = cc
+no_echo (Migrate node) called same = cc
+no_echo (Split at child) called same = cc
+
+pub returns-in-Merge-clause-exact : goal.returns-in-Merge-clause-exact
+unfolding body_json
+returns-in-Merge-clause-exact c = unit_exact body_json _ _ _ (codes "Merge") Merge _ c.in-Some.ensures.exact c.in-Merge.is refl c.word.ensures.exact
+
+pub returns-in-Repart-clause-exact : goal.returns-in-Repart-clause-exact
+returns-in-Repart-clause-exact c = arm_exact body_json no_echo _ _ _ (codes "Repart") _ c.in-Some.ensures.exact c.in-Repart.is c.body_repart.ensures.exact
+
+pub returns-in-Migrate-clause-exact : goal.returns-in-Migrate-clause-exact
+returns-in-Migrate-clause-exact c = arm_exact body_json no_echo _ _ _ (codes "Migrate") _ c.in-Some.ensures.exact c.in-Migrate.is c.body_migrate.ensures.exact
+
+pub returns-in-Split-clause-exact : goal.returns-in-Split-clause-exact
+returns-in-Split-clause-exact c = arm_exact body_json no_echo _ _ _ (codes "Split") _ c.in-Some.ensures.exact c.in-Split.is c.body_split.ensures.exact

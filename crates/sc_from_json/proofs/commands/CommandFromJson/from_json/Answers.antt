@@ -1,6 +1,6 @@
 use Rattle.std.proofs.Common.{◌≡◌, List, ℕ, codes, ap, sym, ◌∙◌, Result, refl, subst}
 use Rattle.std.specs.Prelude.{⊤}
-use Rattle.serde_json.specs.Data.{Data}
+use Rattle.serde_json.specs.Data.{Data, string}
 use Rattle.sc_cmd.specs.declared.commands.Command.{Command}
 use Rattle.sc_cmd.specs.declared.commands.Command.TheVariants.{Noop, Call, Join, Leave, Split, Begin, Prepared, RecordVote, GiveUp, Finish, Watched, RecordWatch}
 use Rattle.sc_row_text.specs.Commands.{command_json, FitsCommand}
@@ -10,6 +10,7 @@ use Rattle.sc_row_text.specs.Shapes.{variant_name}
 use Rattle.sc_from_json.specs.declared.faults.RowFault.{RowFault}
 use Rattle.sc_from_json.specs.declared.faults.RowFault.TheVariants.{NoRow, OutOfMemory}
 use Rattle.sc_row_text.proofs.Apart.{apart}
+use Rattle.sc_from_json.proofs.Variants.{arm_exact, unit_exact, unit_found}
 use Rattle.sc_from_json.proofs.commands.CommandFromJson.from_json.Goals as goal
 
 -- the name of each variant
@@ -187,44 +188,98 @@ unfolding name HasContent
 at_record_watch json content found (RecordWatch tx vote by) result e inner_is called_so is fits read = read tx vote by fits (rebuilt json content (RecordWatch tx vote by) e inner_is tt)
 at_record_watch json content found _ result e inner_is called_so is fits read = absurd (apart _ _ (sym is ∙ called_so) refl)
 
-pub returns-in_default : goal.returns-in_default
-returns-in_default c = λ value fits e. absurd (c.in_default.ensures (shaped _ value e))
+pub returns-in_default-clause-finds : goal.returns-in_default-clause-finds
+returns-in_default-clause-finds c = λ value fits e. absurd (c.in_default.ensures.finds (shaped _ value e))
 
-pub returns-in-Noop : goal.returns-in-Noop
-returns-in-Noop c = λ value fits e. let parts = c.in-Some.ensures (shaped _ value e) in at_noop _ value (called _ _ value e parts.0) c.in-Noop.is
+pub returns-in-Noop-clause-finds : goal.returns-in-Noop-clause-finds
+unfolding command_json
+returns-in-Noop-clause-finds c = λ value fits e. let parts = c.in-Some.ensures.finds (shaped _ value e) in unit_found command_json _ value Noop _ e (at_noop _ value (called _ _ value e parts.0) c.in-Noop.is) refl c.word.ensures.finds
 
-pub returns-in-Call : goal.returns-in-Call
-returns-in-Call c = λ value fits e. let parts = c.in-Some.ensures (shaped _ value e) in at_call _ _ _ value _ e parts.1 (called _ _ value e parts.0) c.in-Call.is fits c.command_call.ensures
+pub returns-in-Call-clause-finds : goal.returns-in-Call-clause-finds
+returns-in-Call-clause-finds c = λ value fits e. let parts = c.in-Some.ensures.finds (shaped _ value e) in at_call _ _ _ value _ e parts.1 (called _ _ value e parts.0) c.in-Call.is fits c.command_call.ensures.finds
 
-pub returns-in-Join : goal.returns-in-Join
-returns-in-Join c = λ value fits e. let parts = c.in-Some.ensures (shaped _ value e) in at_join _ _ _ value _ e parts.1 (called _ _ value e parts.0) c.in-Join.is fits c.command_join.ensures
+pub returns-in-Join-clause-finds : goal.returns-in-Join-clause-finds
+returns-in-Join-clause-finds c = λ value fits e. let parts = c.in-Some.ensures.finds (shaped _ value e) in at_join _ _ _ value _ e parts.1 (called _ _ value e parts.0) c.in-Join.is fits c.command_join.ensures.finds
 
-pub returns-in-Leave : goal.returns-in-Leave
-returns-in-Leave c = λ value fits e. let parts = c.in-Some.ensures (shaped _ value e) in at_leave _ _ _ value _ e parts.1 (called _ _ value e parts.0) c.in-Leave.is fits c.command_leave.ensures
+pub returns-in-Leave-clause-finds : goal.returns-in-Leave-clause-finds
+returns-in-Leave-clause-finds c = λ value fits e. let parts = c.in-Some.ensures.finds (shaped _ value e) in at_leave _ _ _ value _ e parts.1 (called _ _ value e parts.0) c.in-Leave.is fits c.command_leave.ensures.finds
 
-pub returns-in-Split : goal.returns-in-Split
-returns-in-Split c = λ value fits e. let parts = c.in-Some.ensures (shaped _ value e) in at_split _ _ _ value _ e parts.1 (called _ _ value e parts.0) c.in-Split.is fits c.command_split.ensures
+pub returns-in-Split-clause-finds : goal.returns-in-Split-clause-finds
+returns-in-Split-clause-finds c = λ value fits e. let parts = c.in-Some.ensures.finds (shaped _ value e) in at_split _ _ _ value _ e parts.1 (called _ _ value e parts.0) c.in-Split.is fits c.command_split.ensures.finds
 
-pub returns-in-Begin : goal.returns-in-Begin
-returns-in-Begin c = λ value fits e. let parts = c.in-Some.ensures (shaped _ value e) in at_begin _ _ _ value _ e parts.1 (called _ _ value e parts.0) c.in-Begin.is fits c.command_begin.ensures
+pub returns-in-Begin-clause-finds : goal.returns-in-Begin-clause-finds
+returns-in-Begin-clause-finds c = λ value fits e. let parts = c.in-Some.ensures.finds (shaped _ value e) in at_begin _ _ _ value _ e parts.1 (called _ _ value e parts.0) c.in-Begin.is fits c.command_begin.ensures.finds
 
-pub returns-in-Prepared : goal.returns-in-Prepared
-returns-in-Prepared c = λ value fits e. let parts = c.in-Some.ensures (shaped _ value e) in at_prepared _ _ _ value _ e parts.1 (called _ _ value e parts.0) c.in-Prepared.is fits c.command_prepared.ensures
+pub returns-in-Prepared-clause-finds : goal.returns-in-Prepared-clause-finds
+returns-in-Prepared-clause-finds c = λ value fits e. let parts = c.in-Some.ensures.finds (shaped _ value e) in at_prepared _ _ _ value _ e parts.1 (called _ _ value e parts.0) c.in-Prepared.is fits c.command_prepared.ensures.finds
 
-pub returns-in-RecordVote : goal.returns-in-RecordVote
-returns-in-RecordVote c = λ value fits e. let parts = c.in-Some.ensures (shaped _ value e) in at_record_vote _ _ _ value _ e parts.1 (called _ _ value e parts.0) c.in-RecordVote.is fits c.command_record_vote.ensures
+pub returns-in-RecordVote-clause-finds : goal.returns-in-RecordVote-clause-finds
+returns-in-RecordVote-clause-finds c = λ value fits e. let parts = c.in-Some.ensures.finds (shaped _ value e) in at_record_vote _ _ _ value _ e parts.1 (called _ _ value e parts.0) c.in-RecordVote.is fits c.command_record_vote.ensures.finds
 
-pub returns-in-GiveUp : goal.returns-in-GiveUp
-returns-in-GiveUp c = λ value fits e. let parts = c.in-Some.ensures (shaped _ value e) in at_give_up _ _ _ value _ e parts.1 (called _ _ value e parts.0) c.in-GiveUp.is fits c.command_give_up.ensures
+pub returns-in-GiveUp-clause-finds : goal.returns-in-GiveUp-clause-finds
+returns-in-GiveUp-clause-finds c = λ value fits e. let parts = c.in-Some.ensures.finds (shaped _ value e) in at_give_up _ _ _ value _ e parts.1 (called _ _ value e parts.0) c.in-GiveUp.is fits c.command_give_up.ensures.finds
 
-pub returns-in-Finish : goal.returns-in-Finish
-returns-in-Finish c = λ value fits e. let parts = c.in-Some.ensures (shaped _ value e) in at_finish _ _ _ value _ e parts.1 (called _ _ value e parts.0) c.in-Finish.is fits c.command_finish.ensures
+pub returns-in-Finish-clause-finds : goal.returns-in-Finish-clause-finds
+returns-in-Finish-clause-finds c = λ value fits e. let parts = c.in-Some.ensures.finds (shaped _ value e) in at_finish _ _ _ value _ e parts.1 (called _ _ value e parts.0) c.in-Finish.is fits c.command_finish.ensures.finds
 
-pub returns-in-Watched : goal.returns-in-Watched
-returns-in-Watched c = λ value fits e. let parts = c.in-Some.ensures (shaped _ value e) in at_watched _ _ _ value _ e parts.1 (called _ _ value e parts.0) c.in-Watched.is fits c.command_watched.ensures
+pub returns-in-Watched-clause-finds : goal.returns-in-Watched-clause-finds
+returns-in-Watched-clause-finds c = λ value fits e. let parts = c.in-Some.ensures.finds (shaped _ value e) in at_watched _ _ _ value _ e parts.1 (called _ _ value e parts.0) c.in-Watched.is fits c.command_watched.ensures.finds
 
-pub returns-in-RecordWatch : goal.returns-in-RecordWatch
-returns-in-RecordWatch c = λ value fits e. let parts = c.in-Some.ensures (shaped _ value e) in at_record_watch _ _ _ value _ e parts.1 (called _ _ value e parts.0) c.in-RecordWatch.is fits c.command_record_watch.ensures
+pub returns-in-RecordWatch-clause-finds : goal.returns-in-RecordWatch-clause-finds
+returns-in-RecordWatch-clause-finds c = λ value fits e. let parts = c.in-Some.ensures.finds (shaped _ value e) in at_record_watch _ _ _ value _ e parts.1 (called _ _ value e parts.0) c.in-RecordWatch.is fits c.command_record_watch.ensures.finds
 
-pub returns-in_default-name : goal.returns-in_default-name
-returns-in_default-name c = λ value fits e. let parts = c.in-Some.ensures (shaped _ value e) in none_left _ value (called _ _ value e parts.0) c.in_default-name.not-Noop c.in_default-name.not-Call c.in_default-name.not-Join c.in_default-name.not-Leave c.in_default-name.not-Split c.in_default-name.not-Begin c.in_default-name.not-Prepared c.in_default-name.not-RecordVote c.in_default-name.not-GiveUp c.in_default-name.not-Finish c.in_default-name.not-Watched c.in_default-name.not-RecordWatch
+pub returns-in_default-name-clause-finds : goal.returns-in_default-name-clause-finds
+returns-in_default-name-clause-finds c = λ value fits e. let parts = c.in-Some.ensures.finds (shaped _ value e) in none_left _ value (called _ _ value e parts.0) c.in_default-name.not-Noop c.in_default-name.not-Call c.in_default-name.not-Join c.in_default-name.not-Leave c.in_default-name.not-Split c.in_default-name.not-Begin c.in_default-name.not-Prepared c.in_default-name.not-RecordVote c.in_default-name.not-GiveUp c.in_default-name.not-Finish c.in_default-name.not-Watched c.in_default-name.not-RecordWatch
+
+-- no value is its own name in an object
+no_echo : (value : Command) (called : List ℕ) → variant called (string called) ≡ command_json value → ⊥
+unfolding command_json
+no_echo Noop called same = cc
+no_echo (Call client seq op) called same = cc
+no_echo (Join node order) called same = cc
+no_echo (Leave node order) called same = cc
+no_echo (Split at child order) called same = cc
+no_echo (Begin tx body order) called same = cc
+no_echo (Prepared tx offer) called same = cc
+no_echo (RecordVote tx vote by) called same = cc
+no_echo (GiveUp tx) called same = cc
+no_echo (Finish tx outcome) called same = cc
+no_echo (Watched tx watch) called same = cc
+no_echo (RecordWatch tx vote by) called same = cc
+
+pub returns-in-Noop-clause-exact : goal.returns-in-Noop-clause-exact
+unfolding command_json
+returns-in-Noop-clause-exact c = unit_exact command_json _ _ _ (codes "Noop") Noop _ c.in-Some.ensures.exact c.in-Noop.is refl c.word.ensures.exact
+
+pub returns-in-Call-clause-exact : goal.returns-in-Call-clause-exact
+returns-in-Call-clause-exact c = arm_exact command_json no_echo _ _ _ (codes "Call") _ c.in-Some.ensures.exact c.in-Call.is c.command_call.ensures.exact
+
+pub returns-in-Join-clause-exact : goal.returns-in-Join-clause-exact
+returns-in-Join-clause-exact c = arm_exact command_json no_echo _ _ _ (codes "Join") _ c.in-Some.ensures.exact c.in-Join.is c.command_join.ensures.exact
+
+pub returns-in-Leave-clause-exact : goal.returns-in-Leave-clause-exact
+returns-in-Leave-clause-exact c = arm_exact command_json no_echo _ _ _ (codes "Leave") _ c.in-Some.ensures.exact c.in-Leave.is c.command_leave.ensures.exact
+
+pub returns-in-Split-clause-exact : goal.returns-in-Split-clause-exact
+returns-in-Split-clause-exact c = arm_exact command_json no_echo _ _ _ (codes "Split") _ c.in-Some.ensures.exact c.in-Split.is c.command_split.ensures.exact
+
+pub returns-in-Begin-clause-exact : goal.returns-in-Begin-clause-exact
+returns-in-Begin-clause-exact c = arm_exact command_json no_echo _ _ _ (codes "Begin") _ c.in-Some.ensures.exact c.in-Begin.is c.command_begin.ensures.exact
+
+pub returns-in-Prepared-clause-exact : goal.returns-in-Prepared-clause-exact
+returns-in-Prepared-clause-exact c = arm_exact command_json no_echo _ _ _ (codes "Prepared") _ c.in-Some.ensures.exact c.in-Prepared.is c.command_prepared.ensures.exact
+
+pub returns-in-RecordVote-clause-exact : goal.returns-in-RecordVote-clause-exact
+returns-in-RecordVote-clause-exact c = arm_exact command_json no_echo _ _ _ (codes "RecordVote") _ c.in-Some.ensures.exact c.in-RecordVote.is c.command_record_vote.ensures.exact
+
+pub returns-in-GiveUp-clause-exact : goal.returns-in-GiveUp-clause-exact
+returns-in-GiveUp-clause-exact c = arm_exact command_json no_echo _ _ _ (codes "GiveUp") _ c.in-Some.ensures.exact c.in-GiveUp.is c.command_give_up.ensures.exact
+
+pub returns-in-Finish-clause-exact : goal.returns-in-Finish-clause-exact
+returns-in-Finish-clause-exact c = arm_exact command_json no_echo _ _ _ (codes "Finish") _ c.in-Some.ensures.exact c.in-Finish.is c.command_finish.ensures.exact
+
+pub returns-in-Watched-clause-exact : goal.returns-in-Watched-clause-exact
+returns-in-Watched-clause-exact c = arm_exact command_json no_echo _ _ _ (codes "Watched") _ c.in-Some.ensures.exact c.in-Watched.is c.command_watched.ensures.exact
+
+pub returns-in-RecordWatch-clause-exact : goal.returns-in-RecordWatch-clause-exact
+returns-in-RecordWatch-clause-exact c = arm_exact command_json no_echo _ _ _ (codes "RecordWatch") _ c.in-Some.ensures.exact c.in-RecordWatch.is c.command_record_watch.ensures.exact

@@ -1,6 +1,6 @@
 use Rattle.std.proofs.Common.{◌≡◌, List, ℕ, codes, ap, sym, ◌∙◌, Result, refl, subst}
 use Rattle.std.specs.Prelude.{⊤}
-use Rattle.serde_json.specs.Data.{Data}
+use Rattle.serde_json.specs.Data.{Data, string}
 use Rattle.sc_cmd.specs.declared.cores.Lock.{Lock}
 use Rattle.sc_cmd.specs.declared.cores.Lock.TheVariants.{Free, Coordinating, Promised, Watching}
 use Rattle.sc_row_text.specs.Cores.{lock_json, FitsLock}
@@ -10,6 +10,7 @@ use Rattle.sc_row_text.specs.Shapes.{variant_name}
 use Rattle.sc_from_json.specs.declared.faults.RowFault.{RowFault}
 use Rattle.sc_from_json.specs.declared.faults.RowFault.TheVariants.{NoRow, OutOfMemory}
 use Rattle.sc_row_text.proofs.Apart.{apart}
+use Rattle.sc_from_json.proofs.Variants.{arm_exact, unit_exact, unit_found}
 use Rattle.sc_from_json.proofs.cores.LockFromJson.from_json.Goals as goal
 
 -- the name of each variant
@@ -91,20 +92,42 @@ unfolding name HasContent
 at_watching json content found (Watching tx watch) result e inner_is called_so is fits read = read tx watch fits (rebuilt json content (Watching tx watch) e inner_is tt)
 at_watching json content found _ result e inner_is called_so is fits read = absurd (apart _ _ (sym is ∙ called_so) refl)
 
-pub returns-in_default : goal.returns-in_default
-returns-in_default c = λ value fits e. absurd (c.in_default.ensures (shaped _ value e))
+pub returns-in_default-clause-finds : goal.returns-in_default-clause-finds
+returns-in_default-clause-finds c = λ value fits e. absurd (c.in_default.ensures.finds (shaped _ value e))
 
-pub returns-in-Free : goal.returns-in-Free
-returns-in-Free c = λ value fits e. let parts = c.in-Some.ensures (shaped _ value e) in at_free _ value (called _ _ value e parts.0) c.in-Free.is
+pub returns-in-Free-clause-finds : goal.returns-in-Free-clause-finds
+unfolding lock_json
+returns-in-Free-clause-finds c = λ value fits e. let parts = c.in-Some.ensures.finds (shaped _ value e) in unit_found lock_json _ value Free _ e (at_free _ value (called _ _ value e parts.0) c.in-Free.is) refl c.word.ensures.finds
 
-pub returns-in-Coordinating : goal.returns-in-Coordinating
-returns-in-Coordinating c = λ value fits e. let parts = c.in-Some.ensures (shaped _ value e) in at_coordinating _ _ _ value _ e parts.1 (called _ _ value e parts.0) c.in-Coordinating.is fits c.lock_coordinating.ensures
+pub returns-in-Coordinating-clause-finds : goal.returns-in-Coordinating-clause-finds
+returns-in-Coordinating-clause-finds c = λ value fits e. let parts = c.in-Some.ensures.finds (shaped _ value e) in at_coordinating _ _ _ value _ e parts.1 (called _ _ value e parts.0) c.in-Coordinating.is fits c.lock_coordinating.ensures.finds
 
-pub returns-in-Promised : goal.returns-in-Promised
-returns-in-Promised c = λ value fits e. let parts = c.in-Some.ensures (shaped _ value e) in at_promised _ _ _ value _ e parts.1 (called _ _ value e parts.0) c.in-Promised.is fits c.lock_promised.ensures
+pub returns-in-Promised-clause-finds : goal.returns-in-Promised-clause-finds
+returns-in-Promised-clause-finds c = λ value fits e. let parts = c.in-Some.ensures.finds (shaped _ value e) in at_promised _ _ _ value _ e parts.1 (called _ _ value e parts.0) c.in-Promised.is fits c.lock_promised.ensures.finds
 
-pub returns-in-Watching : goal.returns-in-Watching
-returns-in-Watching c = λ value fits e. let parts = c.in-Some.ensures (shaped _ value e) in at_watching _ _ _ value _ e parts.1 (called _ _ value e parts.0) c.in-Watching.is fits c.lock_watching.ensures
+pub returns-in-Watching-clause-finds : goal.returns-in-Watching-clause-finds
+returns-in-Watching-clause-finds c = λ value fits e. let parts = c.in-Some.ensures.finds (shaped _ value e) in at_watching _ _ _ value _ e parts.1 (called _ _ value e parts.0) c.in-Watching.is fits c.lock_watching.ensures.finds
 
-pub returns-in_default-name : goal.returns-in_default-name
-returns-in_default-name c = λ value fits e. let parts = c.in-Some.ensures (shaped _ value e) in none_left _ value (called _ _ value e parts.0) c.in_default-name.not-Free c.in_default-name.not-Coordinating c.in_default-name.not-Promised c.in_default-name.not-Watching
+pub returns-in_default-name-clause-finds : goal.returns-in_default-name-clause-finds
+returns-in_default-name-clause-finds c = λ value fits e. let parts = c.in-Some.ensures.finds (shaped _ value e) in none_left _ value (called _ _ value e parts.0) c.in_default-name.not-Free c.in_default-name.not-Coordinating c.in_default-name.not-Promised c.in_default-name.not-Watching
+
+-- no value is its own name in an object
+no_echo : (value : Lock) (called : List ℕ) → variant called (string called) ≡ lock_json value → ⊥
+unfolding lock_json
+no_echo Free called same = cc
+no_echo (Coordinating tx body order heard) called same = cc
+no_echo (Promised tx offer) called same = cc
+no_echo (Watching tx watch) called same = cc
+
+pub returns-in-Free-clause-exact : goal.returns-in-Free-clause-exact
+unfolding lock_json
+returns-in-Free-clause-exact c = unit_exact lock_json _ _ _ (codes "Free") Free _ c.in-Some.ensures.exact c.in-Free.is refl c.word.ensures.exact
+
+pub returns-in-Coordinating-clause-exact : goal.returns-in-Coordinating-clause-exact
+returns-in-Coordinating-clause-exact c = arm_exact lock_json no_echo _ _ _ (codes "Coordinating") _ c.in-Some.ensures.exact c.in-Coordinating.is c.lock_coordinating.ensures.exact
+
+pub returns-in-Promised-clause-exact : goal.returns-in-Promised-clause-exact
+returns-in-Promised-clause-exact c = arm_exact lock_json no_echo _ _ _ (codes "Promised") _ c.in-Some.ensures.exact c.in-Promised.is c.lock_promised.ensures.exact
+
+pub returns-in-Watching-clause-exact : goal.returns-in-Watching-clause-exact
+returns-in-Watching-clause-exact c = arm_exact lock_json no_echo _ _ _ (codes "Watching") _ c.in-Some.ensures.exact c.in-Watching.is c.lock_watching.ensures.exact

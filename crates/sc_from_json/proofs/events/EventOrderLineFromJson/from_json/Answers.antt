@@ -1,16 +1,18 @@
 use Rattle.std.proofs.Common.{◌≡◌, List, ℕ, codes, ap, sym, ◌∙◌, Result, refl, subst}
 use Rattle.std.specs.Prelude.{⊤}
-use Rattle.serde_json.specs.Data.{Data}
+use Rattle.serde_json.specs.Data.{Data, string}
 use Rattle.sc_actor.specs.declared.rows.Event.{Event}
 use Rattle.sc_cmd.specs.declared.orders.OrderLine.{OrderLine}
 use Rattle.sc_actor.specs.declared.rows.Event.TheVariants.{Deliver, Tick, Go, Told, Crash, Drop, Again}
 use Rattle.sc_row_text.specs.Rows.{event_json, FitsEvent}
+use Rattle.sc_row_text.specs.Orders.{order_line_json}
 use Rattle.sc_row_text.specs.Shapes.{variant}
 use Rattle.sc_from_json.specs.Reading.{Finds, MayBeVariant, content_of}
 use Rattle.sc_row_text.specs.Shapes.{variant_name}
 use Rattle.sc_from_json.specs.declared.faults.RowFault.{RowFault}
 use Rattle.sc_from_json.specs.declared.faults.RowFault.TheVariants.{NoRow, OutOfMemory}
 use Rattle.sc_row_text.proofs.Apart.{apart}
+use Rattle.sc_from_json.proofs.Variants.{arm_exact, unit_exact, unit_found}
 use Rattle.sc_from_json.proofs.events.EventOrderLineFromJson.from_json.Goals as goal
 
 -- the name of each variant
@@ -126,29 +128,67 @@ unfolding name HasContent
 at_again json content found (Again inner) result e inner_is called_so is fits read = read inner fits (rebuilt json content (Again inner) e inner_is tt)
 at_again json content found _ result e inner_is called_so is fits read = absurd (apart _ _ (sym is ∙ called_so) refl)
 
-pub returns-in_default : goal.returns-in_default
-returns-in_default c = λ value fits e. absurd (c.in_default.ensures (shaped _ value e))
+pub returns-in_default-clause-finds : goal.returns-in_default-clause-finds
+returns-in_default-clause-finds c = λ value fits e. absurd (c.in_default.ensures.finds (shaped _ value e))
 
-pub returns-in-Deliver : goal.returns-in-Deliver
-returns-in-Deliver c = λ value fits e. let parts = c.in-Some.ensures (shaped _ value e) in at_deliver _ _ _ value _ e parts.1 (called _ _ value e parts.0) c.in-Deliver.is fits c.event_deliver.ensures
+pub returns-in-Deliver-clause-finds : goal.returns-in-Deliver-clause-finds
+returns-in-Deliver-clause-finds c = λ value fits e. let parts = c.in-Some.ensures.finds (shaped _ value e) in at_deliver _ _ _ value _ e parts.1 (called _ _ value e parts.0) c.in-Deliver.is fits c.event_deliver.ensures.finds
 
-pub returns-in-Tick : goal.returns-in-Tick
-returns-in-Tick c = λ value fits e. let parts = c.in-Some.ensures (shaped _ value e) in at_tick _ value (called _ _ value e parts.0) c.in-Tick.is
+pub returns-in-Tick-clause-finds : goal.returns-in-Tick-clause-finds
+unfolding event_json
+returns-in-Tick-clause-finds c = λ value fits e. let parts = c.in-Some.ensures.finds (shaped _ value e) in unit_found event_json _ value Tick _ e (at_tick _ value (called _ _ value e parts.0) c.in-Tick.is) refl c.word.ensures.finds
 
-pub returns-in-Go : goal.returns-in-Go
-returns-in-Go c = λ value fits e. let parts = c.in-Some.ensures (shaped _ value e) in at_go _ value (called _ _ value e parts.0) c.in-Go.is
+pub returns-in-Go-clause-finds : goal.returns-in-Go-clause-finds
+unfolding event_json
+returns-in-Go-clause-finds c = λ value fits e. let parts = c.in-Some.ensures.finds (shaped _ value e) in unit_found event_json _ value Go _ e (at_go _ value (called _ _ value e parts.0) c.in-Go.is) refl c.word-in-Go.ensures.finds
 
-pub returns-in-Told : goal.returns-in-Told
-returns-in-Told c = λ value fits e. let parts = c.in-Some.ensures (shaped _ value e) in at_told _ _ _ value _ e parts.1 (called _ _ value e parts.0) c.in-Told.is fits c.event_told.ensures
+pub returns-in-Told-clause-finds : goal.returns-in-Told-clause-finds
+returns-in-Told-clause-finds c = λ value fits e. let parts = c.in-Some.ensures.finds (shaped _ value e) in at_told _ _ _ value _ e parts.1 (called _ _ value e parts.0) c.in-Told.is fits c.event_told.ensures.finds
 
-pub returns-in-Crash : goal.returns-in-Crash
-returns-in-Crash c = λ value fits e. let parts = c.in-Some.ensures (shaped _ value e) in at_crash _ value (called _ _ value e parts.0) c.in-Crash.is
+pub returns-in-Crash-clause-finds : goal.returns-in-Crash-clause-finds
+unfolding event_json
+returns-in-Crash-clause-finds c = λ value fits e. let parts = c.in-Some.ensures.finds (shaped _ value e) in unit_found event_json _ value Crash _ e (at_crash _ value (called _ _ value e parts.0) c.in-Crash.is) refl c.word-in-Crash.ensures.finds
 
-pub returns-in-Drop : goal.returns-in-Drop
-returns-in-Drop c = λ value fits e. let parts = c.in-Some.ensures (shaped _ value e) in at_drop _ _ _ value _ e parts.1 (called _ _ value e parts.0) c.in-Drop.is fits c.event_drop.ensures
+pub returns-in-Drop-clause-finds : goal.returns-in-Drop-clause-finds
+returns-in-Drop-clause-finds c = λ value fits e. let parts = c.in-Some.ensures.finds (shaped _ value e) in at_drop _ _ _ value _ e parts.1 (called _ _ value e parts.0) c.in-Drop.is fits c.event_drop.ensures.finds
 
-pub returns-in-Again : goal.returns-in-Again
-returns-in-Again c = λ value fits e. let parts = c.in-Some.ensures (shaped _ value e) in at_again _ _ _ value _ e parts.1 (called _ _ value e parts.0) c.in-Again.is fits c.event_again.ensures
+pub returns-in-Again-clause-finds : goal.returns-in-Again-clause-finds
+returns-in-Again-clause-finds c = λ value fits e. let parts = c.in-Some.ensures.finds (shaped _ value e) in at_again _ _ _ value _ e parts.1 (called _ _ value e parts.0) c.in-Again.is fits c.event_again.ensures.finds
 
-pub returns-in_default-name : goal.returns-in_default-name
-returns-in_default-name c = λ value fits e. let parts = c.in-Some.ensures (shaped _ value e) in none_left _ value (called _ _ value e parts.0) c.in_default-name.not-Deliver c.in_default-name.not-Tick c.in_default-name.not-Go c.in_default-name.not-Told c.in_default-name.not-Crash c.in_default-name.not-Drop c.in_default-name.not-Again
+pub returns-in_default-name-clause-finds : goal.returns-in_default-name-clause-finds
+returns-in_default-name-clause-finds c = λ value fits e. let parts = c.in-Some.ensures.finds (shaped _ value e) in none_left _ value (called _ _ value e parts.0) c.in_default-name.not-Deliver c.in_default-name.not-Tick c.in_default-name.not-Go c.in_default-name.not-Told c.in_default-name.not-Crash c.in_default-name.not-Drop c.in_default-name.not-Again
+
+-- no value is its own name in an object
+no_echo : (value : Event OrderLine) (called : List ℕ) → variant called (string called) ≡ event_json value → ⊥
+unfolding event_json order_line_json
+no_echo (Deliver inner) called same = cc
+no_echo Tick called same = cc
+no_echo Go called same = cc
+no_echo (Told inner) called same = cc
+no_echo Crash called same = cc
+no_echo (Drop inner) called same = cc
+no_echo (Again inner) called same = cc
+
+pub returns-in-Deliver-clause-exact : goal.returns-in-Deliver-clause-exact
+returns-in-Deliver-clause-exact c = arm_exact event_json no_echo _ _ _ (codes "Deliver") _ c.in-Some.ensures.exact c.in-Deliver.is c.event_deliver.ensures.exact
+
+pub returns-in-Tick-clause-exact : goal.returns-in-Tick-clause-exact
+unfolding event_json
+returns-in-Tick-clause-exact c = unit_exact event_json _ _ _ (codes "Tick") Tick _ c.in-Some.ensures.exact c.in-Tick.is refl c.word.ensures.exact
+
+pub returns-in-Go-clause-exact : goal.returns-in-Go-clause-exact
+unfolding event_json
+returns-in-Go-clause-exact c = unit_exact event_json _ _ _ (codes "Go") Go _ c.in-Some.ensures.exact c.in-Go.is refl c.word-in-Go.ensures.exact
+
+pub returns-in-Told-clause-exact : goal.returns-in-Told-clause-exact
+returns-in-Told-clause-exact c = arm_exact event_json no_echo _ _ _ (codes "Told") _ c.in-Some.ensures.exact c.in-Told.is c.event_told.ensures.exact
+
+pub returns-in-Crash-clause-exact : goal.returns-in-Crash-clause-exact
+unfolding event_json
+returns-in-Crash-clause-exact c = unit_exact event_json _ _ _ (codes "Crash") Crash _ c.in-Some.ensures.exact c.in-Crash.is refl c.word-in-Crash.ensures.exact
+
+pub returns-in-Drop-clause-exact : goal.returns-in-Drop-clause-exact
+returns-in-Drop-clause-exact c = arm_exact event_json no_echo _ _ _ (codes "Drop") _ c.in-Some.ensures.exact c.in-Drop.is c.event_drop.ensures.exact
+
+pub returns-in-Again-clause-exact : goal.returns-in-Again-clause-exact
+returns-in-Again-clause-exact c = arm_exact event_json no_echo _ _ _ (codes "Again") _ c.in-Some.ensures.exact c.in-Again.is c.event_again.ensures.exact

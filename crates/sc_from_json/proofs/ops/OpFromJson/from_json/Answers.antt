@@ -1,6 +1,6 @@
 use Rattle.std.proofs.Common.{◌≡◌, List, ℕ, codes, ap, sym, ◌∙◌, Result, refl, subst}
 use Rattle.std.specs.Prelude.{⊤}
-use Rattle.serde_json.specs.Data.{Data}
+use Rattle.serde_json.specs.Data.{Data, string}
 use Rattle.sc_base.specs.declared.ops.Op.{Op}
 use Rattle.sc_base.specs.declared.ops.Op.TheVariants.{Get, Put, Del, Add, Cas}
 use Rattle.sc_row_text.specs.Ops.{op_json, FitsOp}
@@ -10,6 +10,7 @@ use Rattle.sc_row_text.specs.Shapes.{variant_name}
 use Rattle.sc_from_json.specs.declared.faults.RowFault.{RowFault}
 use Rattle.sc_from_json.specs.declared.faults.RowFault.TheVariants.{NoRow, OutOfMemory}
 use Rattle.sc_row_text.proofs.Apart.{apart}
+use Rattle.sc_from_json.proofs.Variants.{arm_exact}
 use Rattle.sc_from_json.proofs.ops.OpFromJson.from_json.Goals as goal
 
 -- the name of each variant
@@ -104,23 +105,47 @@ unfolding name HasContent
 at_cas json content found (Cas key expect value) result e inner_is called_so is fits read = read key expect value fits (rebuilt json content (Cas key expect value) e inner_is tt)
 at_cas json content found _ result e inner_is called_so is fits read = absurd (apart _ _ (sym is ∙ called_so) refl)
 
-pub returns-in_default : goal.returns-in_default
-returns-in_default c = λ value fits e. absurd (c.in_default.ensures (shaped _ value e))
+pub returns-in_default-clause-finds : goal.returns-in_default-clause-finds
+returns-in_default-clause-finds c = λ value fits e. absurd (c.in_default.ensures.finds (shaped _ value e))
 
-pub returns-in-Get : goal.returns-in-Get
-returns-in-Get c = λ value fits e. let parts = c.in-Some.ensures (shaped _ value e) in at_get _ _ _ value _ e parts.1 (called _ _ value e parts.0) c.in-Get.is fits c.op_get.ensures
+pub returns-in-Get-clause-finds : goal.returns-in-Get-clause-finds
+returns-in-Get-clause-finds c = λ value fits e. let parts = c.in-Some.ensures.finds (shaped _ value e) in at_get _ _ _ value _ e parts.1 (called _ _ value e parts.0) c.in-Get.is fits c.op_get.ensures.finds
 
-pub returns-in-Put : goal.returns-in-Put
-returns-in-Put c = λ value fits e. let parts = c.in-Some.ensures (shaped _ value e) in at_put _ _ _ value _ e parts.1 (called _ _ value e parts.0) c.in-Put.is fits c.op_put.ensures
+pub returns-in-Put-clause-finds : goal.returns-in-Put-clause-finds
+returns-in-Put-clause-finds c = λ value fits e. let parts = c.in-Some.ensures.finds (shaped _ value e) in at_put _ _ _ value _ e parts.1 (called _ _ value e parts.0) c.in-Put.is fits c.op_put.ensures.finds
 
-pub returns-in-Del : goal.returns-in-Del
-returns-in-Del c = λ value fits e. let parts = c.in-Some.ensures (shaped _ value e) in at_del _ _ _ value _ e parts.1 (called _ _ value e parts.0) c.in-Del.is fits c.op_del.ensures
+pub returns-in-Del-clause-finds : goal.returns-in-Del-clause-finds
+returns-in-Del-clause-finds c = λ value fits e. let parts = c.in-Some.ensures.finds (shaped _ value e) in at_del _ _ _ value _ e parts.1 (called _ _ value e parts.0) c.in-Del.is fits c.op_del.ensures.finds
 
-pub returns-in-Add : goal.returns-in-Add
-returns-in-Add c = λ value fits e. let parts = c.in-Some.ensures (shaped _ value e) in at_add _ _ _ value _ e parts.1 (called _ _ value e parts.0) c.in-Add.is fits c.op_add.ensures
+pub returns-in-Add-clause-finds : goal.returns-in-Add-clause-finds
+returns-in-Add-clause-finds c = λ value fits e. let parts = c.in-Some.ensures.finds (shaped _ value e) in at_add _ _ _ value _ e parts.1 (called _ _ value e parts.0) c.in-Add.is fits c.op_add.ensures.finds
 
-pub returns-in-Cas : goal.returns-in-Cas
-returns-in-Cas c = λ value fits e. let parts = c.in-Some.ensures (shaped _ value e) in at_cas _ _ _ value _ e parts.1 (called _ _ value e parts.0) c.in-Cas.is fits c.op_cas.ensures
+pub returns-in-Cas-clause-finds : goal.returns-in-Cas-clause-finds
+returns-in-Cas-clause-finds c = λ value fits e. let parts = c.in-Some.ensures.finds (shaped _ value e) in at_cas _ _ _ value _ e parts.1 (called _ _ value e parts.0) c.in-Cas.is fits c.op_cas.ensures.finds
 
-pub returns-in_default-name : goal.returns-in_default-name
-returns-in_default-name c = λ value fits e. let parts = c.in-Some.ensures (shaped _ value e) in none_left _ value (called _ _ value e parts.0) c.in_default-name.not-Get c.in_default-name.not-Put c.in_default-name.not-Del c.in_default-name.not-Add c.in_default-name.not-Cas
+pub returns-in_default-name-clause-finds : goal.returns-in_default-name-clause-finds
+returns-in_default-name-clause-finds c = λ value fits e. let parts = c.in-Some.ensures.finds (shaped _ value e) in none_left _ value (called _ _ value e parts.0) c.in_default-name.not-Get c.in_default-name.not-Put c.in_default-name.not-Del c.in_default-name.not-Add c.in_default-name.not-Cas
+
+-- no value is its own name in an object
+no_echo : (value : Op) (called : List ℕ) → variant called (string called) ≡ op_json value → ⊥
+unfolding op_json
+no_echo (Get key) called same = cc
+no_echo (Put key value) called same = cc
+no_echo (Del key) called same = cc
+no_echo (Add key value) called same = cc
+no_echo (Cas key expect value) called same = cc
+
+pub returns-in-Get-clause-exact : goal.returns-in-Get-clause-exact
+returns-in-Get-clause-exact c = arm_exact op_json no_echo _ _ _ (codes "Get") _ c.in-Some.ensures.exact c.in-Get.is c.op_get.ensures.exact
+
+pub returns-in-Put-clause-exact : goal.returns-in-Put-clause-exact
+returns-in-Put-clause-exact c = arm_exact op_json no_echo _ _ _ (codes "Put") _ c.in-Some.ensures.exact c.in-Put.is c.op_put.ensures.exact
+
+pub returns-in-Del-clause-exact : goal.returns-in-Del-clause-exact
+returns-in-Del-clause-exact c = arm_exact op_json no_echo _ _ _ (codes "Del") _ c.in-Some.ensures.exact c.in-Del.is c.op_del.ensures.exact
+
+pub returns-in-Add-clause-exact : goal.returns-in-Add-clause-exact
+returns-in-Add-clause-exact c = arm_exact op_json no_echo _ _ _ (codes "Add") _ c.in-Some.ensures.exact c.in-Add.is c.op_add.ensures.exact
+
+pub returns-in-Cas-clause-exact : goal.returns-in-Cas-clause-exact
+returns-in-Cas-clause-exact c = arm_exact op_json no_echo _ _ _ (codes "Cas") _ c.in-Some.ensures.exact c.in-Cas.is c.op_cas.ensures.exact

@@ -1,6 +1,6 @@
 use Rattle.std.proofs.Common.{◌≡◌, List, ℕ, codes, ap, sym, ◌∙◌, Result, refl, subst}
 use Rattle.std.specs.Prelude.{⊤}
-use Rattle.serde_json.specs.Data.{Data}
+use Rattle.serde_json.specs.Data.{Data, string}
 use Rattle.sc_cmd.specs.declared.orders.Order.{Order}
 use Rattle.sc_cmd.specs.declared.orders.Order.TheVariants.{Join, Leave, Split, Merge, Repart, Migrate}
 use Rattle.sc_row_text.specs.Orders.{order_json, FitsOrder}
@@ -10,6 +10,7 @@ use Rattle.sc_row_text.specs.Shapes.{variant_name}
 use Rattle.sc_from_json.specs.declared.faults.RowFault.{RowFault}
 use Rattle.sc_from_json.specs.declared.faults.RowFault.TheVariants.{NoRow, OutOfMemory}
 use Rattle.sc_row_text.proofs.Apart.{apart}
+use Rattle.sc_from_json.proofs.Variants.{arm_exact}
 use Rattle.sc_from_json.proofs.orders.OrderFromJson.from_json.Goals as goal
 
 -- the name of each variant
@@ -116,26 +117,54 @@ unfolding name HasContent
 at_migrate json content found (Migrate group node) result e inner_is called_so is fits read = read group node fits (rebuilt json content (Migrate group node) e inner_is tt)
 at_migrate json content found _ result e inner_is called_so is fits read = absurd (apart _ _ (sym is ∙ called_so) refl)
 
-pub returns-in_default : goal.returns-in_default
-returns-in_default c = λ value fits e. absurd (c.in_default.ensures (shaped _ value e))
+pub returns-in_default-clause-finds : goal.returns-in_default-clause-finds
+returns-in_default-clause-finds c = λ value fits e. absurd (c.in_default.ensures.finds (shaped _ value e))
 
-pub returns-in-Join : goal.returns-in-Join
-returns-in-Join c = λ value fits e. let parts = c.in-Some.ensures (shaped _ value e) in at_join _ _ _ value _ e parts.1 (called _ _ value e parts.0) c.in-Join.is fits c.order_join.ensures
+pub returns-in-Join-clause-finds : goal.returns-in-Join-clause-finds
+returns-in-Join-clause-finds c = λ value fits e. let parts = c.in-Some.ensures.finds (shaped _ value e) in at_join _ _ _ value _ e parts.1 (called _ _ value e parts.0) c.in-Join.is fits c.order_join.ensures.finds
 
-pub returns-in-Leave : goal.returns-in-Leave
-returns-in-Leave c = λ value fits e. let parts = c.in-Some.ensures (shaped _ value e) in at_leave _ _ _ value _ e parts.1 (called _ _ value e parts.0) c.in-Leave.is fits c.order_leave.ensures
+pub returns-in-Leave-clause-finds : goal.returns-in-Leave-clause-finds
+returns-in-Leave-clause-finds c = λ value fits e. let parts = c.in-Some.ensures.finds (shaped _ value e) in at_leave _ _ _ value _ e parts.1 (called _ _ value e parts.0) c.in-Leave.is fits c.order_leave.ensures.finds
 
-pub returns-in-Split : goal.returns-in-Split
-returns-in-Split c = λ value fits e. let parts = c.in-Some.ensures (shaped _ value e) in at_split _ _ _ value _ e parts.1 (called _ _ value e parts.0) c.in-Split.is fits c.order_split.ensures
+pub returns-in-Split-clause-finds : goal.returns-in-Split-clause-finds
+returns-in-Split-clause-finds c = λ value fits e. let parts = c.in-Some.ensures.finds (shaped _ value e) in at_split _ _ _ value _ e parts.1 (called _ _ value e parts.0) c.in-Split.is fits c.order_split.ensures.finds
 
-pub returns-in-Merge : goal.returns-in-Merge
-returns-in-Merge c = λ value fits e. let parts = c.in-Some.ensures (shaped _ value e) in at_merge _ _ _ value _ e parts.1 (called _ _ value e parts.0) c.in-Merge.is fits c.order_merge.ensures
+pub returns-in-Merge-clause-finds : goal.returns-in-Merge-clause-finds
+returns-in-Merge-clause-finds c = λ value fits e. let parts = c.in-Some.ensures.finds (shaped _ value e) in at_merge _ _ _ value _ e parts.1 (called _ _ value e parts.0) c.in-Merge.is fits c.order_merge.ensures.finds
 
-pub returns-in-Repart : goal.returns-in-Repart
-returns-in-Repart c = λ value fits e. let parts = c.in-Some.ensures (shaped _ value e) in at_repart _ _ _ value _ e parts.1 (called _ _ value e parts.0) c.in-Repart.is fits c.order_repart.ensures
+pub returns-in-Repart-clause-finds : goal.returns-in-Repart-clause-finds
+returns-in-Repart-clause-finds c = λ value fits e. let parts = c.in-Some.ensures.finds (shaped _ value e) in at_repart _ _ _ value _ e parts.1 (called _ _ value e parts.0) c.in-Repart.is fits c.order_repart.ensures.finds
 
-pub returns-in-Migrate : goal.returns-in-Migrate
-returns-in-Migrate c = λ value fits e. let parts = c.in-Some.ensures (shaped _ value e) in at_migrate _ _ _ value _ e parts.1 (called _ _ value e parts.0) c.in-Migrate.is fits c.order_migrate.ensures
+pub returns-in-Migrate-clause-finds : goal.returns-in-Migrate-clause-finds
+returns-in-Migrate-clause-finds c = λ value fits e. let parts = c.in-Some.ensures.finds (shaped _ value e) in at_migrate _ _ _ value _ e parts.1 (called _ _ value e parts.0) c.in-Migrate.is fits c.order_migrate.ensures.finds
 
-pub returns-in_default-name : goal.returns-in_default-name
-returns-in_default-name c = λ value fits e. let parts = c.in-Some.ensures (shaped _ value e) in none_left _ value (called _ _ value e parts.0) c.in_default-name.not-Join c.in_default-name.not-Leave c.in_default-name.not-Split c.in_default-name.not-Merge c.in_default-name.not-Repart c.in_default-name.not-Migrate
+pub returns-in_default-name-clause-finds : goal.returns-in_default-name-clause-finds
+returns-in_default-name-clause-finds c = λ value fits e. let parts = c.in-Some.ensures.finds (shaped _ value e) in none_left _ value (called _ _ value e parts.0) c.in_default-name.not-Join c.in_default-name.not-Leave c.in_default-name.not-Split c.in_default-name.not-Merge c.in_default-name.not-Repart c.in_default-name.not-Migrate
+
+-- no value is its own name in an object
+no_echo : (value : Order) (called : List ℕ) → variant called (string called) ≡ order_json value → ⊥
+unfolding order_json
+no_echo (Join node group) called same = cc
+no_echo (Leave node group) called same = cc
+no_echo (Split group at) called same = cc
+no_echo (Merge group) called same = cc
+no_echo (Repart group at) called same = cc
+no_echo (Migrate group node) called same = cc
+
+pub returns-in-Join-clause-exact : goal.returns-in-Join-clause-exact
+returns-in-Join-clause-exact c = arm_exact order_json no_echo _ _ _ (codes "Join") _ c.in-Some.ensures.exact c.in-Join.is c.order_join.ensures.exact
+
+pub returns-in-Leave-clause-exact : goal.returns-in-Leave-clause-exact
+returns-in-Leave-clause-exact c = arm_exact order_json no_echo _ _ _ (codes "Leave") _ c.in-Some.ensures.exact c.in-Leave.is c.order_leave.ensures.exact
+
+pub returns-in-Split-clause-exact : goal.returns-in-Split-clause-exact
+returns-in-Split-clause-exact c = arm_exact order_json no_echo _ _ _ (codes "Split") _ c.in-Some.ensures.exact c.in-Split.is c.order_split.ensures.exact
+
+pub returns-in-Merge-clause-exact : goal.returns-in-Merge-clause-exact
+returns-in-Merge-clause-exact c = arm_exact order_json no_echo _ _ _ (codes "Merge") _ c.in-Some.ensures.exact c.in-Merge.is c.order_merge.ensures.exact
+
+pub returns-in-Repart-clause-exact : goal.returns-in-Repart-clause-exact
+returns-in-Repart-clause-exact c = arm_exact order_json no_echo _ _ _ (codes "Repart") _ c.in-Some.ensures.exact c.in-Repart.is c.order_repart.ensures.exact
+
+pub returns-in-Migrate-clause-exact : goal.returns-in-Migrate-clause-exact
+returns-in-Migrate-clause-exact c = arm_exact order_json no_echo _ _ _ (codes "Migrate") _ c.in-Some.ensures.exact c.in-Migrate.is c.order_migrate.ensures.exact

@@ -1,6 +1,6 @@
 use Rattle.std.proofs.Common.{◌≡◌, List, ℕ, codes, ap, sym, ◌∙◌, Result, refl, subst}
 use Rattle.std.specs.Prelude.{⊤}
-use Rattle.serde_json.specs.Data.{Data}
+use Rattle.serde_json.specs.Data.{Data, string}
 use Rattle.sc_cmd.specs.declared.orders.OrderRefusal.{OrderRefusal}
 use Rattle.sc_cmd.specs.declared.orders.OrderRefusal.TheVariants.{NotLeader, InTransaction, NoNeighbour, BadBoundary, TooManyMembers, NotMember, LastMember, TxLimit, IsMember}
 use Rattle.sc_row_text.specs.Orders.{order_refusal_json, FitsOrderRefusal}
@@ -10,6 +10,7 @@ use Rattle.sc_row_text.specs.Shapes.{variant_name}
 use Rattle.sc_from_json.specs.declared.faults.RowFault.{RowFault}
 use Rattle.sc_from_json.specs.declared.faults.RowFault.TheVariants.{NoRow, OutOfMemory}
 use Rattle.sc_row_text.proofs.Apart.{apart}
+use Rattle.sc_from_json.proofs.Variants.{arm_exact, unit_exact, unit_found}
 use Rattle.sc_from_json.proofs.orders.OrderRefusalFromJson.from_json.Goals as goal
 
 -- the name of each variant
@@ -146,35 +147,87 @@ unfolding name
 at_is_member found IsMember called_so is = refl
 at_is_member found _ called_so is = absurd (apart _ _ (sym is ∙ called_so) refl)
 
-pub returns-in_default : goal.returns-in_default
-returns-in_default c = λ value fits e. absurd (c.in_default.ensures (shaped _ value e))
+pub returns-in_default-clause-finds : goal.returns-in_default-clause-finds
+returns-in_default-clause-finds c = λ value fits e. absurd (c.in_default.ensures.finds (shaped _ value e))
 
-pub returns-in-NotLeader : goal.returns-in-NotLeader
-returns-in-NotLeader c = λ value fits e. let parts = c.in-Some.ensures (shaped _ value e) in at_not_leader _ _ _ value _ e parts.1 (called _ _ value e parts.0) c.in-NotLeader.is fits c.order_refusal_not_leader.ensures
+pub returns-in-NotLeader-clause-finds : goal.returns-in-NotLeader-clause-finds
+returns-in-NotLeader-clause-finds c = λ value fits e. let parts = c.in-Some.ensures.finds (shaped _ value e) in at_not_leader _ _ _ value _ e parts.1 (called _ _ value e parts.0) c.in-NotLeader.is fits c.order_refusal_not_leader.ensures.finds
 
-pub returns-in-InTransaction : goal.returns-in-InTransaction
-returns-in-InTransaction c = λ value fits e. let parts = c.in-Some.ensures (shaped _ value e) in at_in_transaction _ _ _ value _ e parts.1 (called _ _ value e parts.0) c.in-InTransaction.is fits c.order_refusal_in_transaction.ensures
+pub returns-in-InTransaction-clause-finds : goal.returns-in-InTransaction-clause-finds
+returns-in-InTransaction-clause-finds c = λ value fits e. let parts = c.in-Some.ensures.finds (shaped _ value e) in at_in_transaction _ _ _ value _ e parts.1 (called _ _ value e parts.0) c.in-InTransaction.is fits c.order_refusal_in_transaction.ensures.finds
 
-pub returns-in-NoNeighbour : goal.returns-in-NoNeighbour
-returns-in-NoNeighbour c = λ value fits e. let parts = c.in-Some.ensures (shaped _ value e) in at_no_neighbour _ value (called _ _ value e parts.0) c.in-NoNeighbour.is
+pub returns-in-NoNeighbour-clause-finds : goal.returns-in-NoNeighbour-clause-finds
+unfolding order_refusal_json
+returns-in-NoNeighbour-clause-finds c = λ value fits e. let parts = c.in-Some.ensures.finds (shaped _ value e) in unit_found order_refusal_json _ value NoNeighbour _ e (at_no_neighbour _ value (called _ _ value e parts.0) c.in-NoNeighbour.is) refl c.word.ensures.finds
 
-pub returns-in-BadBoundary : goal.returns-in-BadBoundary
-returns-in-BadBoundary c = λ value fits e. let parts = c.in-Some.ensures (shaped _ value e) in at_bad_boundary _ value (called _ _ value e parts.0) c.in-BadBoundary.is
+pub returns-in-BadBoundary-clause-finds : goal.returns-in-BadBoundary-clause-finds
+unfolding order_refusal_json
+returns-in-BadBoundary-clause-finds c = λ value fits e. let parts = c.in-Some.ensures.finds (shaped _ value e) in unit_found order_refusal_json _ value BadBoundary _ e (at_bad_boundary _ value (called _ _ value e parts.0) c.in-BadBoundary.is) refl c.word-in-BadBoundary.ensures.finds
 
-pub returns-in-TooManyMembers : goal.returns-in-TooManyMembers
-returns-in-TooManyMembers c = λ value fits e. let parts = c.in-Some.ensures (shaped _ value e) in at_too_many_members _ _ _ value _ e parts.1 (called _ _ value e parts.0) c.in-TooManyMembers.is fits c.order_refusal_too_many_members.ensures
+pub returns-in-TooManyMembers-clause-finds : goal.returns-in-TooManyMembers-clause-finds
+returns-in-TooManyMembers-clause-finds c = λ value fits e. let parts = c.in-Some.ensures.finds (shaped _ value e) in at_too_many_members _ _ _ value _ e parts.1 (called _ _ value e parts.0) c.in-TooManyMembers.is fits c.order_refusal_too_many_members.ensures.finds
 
-pub returns-in-NotMember : goal.returns-in-NotMember
-returns-in-NotMember c = λ value fits e. let parts = c.in-Some.ensures (shaped _ value e) in at_not_member _ value (called _ _ value e parts.0) c.in-NotMember.is
+pub returns-in-NotMember-clause-finds : goal.returns-in-NotMember-clause-finds
+unfolding order_refusal_json
+returns-in-NotMember-clause-finds c = λ value fits e. let parts = c.in-Some.ensures.finds (shaped _ value e) in unit_found order_refusal_json _ value NotMember _ e (at_not_member _ value (called _ _ value e parts.0) c.in-NotMember.is) refl c.word-in-NotMember.ensures.finds
 
-pub returns-in-LastMember : goal.returns-in-LastMember
-returns-in-LastMember c = λ value fits e. let parts = c.in-Some.ensures (shaped _ value e) in at_last_member _ value (called _ _ value e parts.0) c.in-LastMember.is
+pub returns-in-LastMember-clause-finds : goal.returns-in-LastMember-clause-finds
+unfolding order_refusal_json
+returns-in-LastMember-clause-finds c = λ value fits e. let parts = c.in-Some.ensures.finds (shaped _ value e) in unit_found order_refusal_json _ value LastMember _ e (at_last_member _ value (called _ _ value e parts.0) c.in-LastMember.is) refl c.word-in-LastMember.ensures.finds
 
-pub returns-in-TxLimit : goal.returns-in-TxLimit
-returns-in-TxLimit c = λ value fits e. let parts = c.in-Some.ensures (shaped _ value e) in at_tx_limit _ value (called _ _ value e parts.0) c.in-TxLimit.is
+pub returns-in-TxLimit-clause-finds : goal.returns-in-TxLimit-clause-finds
+unfolding order_refusal_json
+returns-in-TxLimit-clause-finds c = λ value fits e. let parts = c.in-Some.ensures.finds (shaped _ value e) in unit_found order_refusal_json _ value TxLimit _ e (at_tx_limit _ value (called _ _ value e parts.0) c.in-TxLimit.is) refl c.word-in-TxLimit.ensures.finds
 
-pub returns-in-IsMember : goal.returns-in-IsMember
-returns-in-IsMember c = λ value fits e. let parts = c.in-Some.ensures (shaped _ value e) in at_is_member _ value (called _ _ value e parts.0) c.in-IsMember.is
+pub returns-in-IsMember-clause-finds : goal.returns-in-IsMember-clause-finds
+unfolding order_refusal_json
+returns-in-IsMember-clause-finds c = λ value fits e. let parts = c.in-Some.ensures.finds (shaped _ value e) in unit_found order_refusal_json _ value IsMember _ e (at_is_member _ value (called _ _ value e parts.0) c.in-IsMember.is) refl c.word-in-IsMember.ensures.finds
 
-pub returns-in_default-name : goal.returns-in_default-name
-returns-in_default-name c = λ value fits e. let parts = c.in-Some.ensures (shaped _ value e) in none_left _ value (called _ _ value e parts.0) c.in_default-name.not-NotLeader c.in_default-name.not-InTransaction c.in_default-name.not-NoNeighbour c.in_default-name.not-BadBoundary c.in_default-name.not-TooManyMembers c.in_default-name.not-NotMember c.in_default-name.not-LastMember c.in_default-name.not-TxLimit c.in_default-name.not-IsMember
+pub returns-in_default-name-clause-finds : goal.returns-in_default-name-clause-finds
+returns-in_default-name-clause-finds c = λ value fits e. let parts = c.in-Some.ensures.finds (shaped _ value e) in none_left _ value (called _ _ value e parts.0) c.in_default-name.not-NotLeader c.in_default-name.not-InTransaction c.in_default-name.not-NoNeighbour c.in_default-name.not-BadBoundary c.in_default-name.not-TooManyMembers c.in_default-name.not-NotMember c.in_default-name.not-LastMember c.in_default-name.not-TxLimit c.in_default-name.not-IsMember
+
+-- no value is its own name in an object
+no_echo : (value : OrderRefusal) (called : List ℕ) → variant called (string called) ≡ order_refusal_json value → ⊥
+unfolding order_refusal_json
+no_echo (NotLeader hint) called same = cc
+no_echo (InTransaction tx) called same = cc
+no_echo NoNeighbour called same = cc
+no_echo BadBoundary called same = cc
+no_echo (TooManyMembers n) called same = cc
+no_echo NotMember called same = cc
+no_echo LastMember called same = cc
+no_echo TxLimit called same = cc
+no_echo IsMember called same = cc
+
+pub returns-in-NotLeader-clause-exact : goal.returns-in-NotLeader-clause-exact
+returns-in-NotLeader-clause-exact c = arm_exact order_refusal_json no_echo _ _ _ (codes "NotLeader") _ c.in-Some.ensures.exact c.in-NotLeader.is c.order_refusal_not_leader.ensures.exact
+
+pub returns-in-InTransaction-clause-exact : goal.returns-in-InTransaction-clause-exact
+returns-in-InTransaction-clause-exact c = arm_exact order_refusal_json no_echo _ _ _ (codes "InTransaction") _ c.in-Some.ensures.exact c.in-InTransaction.is c.order_refusal_in_transaction.ensures.exact
+
+pub returns-in-NoNeighbour-clause-exact : goal.returns-in-NoNeighbour-clause-exact
+unfolding order_refusal_json
+returns-in-NoNeighbour-clause-exact c = unit_exact order_refusal_json _ _ _ (codes "NoNeighbour") NoNeighbour _ c.in-Some.ensures.exact c.in-NoNeighbour.is refl c.word.ensures.exact
+
+pub returns-in-BadBoundary-clause-exact : goal.returns-in-BadBoundary-clause-exact
+unfolding order_refusal_json
+returns-in-BadBoundary-clause-exact c = unit_exact order_refusal_json _ _ _ (codes "BadBoundary") BadBoundary _ c.in-Some.ensures.exact c.in-BadBoundary.is refl c.word-in-BadBoundary.ensures.exact
+
+pub returns-in-TooManyMembers-clause-exact : goal.returns-in-TooManyMembers-clause-exact
+returns-in-TooManyMembers-clause-exact c = arm_exact order_refusal_json no_echo _ _ _ (codes "TooManyMembers") _ c.in-Some.ensures.exact c.in-TooManyMembers.is c.order_refusal_too_many_members.ensures.exact
+
+pub returns-in-NotMember-clause-exact : goal.returns-in-NotMember-clause-exact
+unfolding order_refusal_json
+returns-in-NotMember-clause-exact c = unit_exact order_refusal_json _ _ _ (codes "NotMember") NotMember _ c.in-Some.ensures.exact c.in-NotMember.is refl c.word-in-NotMember.ensures.exact
+
+pub returns-in-LastMember-clause-exact : goal.returns-in-LastMember-clause-exact
+unfolding order_refusal_json
+returns-in-LastMember-clause-exact c = unit_exact order_refusal_json _ _ _ (codes "LastMember") LastMember _ c.in-Some.ensures.exact c.in-LastMember.is refl c.word-in-LastMember.ensures.exact
+
+pub returns-in-TxLimit-clause-exact : goal.returns-in-TxLimit-clause-exact
+unfolding order_refusal_json
+returns-in-TxLimit-clause-exact c = unit_exact order_refusal_json _ _ _ (codes "TxLimit") TxLimit _ c.in-Some.ensures.exact c.in-TxLimit.is refl c.word-in-TxLimit.ensures.exact
+
+pub returns-in-IsMember-clause-exact : goal.returns-in-IsMember-clause-exact
+unfolding order_refusal_json
+returns-in-IsMember-clause-exact c = unit_exact order_refusal_json _ _ _ (codes "IsMember") IsMember _ c.in-Some.ensures.exact c.in-IsMember.is refl c.word-in-IsMember.ensures.exact

@@ -1,6 +1,6 @@
 use Rattle.std.proofs.Common.{◌≡◌, List, ℕ, codes, ap, sym, ◌∙◌, Result, refl, subst}
 use Rattle.std.specs.Prelude.{⊤}
-use Rattle.serde_json.specs.Data.{Data}
+use Rattle.serde_json.specs.Data.{Data, string}
 use Rattle.sc_cmd.specs.declared.orders.ToldResult.{ToldResult}
 use Rattle.sc_cmd.specs.declared.orders.ToldResult.TheVariants.{Done, Committed, Aborted, Refused}
 use Rattle.sc_row_text.specs.Orders.{told_result_json, FitsToldResult}
@@ -10,6 +10,8 @@ use Rattle.sc_row_text.specs.Shapes.{variant_name}
 use Rattle.sc_from_json.specs.declared.faults.RowFault.{RowFault}
 use Rattle.sc_from_json.specs.declared.faults.RowFault.TheVariants.{NoRow, OutOfMemory}
 use Rattle.sc_row_text.proofs.Apart.{apart}
+use Rattle.sc_from_json.proofs.Echoes.{no_refused_in_refused}
+use Rattle.sc_from_json.proofs.Variants.{arm_exact, unit_exact, unit_found}
 use Rattle.sc_from_json.proofs.orders.ToldResultFromJson.from_json.Goals as goal
 
 -- the name of each variant
@@ -89,20 +91,46 @@ unfolding name HasContent
 at_refused json content found (Refused inner) result e inner_is called_so is fits read = read inner fits (rebuilt json content (Refused inner) e inner_is tt)
 at_refused json content found _ result e inner_is called_so is fits read = absurd (apart _ _ (sym is ∙ called_so) refl)
 
-pub returns-in_default : goal.returns-in_default
-returns-in_default c = λ value fits e. absurd (c.in_default.ensures (shaped _ value e))
+pub returns-in_default-clause-finds : goal.returns-in_default-clause-finds
+returns-in_default-clause-finds c = λ value fits e. absurd (c.in_default.ensures.finds (shaped _ value e))
 
-pub returns-in-Done : goal.returns-in-Done
-returns-in-Done c = λ value fits e. let parts = c.in-Some.ensures (shaped _ value e) in at_done _ value (called _ _ value e parts.0) c.in-Done.is
+pub returns-in-Done-clause-finds : goal.returns-in-Done-clause-finds
+unfolding told_result_json
+returns-in-Done-clause-finds c = λ value fits e. let parts = c.in-Some.ensures.finds (shaped _ value e) in unit_found told_result_json _ value Done _ e (at_done _ value (called _ _ value e parts.0) c.in-Done.is) refl c.word.ensures.finds
 
-pub returns-in-Committed : goal.returns-in-Committed
-returns-in-Committed c = λ value fits e. let parts = c.in-Some.ensures (shaped _ value e) in at_committed _ value (called _ _ value e parts.0) c.in-Committed.is
+pub returns-in-Committed-clause-finds : goal.returns-in-Committed-clause-finds
+unfolding told_result_json
+returns-in-Committed-clause-finds c = λ value fits e. let parts = c.in-Some.ensures.finds (shaped _ value e) in unit_found told_result_json _ value Committed _ e (at_committed _ value (called _ _ value e parts.0) c.in-Committed.is) refl c.word-in-Committed.ensures.finds
 
-pub returns-in-Aborted : goal.returns-in-Aborted
-returns-in-Aborted c = λ value fits e. let parts = c.in-Some.ensures (shaped _ value e) in at_aborted _ value (called _ _ value e parts.0) c.in-Aborted.is
+pub returns-in-Aborted-clause-finds : goal.returns-in-Aborted-clause-finds
+unfolding told_result_json
+returns-in-Aborted-clause-finds c = λ value fits e. let parts = c.in-Some.ensures.finds (shaped _ value e) in unit_found told_result_json _ value Aborted _ e (at_aborted _ value (called _ _ value e parts.0) c.in-Aborted.is) refl c.word-in-Aborted.ensures.finds
 
-pub returns-in-Refused : goal.returns-in-Refused
-returns-in-Refused c = λ value fits e. let parts = c.in-Some.ensures (shaped _ value e) in at_refused _ _ _ value _ e parts.1 (called _ _ value e parts.0) c.in-Refused.is fits c.told_result_refused.ensures
+pub returns-in-Refused-clause-finds : goal.returns-in-Refused-clause-finds
+returns-in-Refused-clause-finds c = λ value fits e. let parts = c.in-Some.ensures.finds (shaped _ value e) in at_refused _ _ _ value _ e parts.1 (called _ _ value e parts.0) c.in-Refused.is fits c.told_result_refused.ensures.finds
 
-pub returns-in_default-name : goal.returns-in_default-name
-returns-in_default-name c = λ value fits e. let parts = c.in-Some.ensures (shaped _ value e) in none_left _ value (called _ _ value e parts.0) c.in_default-name.not-Done c.in_default-name.not-Committed c.in_default-name.not-Aborted c.in_default-name.not-Refused
+pub returns-in_default-name-clause-finds : goal.returns-in_default-name-clause-finds
+returns-in_default-name-clause-finds c = λ value fits e. let parts = c.in-Some.ensures.finds (shaped _ value e) in none_left _ value (called _ _ value e parts.0) c.in_default-name.not-Done c.in_default-name.not-Committed c.in_default-name.not-Aborted c.in_default-name.not-Refused
+
+-- no value is its own name in an object
+no_echo : (value : ToldResult) (called : List ℕ) → variant called (string called) ≡ told_result_json value → ⊥
+unfolding told_result_json
+no_echo Done called same = cc
+no_echo Committed called same = cc
+no_echo Aborted called same = cc
+no_echo (Refused inner) called same = no_refused_in_refused inner called same
+
+pub returns-in-Done-clause-exact : goal.returns-in-Done-clause-exact
+unfolding told_result_json
+returns-in-Done-clause-exact c = unit_exact told_result_json _ _ _ (codes "Done") Done _ c.in-Some.ensures.exact c.in-Done.is refl c.word.ensures.exact
+
+pub returns-in-Committed-clause-exact : goal.returns-in-Committed-clause-exact
+unfolding told_result_json
+returns-in-Committed-clause-exact c = unit_exact told_result_json _ _ _ (codes "Committed") Committed _ c.in-Some.ensures.exact c.in-Committed.is refl c.word-in-Committed.ensures.exact
+
+pub returns-in-Aborted-clause-exact : goal.returns-in-Aborted-clause-exact
+unfolding told_result_json
+returns-in-Aborted-clause-exact c = unit_exact told_result_json _ _ _ (codes "Aborted") Aborted _ c.in-Some.ensures.exact c.in-Aborted.is refl c.word-in-Aborted.ensures.exact
+
+pub returns-in-Refused-clause-exact : goal.returns-in-Refused-clause-exact
+returns-in-Refused-clause-exact c = arm_exact told_result_json no_echo _ _ _ (codes "Refused") _ c.in-Some.ensures.exact c.in-Refused.is c.told_result_refused.ensures.exact

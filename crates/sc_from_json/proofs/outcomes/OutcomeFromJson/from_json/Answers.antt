@@ -1,6 +1,6 @@
 use Rattle.std.proofs.Common.{◌≡◌, List, ℕ, codes, ap, sym, ◌∙◌, Result, refl, subst}
 use Rattle.std.specs.Prelude.{⊤}
-use Rattle.serde_json.specs.Data.{Data}
+use Rattle.serde_json.specs.Data.{Data, string}
 use Rattle.sc_cmd.specs.declared.votes.Outcome.{Outcome}
 use Rattle.sc_cmd.specs.declared.votes.Outcome.TheVariants.{Abort, Merged, Moved, Migrated, Divided}
 use Rattle.sc_row_text.specs.Outcomes.{outcome_json, FitsOutcome}
@@ -10,6 +10,7 @@ use Rattle.sc_row_text.specs.Shapes.{variant_name}
 use Rattle.sc_from_json.specs.declared.faults.RowFault.{RowFault}
 use Rattle.sc_from_json.specs.declared.faults.RowFault.TheVariants.{NoRow, OutOfMemory}
 use Rattle.sc_row_text.proofs.Apart.{apart}
+use Rattle.sc_from_json.proofs.Variants.{arm_exact, unit_exact, unit_found}
 use Rattle.sc_from_json.proofs.outcomes.OutcomeFromJson.from_json.Goals as goal
 
 -- the name of each variant
@@ -102,23 +103,51 @@ unfolding name
 at_divided found Divided called_so is = refl
 at_divided found _ called_so is = absurd (apart _ _ (sym is ∙ called_so) refl)
 
-pub returns-in_default : goal.returns-in_default
-returns-in_default c = λ value fits e. absurd (c.in_default.ensures (shaped _ value e))
+pub returns-in_default-clause-finds : goal.returns-in_default-clause-finds
+returns-in_default-clause-finds c = λ value fits e. absurd (c.in_default.ensures.finds (shaped _ value e))
 
-pub returns-in-Abort : goal.returns-in-Abort
-returns-in-Abort c = λ value fits e. let parts = c.in-Some.ensures (shaped _ value e) in at_abort _ value (called _ _ value e parts.0) c.in-Abort.is
+pub returns-in-Abort-clause-finds : goal.returns-in-Abort-clause-finds
+unfolding outcome_json
+returns-in-Abort-clause-finds c = λ value fits e. let parts = c.in-Some.ensures.finds (shaped _ value e) in unit_found outcome_json _ value Abort _ e (at_abort _ value (called _ _ value e parts.0) c.in-Abort.is) refl c.word.ensures.finds
 
-pub returns-in-Merged : goal.returns-in-Merged
-returns-in-Merged c = λ value fits e. let parts = c.in-Some.ensures (shaped _ value e) in at_merged _ _ _ value _ e parts.1 (called _ _ value e parts.0) c.in-Merged.is fits c.outcome_merged.ensures
+pub returns-in-Merged-clause-finds : goal.returns-in-Merged-clause-finds
+returns-in-Merged-clause-finds c = λ value fits e. let parts = c.in-Some.ensures.finds (shaped _ value e) in at_merged _ _ _ value _ e parts.1 (called _ _ value e parts.0) c.in-Merged.is fits c.outcome_merged.ensures.finds
 
-pub returns-in-Moved : goal.returns-in-Moved
-returns-in-Moved c = λ value fits e. let parts = c.in-Some.ensures (shaped _ value e) in at_moved _ _ _ value _ e parts.1 (called _ _ value e parts.0) c.in-Moved.is fits c.outcome_moved.ensures
+pub returns-in-Moved-clause-finds : goal.returns-in-Moved-clause-finds
+returns-in-Moved-clause-finds c = λ value fits e. let parts = c.in-Some.ensures.finds (shaped _ value e) in at_moved _ _ _ value _ e parts.1 (called _ _ value e parts.0) c.in-Moved.is fits c.outcome_moved.ensures.finds
 
-pub returns-in-Migrated : goal.returns-in-Migrated
-returns-in-Migrated c = λ value fits e. let parts = c.in-Some.ensures (shaped _ value e) in at_migrated _ _ _ value _ e parts.1 (called _ _ value e parts.0) c.in-Migrated.is fits c.outcome_migrated.ensures
+pub returns-in-Migrated-clause-finds : goal.returns-in-Migrated-clause-finds
+returns-in-Migrated-clause-finds c = λ value fits e. let parts = c.in-Some.ensures.finds (shaped _ value e) in at_migrated _ _ _ value _ e parts.1 (called _ _ value e parts.0) c.in-Migrated.is fits c.outcome_migrated.ensures.finds
 
-pub returns-in-Divided : goal.returns-in-Divided
-returns-in-Divided c = λ value fits e. let parts = c.in-Some.ensures (shaped _ value e) in at_divided _ value (called _ _ value e parts.0) c.in-Divided.is
+pub returns-in-Divided-clause-finds : goal.returns-in-Divided-clause-finds
+unfolding outcome_json
+returns-in-Divided-clause-finds c = λ value fits e. let parts = c.in-Some.ensures.finds (shaped _ value e) in unit_found outcome_json _ value Divided _ e (at_divided _ value (called _ _ value e parts.0) c.in-Divided.is) refl c.word-in-Divided.ensures.finds
 
-pub returns-in_default-name : goal.returns-in_default-name
-returns-in_default-name c = λ value fits e. let parts = c.in-Some.ensures (shaped _ value e) in none_left _ value (called _ _ value e parts.0) c.in_default-name.not-Abort c.in_default-name.not-Merged c.in_default-name.not-Moved c.in_default-name.not-Migrated c.in_default-name.not-Divided
+pub returns-in_default-name-clause-finds : goal.returns-in_default-name-clause-finds
+returns-in_default-name-clause-finds c = λ value fits e. let parts = c.in-Some.ensures.finds (shaped _ value e) in none_left _ value (called _ _ value e parts.0) c.in_default-name.not-Abort c.in_default-name.not-Merged c.in_default-name.not-Moved c.in_default-name.not-Migrated c.in_default-name.not-Divided
+
+-- no value is its own name in an object
+no_echo : (value : Outcome) (called : List ℕ) → variant called (string called) ≡ outcome_json value → ⊥
+unfolding outcome_json
+no_echo Abort called same = cc
+no_echo (Merged into) called same = cc
+no_echo (Moved at gift) called same = cc
+no_echo (Migrated node) called same = cc
+no_echo Divided called same = cc
+
+pub returns-in-Abort-clause-exact : goal.returns-in-Abort-clause-exact
+unfolding outcome_json
+returns-in-Abort-clause-exact c = unit_exact outcome_json _ _ _ (codes "Abort") Abort _ c.in-Some.ensures.exact c.in-Abort.is refl c.word.ensures.exact
+
+pub returns-in-Merged-clause-exact : goal.returns-in-Merged-clause-exact
+returns-in-Merged-clause-exact c = arm_exact outcome_json no_echo _ _ _ (codes "Merged") _ c.in-Some.ensures.exact c.in-Merged.is c.outcome_merged.ensures.exact
+
+pub returns-in-Moved-clause-exact : goal.returns-in-Moved-clause-exact
+returns-in-Moved-clause-exact c = arm_exact outcome_json no_echo _ _ _ (codes "Moved") _ c.in-Some.ensures.exact c.in-Moved.is c.outcome_moved.ensures.exact
+
+pub returns-in-Migrated-clause-exact : goal.returns-in-Migrated-clause-exact
+returns-in-Migrated-clause-exact c = arm_exact outcome_json no_echo _ _ _ (codes "Migrated") _ c.in-Some.ensures.exact c.in-Migrated.is c.outcome_migrated.ensures.exact
+
+pub returns-in-Divided-clause-exact : goal.returns-in-Divided-clause-exact
+unfolding outcome_json
+returns-in-Divided-clause-exact c = unit_exact outcome_json _ _ _ (codes "Divided") Divided _ c.in-Some.ensures.exact c.in-Divided.is refl c.word-in-Divided.ensures.exact

@@ -9,8 +9,8 @@ use Rattle.sc_base.proofs.TextLemmas.{no_fault}
 use Rattle.sc_from_json.proofs.TextSteps.{short_of, text_is}
 use Rattle.sc_from_json.proofs.texts.KeyFromJson.from_json.Goals as goal
 
-pub returns-in_err-try_new-in-Some : goal.returns-in_err-try_new-in-Some
-returns-in_err-try_new-in-Some c value fits same =
+pub returns-in_err-try_new-in-Some-clause-finds : goal.returns-in_err-try_new-in-Some-clause-finds
+returns-in_err-try_new-in-Some-clause-finds c value fits same =
     let bytes = c.as_bytes.result.now in
     let text : bytes ≡ value = c.as_bytes.ensures.value ∙ text_is (view c.args.json.now) c.in-Some.text.now value c.in-Some.ensures same in
     let none = ap (text_fault longest_key) text ∙ no_fault longest_key value fits in

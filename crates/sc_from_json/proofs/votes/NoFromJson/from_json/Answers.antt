@@ -1,6 +1,6 @@
 use Rattle.std.proofs.Common.{◌≡◌, List, ℕ, codes, ap, sym, ◌∙◌, Result, refl, subst}
 use Rattle.std.specs.Prelude.{⊤}
-use Rattle.serde_json.specs.Data.{Data}
+use Rattle.serde_json.specs.Data.{Data, string}
 use Rattle.sc_cmd.specs.declared.votes.No.{No}
 use Rattle.sc_cmd.specs.declared.votes.No.TheVariants.{Busy, Gone, Apart, TooMany}
 use Rattle.sc_row_text.specs.Votes.{no_json, FitsNo}
@@ -10,6 +10,7 @@ use Rattle.sc_row_text.specs.Shapes.{variant_name}
 use Rattle.sc_from_json.specs.declared.faults.RowFault.{RowFault}
 use Rattle.sc_from_json.specs.declared.faults.RowFault.TheVariants.{NoRow, OutOfMemory}
 use Rattle.sc_row_text.proofs.Apart.{apart}
+use Rattle.sc_from_json.proofs.Variants.{arm_exact, unit_exact, unit_found}
 use Rattle.sc_from_json.proofs.votes.NoFromJson.from_json.Goals as goal
 
 -- the name of each variant
@@ -90,20 +91,44 @@ unfolding name HasContent
 at_too_many json content found (TooMany n) result e inner_is called_so is fits read = read n fits (rebuilt json content (TooMany n) e inner_is tt)
 at_too_many json content found _ result e inner_is called_so is fits read = absurd (apart _ _ (sym is ∙ called_so) refl)
 
-pub returns-in_default : goal.returns-in_default
-returns-in_default c = λ value fits e. absurd (c.in_default.ensures (shaped _ value e))
+pub returns-in_default-clause-finds : goal.returns-in_default-clause-finds
+returns-in_default-clause-finds c = λ value fits e. absurd (c.in_default.ensures.finds (shaped _ value e))
 
-pub returns-in-Busy : goal.returns-in-Busy
-returns-in-Busy c = λ value fits e. let parts = c.in-Some.ensures (shaped _ value e) in at_busy _ _ _ value _ e parts.1 (called _ _ value e parts.0) c.in-Busy.is fits c.no_busy.ensures
+pub returns-in-Busy-clause-finds : goal.returns-in-Busy-clause-finds
+returns-in-Busy-clause-finds c = λ value fits e. let parts = c.in-Some.ensures.finds (shaped _ value e) in at_busy _ _ _ value _ e parts.1 (called _ _ value e parts.0) c.in-Busy.is fits c.no_busy.ensures.finds
 
-pub returns-in-Gone : goal.returns-in-Gone
-returns-in-Gone c = λ value fits e. let parts = c.in-Some.ensures (shaped _ value e) in at_gone _ value (called _ _ value e parts.0) c.in-Gone.is
+pub returns-in-Gone-clause-finds : goal.returns-in-Gone-clause-finds
+unfolding no_json
+returns-in-Gone-clause-finds c = λ value fits e. let parts = c.in-Some.ensures.finds (shaped _ value e) in unit_found no_json _ value Gone _ e (at_gone _ value (called _ _ value e parts.0) c.in-Gone.is) refl c.word.ensures.finds
 
-pub returns-in-Apart : goal.returns-in-Apart
-returns-in-Apart c = λ value fits e. let parts = c.in-Some.ensures (shaped _ value e) in at_apart _ value (called _ _ value e parts.0) c.in-Apart.is
+pub returns-in-Apart-clause-finds : goal.returns-in-Apart-clause-finds
+unfolding no_json
+returns-in-Apart-clause-finds c = λ value fits e. let parts = c.in-Some.ensures.finds (shaped _ value e) in unit_found no_json _ value Apart _ e (at_apart _ value (called _ _ value e parts.0) c.in-Apart.is) refl c.word-in-Apart.ensures.finds
 
-pub returns-in-TooMany : goal.returns-in-TooMany
-returns-in-TooMany c = λ value fits e. let parts = c.in-Some.ensures (shaped _ value e) in at_too_many _ _ _ value _ e parts.1 (called _ _ value e parts.0) c.in-TooMany.is fits c.no_too_many.ensures
+pub returns-in-TooMany-clause-finds : goal.returns-in-TooMany-clause-finds
+returns-in-TooMany-clause-finds c = λ value fits e. let parts = c.in-Some.ensures.finds (shaped _ value e) in at_too_many _ _ _ value _ e parts.1 (called _ _ value e parts.0) c.in-TooMany.is fits c.no_too_many.ensures.finds
 
-pub returns-in_default-name : goal.returns-in_default-name
-returns-in_default-name c = λ value fits e. let parts = c.in-Some.ensures (shaped _ value e) in none_left _ value (called _ _ value e parts.0) c.in_default-name.not-Busy c.in_default-name.not-Gone c.in_default-name.not-Apart c.in_default-name.not-TooMany
+pub returns-in_default-name-clause-finds : goal.returns-in_default-name-clause-finds
+returns-in_default-name-clause-finds c = λ value fits e. let parts = c.in-Some.ensures.finds (shaped _ value e) in none_left _ value (called _ _ value e parts.0) c.in_default-name.not-Busy c.in_default-name.not-Gone c.in_default-name.not-Apart c.in_default-name.not-TooMany
+
+-- no value is its own name in an object
+no_echo : (value : No) (called : List ℕ) → variant called (string called) ≡ no_json value → ⊥
+unfolding no_json
+no_echo (Busy tx) called same = cc
+no_echo Gone called same = cc
+no_echo Apart called same = cc
+no_echo (TooMany n) called same = cc
+
+pub returns-in-Busy-clause-exact : goal.returns-in-Busy-clause-exact
+returns-in-Busy-clause-exact c = arm_exact no_json no_echo _ _ _ (codes "Busy") _ c.in-Some.ensures.exact c.in-Busy.is c.no_busy.ensures.exact
+
+pub returns-in-Gone-clause-exact : goal.returns-in-Gone-clause-exact
+unfolding no_json
+returns-in-Gone-clause-exact c = unit_exact no_json _ _ _ (codes "Gone") Gone _ c.in-Some.ensures.exact c.in-Gone.is refl c.word.ensures.exact
+
+pub returns-in-Apart-clause-exact : goal.returns-in-Apart-clause-exact
+unfolding no_json
+returns-in-Apart-clause-exact c = unit_exact no_json _ _ _ (codes "Apart") Apart _ c.in-Some.ensures.exact c.in-Apart.is refl c.word-in-Apart.ensures.exact
+
+pub returns-in-TooMany-clause-exact : goal.returns-in-TooMany-clause-exact
+returns-in-TooMany-clause-exact c = arm_exact no_json no_echo _ _ _ (codes "TooMany") _ c.in-Some.ensures.exact c.in-TooMany.is c.no_too_many.ensures.exact

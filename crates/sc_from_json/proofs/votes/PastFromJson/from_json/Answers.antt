@@ -1,6 +1,6 @@
 use Rattle.std.proofs.Common.{◌≡◌, List, ℕ, codes, ap, sym, ◌∙◌, Result, refl, subst}
 use Rattle.std.specs.Prelude.{⊤}
-use Rattle.serde_json.specs.Data.{Data}
+use Rattle.serde_json.specs.Data.{Data, string}
 use Rattle.sc_cmd.specs.declared.votes.Past.{Past}
 use Rattle.sc_cmd.specs.declared.votes.Past.TheVariants.{Yes, No, Ended}
 use Rattle.sc_row_text.specs.Votes.{past_json, FitsPast}
@@ -10,6 +10,8 @@ use Rattle.sc_row_text.specs.Shapes.{variant_name}
 use Rattle.sc_from_json.specs.declared.faults.RowFault.{RowFault}
 use Rattle.sc_from_json.specs.declared.faults.RowFault.TheVariants.{NoRow, OutOfMemory}
 use Rattle.sc_row_text.proofs.Apart.{apart}
+use Rattle.sc_from_json.proofs.Echoes.{no_in_no}
+use Rattle.sc_from_json.proofs.Variants.{arm_exact, unit_exact, unit_found}
 use Rattle.sc_from_json.proofs.votes.PastFromJson.from_json.Goals as goal
 
 -- the name of each variant
@@ -78,17 +80,37 @@ unfolding name
 at_ended found Ended called_so is = refl
 at_ended found _ called_so is = absurd (apart _ _ (sym is ∙ called_so) refl)
 
-pub returns-in_default : goal.returns-in_default
-returns-in_default c = λ value fits e. absurd (c.in_default.ensures (shaped _ value e))
+pub returns-in_default-clause-finds : goal.returns-in_default-clause-finds
+returns-in_default-clause-finds c = λ value fits e. absurd (c.in_default.ensures.finds (shaped _ value e))
 
-pub returns-in-Yes : goal.returns-in-Yes
-returns-in-Yes c = λ value fits e. let parts = c.in-Some.ensures (shaped _ value e) in at_yes _ value (called _ _ value e parts.0) c.in-Yes.is
+pub returns-in-Yes-clause-finds : goal.returns-in-Yes-clause-finds
+unfolding past_json
+returns-in-Yes-clause-finds c = λ value fits e. let parts = c.in-Some.ensures.finds (shaped _ value e) in unit_found past_json _ value Yes _ e (at_yes _ value (called _ _ value e parts.0) c.in-Yes.is) refl c.word.ensures.finds
 
-pub returns-in-No : goal.returns-in-No
-returns-in-No c = λ value fits e. let parts = c.in-Some.ensures (shaped _ value e) in at_no _ _ _ value _ e parts.1 (called _ _ value e parts.0) c.in-No.is fits c.past_no.ensures
+pub returns-in-No-clause-finds : goal.returns-in-No-clause-finds
+returns-in-No-clause-finds c = λ value fits e. let parts = c.in-Some.ensures.finds (shaped _ value e) in at_no _ _ _ value _ e parts.1 (called _ _ value e parts.0) c.in-No.is fits c.past_no.ensures.finds
 
-pub returns-in-Ended : goal.returns-in-Ended
-returns-in-Ended c = λ value fits e. let parts = c.in-Some.ensures (shaped _ value e) in at_ended _ value (called _ _ value e parts.0) c.in-Ended.is
+pub returns-in-Ended-clause-finds : goal.returns-in-Ended-clause-finds
+unfolding past_json
+returns-in-Ended-clause-finds c = λ value fits e. let parts = c.in-Some.ensures.finds (shaped _ value e) in unit_found past_json _ value Ended _ e (at_ended _ value (called _ _ value e parts.0) c.in-Ended.is) refl c.word-in-Ended.ensures.finds
 
-pub returns-in_default-name : goal.returns-in_default-name
-returns-in_default-name c = λ value fits e. let parts = c.in-Some.ensures (shaped _ value e) in none_left _ value (called _ _ value e parts.0) c.in_default-name.not-Yes c.in_default-name.not-No c.in_default-name.not-Ended
+pub returns-in_default-name-clause-finds : goal.returns-in_default-name-clause-finds
+returns-in_default-name-clause-finds c = λ value fits e. let parts = c.in-Some.ensures.finds (shaped _ value e) in none_left _ value (called _ _ value e parts.0) c.in_default-name.not-Yes c.in_default-name.not-No c.in_default-name.not-Ended
+
+-- no value is its own name in an object
+no_echo : (value : Past) (called : List ℕ) → variant called (string called) ≡ past_json value → ⊥
+unfolding past_json
+no_echo Yes called same = cc
+no_echo (No inner) called same = no_in_no inner called same
+no_echo Ended called same = cc
+
+pub returns-in-Yes-clause-exact : goal.returns-in-Yes-clause-exact
+unfolding past_json
+returns-in-Yes-clause-exact c = unit_exact past_json _ _ _ (codes "Yes") Yes _ c.in-Some.ensures.exact c.in-Yes.is refl c.word.ensures.exact
+
+pub returns-in-No-clause-exact : goal.returns-in-No-clause-exact
+returns-in-No-clause-exact c = arm_exact past_json no_echo _ _ _ (codes "No") _ c.in-Some.ensures.exact c.in-No.is c.past_no.ensures.exact
+
+pub returns-in-Ended-clause-exact : goal.returns-in-Ended-clause-exact
+unfolding past_json
+returns-in-Ended-clause-exact c = unit_exact past_json _ _ _ (codes "Ended") Ended _ c.in-Some.ensures.exact c.in-Ended.is refl c.word-in-Ended.ensures.exact

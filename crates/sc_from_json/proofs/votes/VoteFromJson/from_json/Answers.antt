@@ -1,15 +1,17 @@
 use Rattle.std.proofs.Common.{◌≡◌, List, ℕ, codes, ap, sym, ◌∙◌, Result, refl, subst}
 use Rattle.std.specs.Prelude.{⊤}
-use Rattle.serde_json.specs.Data.{Data}
+use Rattle.serde_json.specs.Data.{Data, string}
 use Rattle.sc_cmd.specs.declared.votes.Vote.{Vote}
 use Rattle.sc_cmd.specs.declared.votes.Vote.TheVariants.{Yes, No}
-use Rattle.sc_row_text.specs.Votes.{vote_json, FitsVote}
+use Rattle.sc_row_text.specs.Votes.{frozen_json, vote_json, FitsVote}
 use Rattle.sc_row_text.specs.Shapes.{variant}
 use Rattle.sc_from_json.specs.Reading.{Finds, MayBeVariant, content_of}
 use Rattle.sc_row_text.specs.Shapes.{variant_name}
 use Rattle.sc_from_json.specs.declared.faults.RowFault.{RowFault}
 use Rattle.sc_from_json.specs.declared.faults.RowFault.TheVariants.{NoRow, OutOfMemory}
 use Rattle.sc_row_text.proofs.Apart.{apart}
+use Rattle.sc_from_json.proofs.Echoes.{no_in_no}
+use Rattle.sc_from_json.proofs.Variants.{arm_exact}
 use Rattle.sc_from_json.proofs.votes.VoteFromJson.from_json.Goals as goal
 
 -- the name of each variant
@@ -68,14 +70,26 @@ unfolding name HasContent
 at_no json content found (No inner) result e inner_is called_so is fits read = read inner fits (rebuilt json content (No inner) e inner_is tt)
 at_no json content found _ result e inner_is called_so is fits read = absurd (apart _ _ (sym is ∙ called_so) refl)
 
-pub returns-in_default : goal.returns-in_default
-returns-in_default c = λ value fits e. absurd (c.in_default.ensures (shaped _ value e))
+pub returns-in_default-clause-finds : goal.returns-in_default-clause-finds
+returns-in_default-clause-finds c = λ value fits e. absurd (c.in_default.ensures.finds (shaped _ value e))
 
-pub returns-in-Yes : goal.returns-in-Yes
-returns-in-Yes c = λ value fits e. let parts = c.in-Some.ensures (shaped _ value e) in at_yes _ _ _ value _ e parts.1 (called _ _ value e parts.0) c.in-Yes.is fits c.vote_yes.ensures
+pub returns-in-Yes-clause-finds : goal.returns-in-Yes-clause-finds
+returns-in-Yes-clause-finds c = λ value fits e. let parts = c.in-Some.ensures.finds (shaped _ value e) in at_yes _ _ _ value _ e parts.1 (called _ _ value e parts.0) c.in-Yes.is fits c.vote_yes.ensures.finds
 
-pub returns-in-No : goal.returns-in-No
-returns-in-No c = λ value fits e. let parts = c.in-Some.ensures (shaped _ value e) in at_no _ _ _ value _ e parts.1 (called _ _ value e parts.0) c.in-No.is fits c.vote_no.ensures
+pub returns-in-No-clause-finds : goal.returns-in-No-clause-finds
+returns-in-No-clause-finds c = λ value fits e. let parts = c.in-Some.ensures.finds (shaped _ value e) in at_no _ _ _ value _ e parts.1 (called _ _ value e parts.0) c.in-No.is fits c.vote_no.ensures.finds
 
-pub returns-in_default-name : goal.returns-in_default-name
-returns-in_default-name c = λ value fits e. let parts = c.in-Some.ensures (shaped _ value e) in none_left _ value (called _ _ value e parts.0) c.in_default-name.not-Yes c.in_default-name.not-No
+pub returns-in_default-name-clause-finds : goal.returns-in_default-name-clause-finds
+returns-in_default-name-clause-finds c = λ value fits e. let parts = c.in-Some.ensures.finds (shaped _ value e) in none_left _ value (called _ _ value e parts.0) c.in_default-name.not-Yes c.in_default-name.not-No
+
+-- no value is its own name in an object
+no_echo : (value : Vote) (called : List ℕ) → variant called (string called) ≡ vote_json value → ⊥
+unfolding vote_json frozen_json
+no_echo (Yes inner) called same = cc
+no_echo (No inner) called same = no_in_no inner called same
+
+pub returns-in-Yes-clause-exact : goal.returns-in-Yes-clause-exact
+returns-in-Yes-clause-exact c = arm_exact vote_json no_echo _ _ _ (codes "Yes") _ c.in-Some.ensures.exact c.in-Yes.is c.vote_yes.ensures.exact
+
+pub returns-in-No-clause-exact : goal.returns-in-No-clause-exact
+returns-in-No-clause-exact c = arm_exact vote_json no_echo _ _ _ (codes "No") _ c.in-Some.ensures.exact c.in-No.is c.vote_no.ensures.exact
