@@ -1,5 +1,5 @@
 -- What a driver's answer says of a scenario.
-use Rattle.std.proofs.Common.{◌≡◌, ◌≢◌, ◌≤◌, ℕ, List, [], ◌∷◌, map, Bool, Some, inl, inr, refl, ◌∙◌, ap, subst}
+use Rattle.std.proofs.Common.{◌≡◌, ◌≢◌, ◌<◌, ◌≤◌, ◌^◌, ℕ, List, [], ◌∷◌, length, map, Bool, Some, inl, refl, ◌∙◌, ap, subst, arith}
 use Rattle.std.specs.Prelude.{⊤}
 use Rattle.sc_cmd.specs.declared.orders.OrderLine.{OrderLine}
 use Rattle.sc_mail.specs.declared.bodies.Mail.{Mail}
@@ -8,6 +8,8 @@ use Rattle.sc_actor.specs.declared.actors.Actor.{Ghosts}
 use Rattle.sc_actor.specs.declared.actors.Parcel.{Ghosts as MailGhosts}
 use Rattle.sc_actor.specs.declared.schedules.Line.{Line}
 use Rattle.sc_actor.specs.Counted.{journal_bytes}
+use Rattle.sc_actor.specs.Mail.{mails}
+use Rattle.sc_actor.proofs.BoundLemmas.{journal_counts}
 use Rattle.sc_chance.specs.Words.{two_words}
 use Rattle.sc_actor.specs.Walk.{IsLawful, IsWhole, skipped, unsettled, is_quiet}
 use Rattle.sc_actor.specs.Counted.{IsFull}
@@ -21,10 +23,9 @@ use Rattle.sc_sound.specs.Players.{schedule, system_of, Lawful, parties, Player,
 use Rattle.sc_refusal_law.specs.Journals.{ValidJournalsRefuseWithCause}
 use Rattle.sc_whole_law.specs.Valid.{ValidJournalsAreSound}
 use Rattle.sc_command_line.specs.Causes.{said_of}
-use Rattle.sc_command_line.specs.declared.said.Said.TheVariants.{Filled}
 use Rattle.sc_run.specs.declared.done.Text.{Text}
 use Rattle.sc_run.specs.Played.{mail_weight, HasPlayedToEnd, HasFilled}
-use Rattle.sc_run.specs.Run.{journal_limit, Comes, TellsFull}
+use Rattle.sc_run.specs.Run.{journal_limit, Comes}
 
 -- an answer other than a want of memory
 abbrev GoesOn : Played → Type 0
@@ -75,3 +76,10 @@ comes_ended Shows scenario cut quiet skips journal parties text e lines journal_
   reports = record { lawful = e.lawful; whole = e.whole; within = e.within; sound = e.sound; refuses = e.refuses; lines = lines; journal_is = journal_is; parties_are = parties_is ∙ e.parties_are };
   said_is = ap said_of e.cut_is;
 })
+
+-- the rows of a run that ended are few, and so are their mails
+pub few : (scenario : Scenario) (cut quiet : Bool) (skips : ℕ) (journal : List (Row Mail OrderLine)) (left : List Player) → HasPlayedToEnd scenario journal_limit cut quiet skips journal left
+    → (length journal < 2 ^ 31) × (length (mails journal) < 2 ^ 31)
+few scenario cut quiet skips journal left e =
+    let counts = journal_counts mail_weight journal in
+    (omega (arith, counts, e.within), omega (arith, counts, e.within))
