@@ -24,8 +24,8 @@ use std::alloc::Global;
 pub const SCENARIO: &[u8] =
     b"scatter 1\nnodes 2\ngroup 0 1 2\nclient 1\nput a x\nend\ngo 1\nsettle 1000\n";
 
-/// Two nodes and a client, and what they did. Whoever is done with it takes it apart: each part may
-/// be dropped by itself.
+/// Two nodes and a client, and what they did.
+#[derive(Drop)]
 pub struct Hand {
     pub first: NodeCore,
     pub second: NodeCore,
