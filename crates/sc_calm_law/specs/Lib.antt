@@ -2,5 +2,6 @@ pub mod Births
 pub mod Clients
 pub mod Executing
 pub mod Laws
+pub mod Nodes
 pub mod Owed
 pub mod Quiet
