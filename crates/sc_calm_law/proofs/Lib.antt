@@ -16,6 +16,7 @@ pub mod OwedMade
 pub mod OwedMailed
 pub mod OwedOrders
 pub mod OwedNodes
+pub mod OwedParties
 pub mod OwedPump
 pub mod OwedRows
 pub mod OwedServed

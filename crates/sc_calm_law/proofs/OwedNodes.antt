@@ -85,7 +85,7 @@ taken_turn from group body r node is =
     ∙ ap (λ o. routed o from body node) is.named
     ∙ ap (λ o. taken_by o group from body node) is.found
 
-taken_owes : (most from : ℕ) (group : Draw) (body : MailBody) (r : ReplicaState) (node : NodeState) → IsTaken from group body r node
+pub taken_owes : (most from : ℕ) (group : Draw) (body : MailBody) (r : ReplicaState) (node : NodeState) → IsTaken from group body r node
     → node_owes most (on_mail from body node).0 + replica_owes most r ≡ node_owes most node + replica_owes most (after_mail from body r).0
 taken_owes most from group body r node is =
     let after : Executed = mailed from body (r, []) in

@@ -4,4 +4,5 @@ pub mod Executing
 pub mod Laws
 pub mod Nodes
 pub mod Owed
+pub mod Parties
 pub mod Quiet

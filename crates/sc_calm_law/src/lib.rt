@@ -8,6 +8,7 @@ ghost use Rattle.sc_calm_law.specs.Clients.{ClientsLower, GoneSendsOn, NotMineTe
 ghost use Rattle.sc_calm_law.specs.Executing.{CallVotesLower, ExecutionsRaiseNothing, LoneEntriesArePaid, LoneVotesLower};
 ghost use Rattle.sc_calm_law.specs.Laws.{AnswersLower, AsksLower, ChangesRaiseNothing, CountedEntriesRaiseNothing, CountsLower, LeadersMayLeave, LearnsLower, LearntEntriesRaiseNothing, MovesLower, OldLearnsLower, OrdersRaiseLittle, PumpsRaiseNothing, VotesLower};
 ghost use Rattle.sc_calm_law.specs.Nodes.{NodesLower, NodesOweAsReplicas, NodesRaiseLittle};
+ghost use Rattle.sc_calm_law.specs.Parties.{PartiesLower};
 ghost use Rattle.sc_calm_law.specs.Quiet.{FirstMembersLead, ReplicasBeginAtRest};
 
 /// What a leader offers was owed: a pump raises nothing, where no report names an open slot and at
@@ -166,4 +167,10 @@ pub fn nodes_lower()
 /// one for a group of which the node has no replica raises nothing.
 pub fn nodes_raise_little()
     ensures { NodesRaiseLittle }
+{}
+
+/// A mail that a node takes as calm journals have it lowers what is owed by the node and by all
+/// groups, each of which owes an election once while no replica of it runs at any node.
+pub fn parties_lower()
+    ensures { PartiesLower }
 {}
