@@ -1,5 +1,5 @@
 -- What a node and all groups owe: one replica of the node is changed by a mail, and the groups of the others owe no more.
-use Rattle.std.proofs.Common.{◌≡◌, ℕ, ◌+◌, ◌≤◌, Bool, true, false, cond, List, [], ◌∷◌, sum_by, Option, Some, None, is_some, inl, inr, refl, sym, ◌∙◌, ap, arith}
+use Rattle.std.proofs.Common.{◌≡◌, ℕ, ◌+◌, ◌*◌, ◌≤◌, Bool, true, false, cond, List, [], ◌∷◌, sum_by, Option, Some, None, is_some, inl, inr, refl, sym, ◌∙◌, ap, arith}
 use Rattle.std.proofs.lemmas.Bool.{cond_both, cond-true, cond-false, cases_Bool}
 use Rattle.std.proofs.lemmas.List.Sums.{sum_by-cons}
 use Rattle.sc_base.specs.Among.{Each}
@@ -8,16 +8,18 @@ use Rattle.sc_base.specs.declared.names.Draw.{Draw}
 use Rattle.sc_base.proofs.NameLemmas.{draw_is, same_name}
 use Rattle.sc_cmd.specs.declared.cores.Base.{Base}
 use Rattle.sc_cmd.specs.declared.links.Route.{Route}
+use Rattle.sc_cmd.specs.declared.orders.OrderLine.{OrderLine}
 use Rattle.sc_mail.specs.declared.bodies.Mail.{Mail}
 use Rattle.sc_mail.specs.declared.bodies.MailBody.{MailBody}
-use Rattle.sc_node_table.specs.Node.{NodeState, replica_of, with_replica, is_before, with_new, with_born, with_children, taken_by, on_mail}
-use Rattle.sc_node_table.specs.Replica.{ReplicaState, Executed, name_of, born_replica}
+use Rattle.sc_node_table.specs.Node.{NodeState, replica_of, with_replica, is_before, with_new, with_born, with_children, taken_by, on_mail, group_of_order, ordered_of, on_order}
+use Rattle.sc_node_table.specs.Ordering.{ordered_row}
+use Rattle.sc_node_table.specs.Replica.{ReplicaState, Place, Executed, name_of, born_replica}
 use Rattle.sc_node_table.specs.Rows.{mailed}
 use Rattle.sc_node_table.specs.Slots.{slots_ahead}
 use Rattle.sc_calm_law.specs.Nodes.{group_owes}
 use Rattle.sc_calm_law.specs.Owed.{Ways, body_owes, mail_owes, idle_owes, election}
-use Rattle.sc_calm_law.specs.Parties.{idle_with, Elsewhere, party_owes, party_turn_owes, StandsOnce, IsCalmMail, PartiesLower}
-use Rattle.sc_calm_law.proofs.OwedNodes.{taken_turn, taken_owes}
+use Rattle.sc_calm_law.specs.Parties.{idle_with, Elsewhere, party_owes, party_turn_owes, StandsOnce, IsCalmMail, IsCalmOrder, PartiesLower, PartiesRaiseLittle}
+use Rattle.sc_calm_law.proofs.OwedNodes.{taken_turn, taken_owes, raise_little}
 
 -- ---- which replica is found after one is changed, and others are born
 
@@ -170,3 +172,40 @@ module _ (ways : Ways) (elsewhere : Elsewhere) (from : ℕ) (group : Draw) (body
 
 pub parties_lower : PartiesLower
 parties_lower ways groups elsewhere from group body r node once is = mail_lowers ways elsewhere from group body r node is groups once
+
+-- ---- an order
+
+module _ (ways : Ways) (elsewhere : Elsewhere) (line : OrderLine) (r : ReplicaState) (node : NodeState) (is : IsCalmOrder elsewhere line r node) where
+  abbrev told : Place
+  told = ordered_row node.draws line (r, [])
+
+  abbrev order_turn : NodeState × List Mail
+  order_turn = on_order line node
+
+  order_goes : order_turn ≡ ordered_of (Some r) line node
+  order_goes = ap (λ o. ordered_of o line node) is.found
+
+  order_found : replica_of (group_of_order line.order) order_turn.0.replicas ≡ Some told.0
+  order_found = ap (λ (t : NodeState × List Mail). replica_of (group_of_order line.order) t.0.replicas) order_goes ∙ put_found (group_of_order line.order) told.0 r node.replicas is.same is.found
+
+  order_stays : (other : Draw) → (other ≡ group_of_order line.order → ⊥) → (x : ReplicaState) → replica_of other node.replicas ≡ Some x → replica_of other order_turn.0.replicas ≡ Some x
+  order_stays other ne x e = ap (λ (t : NodeState × List Mail). replica_of other t.0.replicas) order_goes ∙ put_others (group_of_order line.order) other told.0 node.replicas is.same ne ∙ e
+
+  order_less : (other : Draw) → (other ≡ group_of_order line.order → ⊥) → idle_with (elsewhere other) (replica_of other order_turn.0.replicas) ≤ idle_with (elsewhere other) (replica_of other node.replicas)
+  order_less other ne = stays_owes (elsewhere other) (replica_of other node.replicas) (replica_of other order_turn.0.replicas) (order_stays other ne)
+
+  order_own : (b : Bool) → (b ≡ true → group_owes r ≤ group_owes told.0) → idle_with b (Some told.0) + group_owes r ≤ idle_with b (Some r) + group_owes told.0
+  order_own true alone = let le = alone refl in omega (arith, le)
+  order_own false alone = omega arith
+
+  order_raises : (groups : List Draw) → StandsOnce (group_of_order line.order) groups → party_turn_owes ways groups elsewhere order_turn ≤ party_owes ways groups elsewhere node + (242 + 4 * ways.most)
+  order_raises groups once =
+      let le = raise_little.ordered ways line r node is.found is.pumps in
+      let all = once_owes elsewhere (group_of_order line.order) node order_turn.0 order_less groups once in
+      let now = ap (idle_with (elsewhere (group_of_order line.order))) order_found in
+      let was = ap (idle_with (elsewhere (group_of_order line.order))) is.found in
+      let own = order_own (elsewhere (group_of_order line.order)) is.alone in
+      omega (arith, le, all, now, was, own)
+
+pub parties_raise_little : PartiesRaiseLittle
+parties_raise_little ways groups elsewhere line r node once is = order_raises ways elsewhere line r node is groups once

@@ -1,12 +1,14 @@
 -- What a node owes among others, with what each group owes once in which none runs.
-use Rattle.std.specs.Prelude.{◌≡◌, ℕ, ◌+◌, ◌≤◌, Bool, true, false, List, [], ◌∷◌, sum_by, Option, Some, None, ◌⊎◌}
+use Rattle.std.specs.Prelude.{◌≡◌, ℕ, ◌+◌, ◌*◌, ◌≤◌, Bool, true, false, List, [], ◌∷◌, sum_by, Option, Some, None, ◌⊎◌}
 use Rattle.sc_base.specs.Among.{Each}
 use Rattle.sc_base.specs.declared.names.Draw.{Draw}
+use Rattle.sc_cmd.specs.declared.orders.OrderLine.{OrderLine}
 use Rattle.sc_mail.specs.declared.bodies.Mail.{Mail}
 use Rattle.sc_mail.specs.declared.bodies.MailBody.{MailBody}
-use Rattle.sc_node_table.specs.Node.{NodeState, replica_of, on_mail}
+use Rattle.sc_node_table.specs.Node.{NodeState, replica_of, on_mail, group_of_order, on_order}
+use Rattle.sc_node_table.specs.Ordering.{ordered_row}
 use Rattle.sc_node_table.specs.Replica.{ReplicaState, name_of}
-use Rattle.sc_calm_law.specs.Laws.{Lowers}
+use Rattle.sc_calm_law.specs.Laws.{Lowers, MayPump}
 use Rattle.sc_calm_law.specs.Nodes.{node_owes, group_owes, IsTaken, after_mail}
 use Rattle.sc_calm_law.specs.Owed.{Ways, body_owes, mail_owes, election}
 
@@ -51,3 +53,17 @@ PartiesLower =
     (ways : Ways) (groups : List Draw) (elsewhere : Elsewhere) (from : ℕ) (group : Draw) (body : MailBody) (r : ReplicaState) (node : NodeState)
     → StandsOnce group groups → IsCalmMail ways elsewhere from group body r node
     → party_turn_owes ways groups elsewhere (on_mail from body node) + 1 ≤ party_owes ways groups elsewhere node + body_owes ways node.me body
+
+-- what a calm journal keeps where an order is told to a node that has a replica of its group
+pub record IsCalmOrder (elsewhere : Elsewhere) (line : OrderLine) (r : ReplicaState) (node : NodeState) : Type 0 where
+  pub found : replica_of (group_of_order line.order) node.replicas ≡ Some r
+  pub pumps : MayPump r
+  pub same : name_of (ordered_row node.draws line (r, [])).0 ≡ group_of_order line.order
+  pub alone : elsewhere (group_of_order line.order) ≡ true → group_owes r ≤ group_owes (ordered_row node.draws line (r, [])).0
+
+-- an order raises what is owed by its node and by all groups by so much at most
+abbrev pub PartiesRaiseLittle : Type 0
+PartiesRaiseLittle =
+    (ways : Ways) (groups : List Draw) (elsewhere : Elsewhere) (line : OrderLine) (r : ReplicaState) (node : NodeState)
+    → StandsOnce (group_of_order line.order) groups → IsCalmOrder elsewhere line r node
+    → party_turn_owes ways groups elsewhere (on_order line node) ≤ party_owes ways groups elsewhere node + (242 + 4 * ways.most)

@@ -8,7 +8,7 @@ ghost use Rattle.sc_calm_law.specs.Clients.{ClientsLower, GoneSendsOn, NotMineTe
 ghost use Rattle.sc_calm_law.specs.Executing.{CallVotesLower, ExecutionsRaiseNothing, LoneEntriesArePaid, LoneVotesLower};
 ghost use Rattle.sc_calm_law.specs.Laws.{AnswersLower, AsksLower, ChangesRaiseNothing, CountedEntriesRaiseNothing, CountsLower, LeadersMayLeave, LearnsLower, LearntEntriesRaiseNothing, MovesLower, OldLearnsLower, OrdersRaiseLittle, PumpsRaiseNothing, VotesLower};
 ghost use Rattle.sc_calm_law.specs.Nodes.{NodesLower, NodesOweAsReplicas, NodesRaiseLittle};
-ghost use Rattle.sc_calm_law.specs.Parties.{PartiesLower};
+ghost use Rattle.sc_calm_law.specs.Parties.{PartiesLower, PartiesRaiseLittle};
 ghost use Rattle.sc_calm_law.specs.Quiet.{FirstMembersLead, ReplicasBeginAtRest};
 
 /// What a leader offers was owed: a pump raises nothing, where no report names an open slot and at
@@ -173,4 +173,10 @@ pub fn nodes_raise_little()
 /// groups, each of which owes an election once while no replica of it runs at any node.
 pub fn parties_lower()
     ensures { PartiesLower }
+{}
+
+/// An order raises what is owed by its node and by all groups by what a transaction with two other
+/// groups takes, at most.
+pub fn parties_raise_little()
+    ensures { PartiesRaiseLittle }
 {}
