@@ -39,7 +39,7 @@ abbrev pub StandsOnce : Draw → List Draw → Type 0
 StandsOnce group [] = ⊥
 StandsOnce group (other ∷ groups) = ((other ≡ group) × Each (λ another. another ≡ group → ⊥) groups) ⊎ ((other ≡ group → ⊥) × StandsOnce group groups)
 
--- what a calm journal keeps where a node takes a mail for a replica of its: the replica lowers what is owed, stays its group's, and neither begins to lead nor goes where another leads or is gone
+-- a mail that a node takes for a replica of its, which lowers what is owed there, stays its group's, and where another of its group leads or is gone neither begins to lead nor goes: so not one that learns there that its group is gone
 pub record IsCalmMail (ways : Ways) (elsewhere : Elsewhere) (from : ℕ) (group : Draw) (body : MailBody) (r : ReplicaState) (node : NodeState) : Type 0 where
   pub taken : IsTaken from group body r node
   pub here : r.me ≡ node.me
@@ -54,7 +54,7 @@ PartiesLower =
     → StandsOnce group groups → IsCalmMail ways elsewhere from group body r node
     → party_turn_owes ways groups elsewhere (on_mail from body node) + 1 ≤ party_owes ways groups elsewhere node + body_owes ways node.me body
 
--- what a calm journal keeps where an order is told to a node that has a replica of its group
+-- an order that is told to a node with a replica of its group, which stays its group's, and where another leads or is gone neither begins to lead nor goes
 pub record IsCalmOrder (elsewhere : Elsewhere) (line : OrderLine) (r : ReplicaState) (node : NodeState) : Type 0 where
   pub found : replica_of (group_of_order line.order) node.replicas ≡ Some r
   pub pumps : MayPump r

@@ -169,8 +169,9 @@ pub fn nodes_raise_little()
     ensures { NodesRaiseLittle }
 {}
 
-/// A mail that a node takes as calm journals have it lowers what is owed by the node and by all
-/// groups, each of which owes an election once while no replica of it runs at any node.
+/// A mail that lowers what is owed at its replica lowers what is owed by the node and by all groups,
+/// each of which owes an election once while no replica of it runs or is gone at any node; where
+/// another of its group leads or is gone, the replica neither begins to lead nor goes by the mail.
 pub fn parties_lower()
     ensures { PartiesLower }
 {}
