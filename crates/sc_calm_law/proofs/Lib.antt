@@ -15,6 +15,8 @@ pub mod OwedLone
 pub mod OwedMade
 pub mod OwedMailed
 pub mod OwedOrders
+pub mod OwedNodes
+pub mod OwedParties
 pub mod OwedPump
 pub mod OwedRows
 pub mod OwedServed

@@ -7,6 +7,8 @@ ghost use Rattle.sc_calm_law.specs.Births.{BornReplicasOwe, MadeReplicasOwe};
 ghost use Rattle.sc_calm_law.specs.Clients.{ClientsLower, GoneSendsOn, NotMineTeaches};
 ghost use Rattle.sc_calm_law.specs.Executing.{CallVotesLower, ExecutionsRaiseNothing, LoneEntriesArePaid, LoneVotesLower};
 ghost use Rattle.sc_calm_law.specs.Laws.{AnswersLower, AsksLower, ChangesRaiseNothing, CountedEntriesRaiseNothing, CountsLower, LeadersMayLeave, LearnsLower, LearntEntriesRaiseNothing, MovesLower, OldLearnsLower, OrdersRaiseLittle, PumpsRaiseNothing, VotesLower};
+ghost use Rattle.sc_calm_law.specs.Nodes.{NodesLower, NodesOweAsReplicas, NodesRaiseLittle};
+ghost use Rattle.sc_calm_law.specs.Parties.{PartiesLower, PartiesRaiseLittle};
 ghost use Rattle.sc_calm_law.specs.Quiet.{FirstMembersLead, ReplicasBeginAtRest};
 
 /// What a leader offers was owed: a pump raises nothing, where no report names an open slot and at
@@ -145,4 +147,37 @@ pub fn gone_sends_on()
 /// A Learn of an entry that is executed lowers what is owed, also where the group is gone.
 pub fn old_learns_lower()
     ensures { OldLearnsLower }
+{}
+
+/// A mail changes what a node owes as it changes what its replica of the mail's group owes, and
+/// sends what that replica sends: the others keep what they owe, and a child that is born owes
+/// nothing by itself.
+pub fn nodes_owe_as_replicas()
+    ensures { NodesOweAsReplicas }
+{}
+
+/// A mail lowers what its node owes, and is to be delivered: where its replica of the mail's group
+/// lowers it, where the mail is no group's or comes from one who sends no such mail, and where the
+/// node has no replica of the group, also where it makes one of the state that it is sent.
+pub fn nodes_lower()
+    ensures { NodesLower }
+{}
+
+/// An order raises what its node owes by what a transaction with two other groups takes, at most;
+/// one for a group of which the node has no replica raises nothing.
+pub fn nodes_raise_little()
+    ensures { NodesRaiseLittle }
+{}
+
+/// A mail that lowers what is owed at its replica lowers what is owed by the node and by all groups,
+/// each of which owes an election once while no replica of it runs or is gone at any node; where
+/// another of its group leads or is gone, the replica neither begins to lead nor goes by the mail.
+pub fn parties_lower()
+    ensures { PartiesLower }
+{}
+
+/// An order raises what is owed by its node and by all groups by what a transaction with two other
+/// groups takes, at most.
+pub fn parties_raise_little()
+    ensures { PartiesRaiseLittle }
 {}
