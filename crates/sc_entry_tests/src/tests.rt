@@ -5,7 +5,7 @@ use sc_cmd::{Base, Command, Core, Link, Lock, Past, Watch};
 use sc_log_entries::{Cut, LogEntry};
 use sc_map_checks::{covers, legal};
 use sc_member::Members;
-use sc_store_world::{StoreWorld, world_of};
+use sc_store_world::StoreWorld;
 use std::alloc::Global;
 use std::mem::forget;
 use std::process::Abort;
@@ -110,7 +110,7 @@ fn split(at: u32, child: Draw) -> Command {
 // The world after the entries.
 fn told(rt: &impl Abort, alloc: Global) -> StoreWorld {
     let bases = [parent(rt, alloc)];
-    let mut world = world_of(alloc, &bases, &[]).expect(rt, "memory");
+    let mut world = StoreWorld::first(alloc, &bases).expect(rt, "memory");
     forget(bases);
     tell(rt, &mut world, PARENT, 1, put(rt, alloc));
     tell(rt, &mut world, PARENT, 2, split(HALF, CHILD));

@@ -1,21 +1,23 @@
 //! Scans: worked rows, and scans of worked scenarios, after a third, two thirds and all of their rows, beside a plain list
 //! into which their histories are put from the beginning; and the same after each row of a merge, of
 //! a boundary that moves and of a member that is handed over.
-ghost use Rattle.std.specs.Prelude.{◌<◌};
+ghost use Rattle.std.specs.Prelude.{◌≡◌, ◌<◌, ◌≤◌, length, take};
 ghost use Rattle.sc_log_entries.specs.Worlds.{CoverThroughout};
 ghost use Rattle.sc_scenario.specs.Valid.{IsValid};
 ghost use Rattle.sc_sound.specs.GroupsOf.{entries_at};
 ghost use Rattle.sc_sound.specs.Players.{as_nodes};
+ghost use Rattle.sc_sound.specs.Soundness.{IsSoundThroughout};
 
 use crate::replay_tests::{played, scenario_of};
 use crate::run_tests::{CUT_SHORT, Case, FIRST, check_all};
-use sc_actor::Row;
+use sc_actor::{Journal, Row};
 use sc_base::{Dup, Key, Op, RingArc, Value};
 use sc_cmd::{Base, OrderLine};
 use sc_decided::entries_of;
 use sc_ideal::Entry;
 use sc_mail::Mail;
 use sc_scan::{Shown, scan};
+use sc_scenario::Scenario;
 use sc_store_world::world_of;
 use std::alloc::Global;
 use std::mem::forget;
@@ -310,6 +312,29 @@ fn is_map(rt: &impl Abort, alloc: Global, bases: &[Base], rows: &[Row<Mail, Orde
     is_so
 }
 
+fn first_rows(rows: &[Row<Mail, OrderLine>], count: usize) -> &[Row<Mail, OrderLine>]
+    requires { count ≤ length rows.now }
+    ensures { result.now ≡ take count rows.now }
+{
+    &rows[..count]
+}
+
+// Whether it is so after so many rows of a journal of which each first part is sound.
+fn front_is_map(
+    rt: &impl Abort,
+    alloc: Global,
+    scenario: &Scenario,
+    journal: &Journal<Mail, OrderLine>,
+    count: usize,
+) -> bool
+    requires within { count ≤ length journal.now }
+    requires sound { IsSoundThroughout as_nodes scenario.now journal.now }
+{
+    let bases = scenario.groups.as_slice();
+    let first = first_rows(journal.as_slice(), count);
+    is_map(rt, alloc, bases, first)
+}
+
 // Whether it is so after every so many rows of a run, and after all.
 fn are_maps<R: Abort + Threads + Wait + Sync>(
     rt: &R,
@@ -321,12 +346,10 @@ fn are_maps<R: Abort + Threads + Wait + Sync>(
 {
     let scenario = scenario_of(rt, alloc, input);
     let journal = played(rt, alloc, &scenario);
-    let rows = journal.as_slice();
-    let bases = scenario.groups.as_slice();
-    let step = rows.len() / parts + 1;
-    let mut are = is_map(rt, alloc, bases, rows);
-    for count in 0..rows.len() {
-        if count % step == 0 && !is_map(rt, alloc, bases, &rows[..count]) {
+    let step = journal.len() / parts + 1;
+    let mut are = front_is_map(rt, alloc, &scenario, &journal, journal.len());
+    for count in 0..journal.len() {
+        if count % step == 0 && !front_is_map(rt, alloc, &scenario, &journal, count) {
             are = false;
         }
     }
