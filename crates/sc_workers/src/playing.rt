@@ -104,6 +104,7 @@ fn ended<A: Actor, R: Wait>(
 
 /// What does not change from round to round: the way, the actors' numbers in the order of their
 /// shells, and how many workers and deliveries there are at most.
+#[derive(Drop)]
 struct Play<'a> {
     way: Way,
     whos: &'a [u32],
