@@ -1,3 +1,4 @@
+pub mod Better
 pub mod Chosen
 pub mod Elsewhere
 pub mod Grown
@@ -6,3 +7,4 @@ pub mod Longer
 pub mod Newest
 pub mod Said
 pub mod Stays
+pub mod Votes

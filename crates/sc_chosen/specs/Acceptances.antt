@@ -1,11 +1,12 @@
 -- The acceptances that code reads off a journal, as steps.
-use Rattle.std.specs.Prelude.{Bool, true, false, not, List, [], ◌∷◌, map, reverse, if◌then◌else◌, Option, Some, None}
-use Rattle.sc_base.specs.Same.{same_draw}
+use Rattle.std.specs.Prelude.{◌≡◌, ℕ, ⊤, Bool, true, false, ◌==◌, ◌&&◌, List, [], ◌∷◌, map, reverse, if◌then◌else◌, Option, Some, None}
+use Rattle.sc_base.specs.Same.{same_draw, same_ballot}
+use Rattle.sc_base.specs.declared.names.Ballot.{Ballot}
 use Rattle.sc_base.specs.declared.names.Draw.{Draw}
 use Rattle.sc_cmd.specs.declared.commands.Command.{Command}
+use Rattle.sc_member.specs.Majority.{is_majority}
 use Rattle.sc_paxos_words.specs.declared.reports.Report.{Report}
-use Rattle.sc_paxos_words.specs.Ballots.{below}
-use Rattle.sc_paxos_law.specs.Decided.{lesser_of}
+use Rattle.sc_paxos_law.specs.Decided.{voters_of, lesser_of}
 use Rattle.sc_paxos_law.specs.Steps.{Step, Accepted}
 use Rattle.sc_chosen.specs.declared.accepting.Acceptance.{Acceptance}
 
@@ -26,10 +27,14 @@ steps_by group (Some accepted) = if same_draw accepted.0 group then step_of acce
 abbrev pub report_of : Acceptance → Report Command
 report_of acceptance = record { slot = acceptance.slot; ballot = acceptance.ballot; value = acceptance.command }
 
--- whether an acceptance has a ballot not above that of the one found, if there is one
-abbrev pub is_lesser : Acceptance → Option Acceptance → Bool
-is_lesser here None = true
-is_lesser here (Some least) = not (below least.ballot here.ballot)
+-- whether an acceptance is a node's at a slot in a ballot
+abbrev pub is_vote : Ballot → ℕ → ℕ → Acceptance → Bool
+is_vote ballot slot node here = (here.node == node) && (same_ballot here.ballot ballot && (here.slot == slot))
+
+-- a majority of the members accepted at the slot in the ballot of what is found, if anything is
+abbrev pub IsFoundChosen : List ℕ → List (Step Command) → ℕ → Option Acceptance → Type 0
+IsFoundChosen members h slot None = ⊤
+IsFoundChosen members h slot (Some found) = is_majority members (voters_of h found.ballot slot) ≡ true
 
 -- the lesser of a report and the one found, where it is chosen
 abbrev pub with_chosen : Bool → Report Command → Option (Report Command) → Option (Report Command)

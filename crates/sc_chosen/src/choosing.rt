@@ -4,28 +4,29 @@ ghost use Rattle.std.specs.Option.{option_copied, option_map};
 ghost use Rattle.sc_member.specs.Roster.{is_member};
 ghost use Rattle.sc_member.specs.Majority.{is_majority};
 ghost use Rattle.sc_paxos_law.specs.Decided.{voters_of, found_in, chosen_at};
-ghost use Rattle.sc_chosen.specs.Acceptances.{steps_of, report_of, is_lesser, with_chosen};
+ghost use Rattle.sc_chosen.specs.Acceptances.{steps_of, report_of, is_vote, IsFoundChosen, with_chosen};
 
 use crate::accepting::Acceptance;
 use sc_base::{Ballot, same_ballot};
 use sc_cmd::Command;
 use sc_member::Members;
 
+// Whether an acceptance is a node's at a slot in a ballot.
+fn is_vote(here: &Acceptance, ballot: Ballot, slot: u32, node: u16) -> bool
+    ensures { result ≡ is_vote ballot slot node here.now }
+{
+    here.node == node as u32 && (same_ballot(here.ballot, ballot) && here.slot == slot)
+}
+
 // Whether a node accepted at a slot in a ballot.
 fn has_accepted(found: &[Acceptance], ballot: Ballot, slot: u32, node: u16) -> bool
     ensures { result ≡ is_member (voters_of (steps_of found.now) ballot slot) node }
 {
-    let mut any = false;
-    for acceptance in found {
-        let is_there = same_ballot(acceptance.ballot, ballot) && acceptance.slot == slot;
-        if is_there && acceptance.node == node as u32 {
-            any = true;
-        }
-    }
-    any
+    found.iter().any(|here| is_vote(here, ballot, slot, node))
 }
 
 // Whether a majority of the members accepted at a slot in a ballot.
+#[tactic(auto, using(crate::proofs::Votes::votes_so_far))]
 fn is_majority(members: &[u16], found: &[Acceptance], ballot: Ballot, slot: u32) -> bool
     requires { length members.now ≤ 9 }
     ensures { result ≡ is_majority members.now (voters_of (steps_of found.now) ballot slot) }
@@ -34,47 +35,47 @@ fn is_majority(members: &[u16], found: &[Acceptance], ballot: Ballot, slot: u32)
     for member in members {
         if has_accepted(found, ballot, slot, *member) {
             votes += 1;
+            if members.len() < 2 * votes {
+                return true;
+            }
         }
     }
-    members.len() < 2 * votes
+    false
 }
 
-// Whether an acceptance has a ballot not above that of the one found among older ones, if any is.
-fn is_lesser<'a>(here: &Acceptance, least: Option<&'a Acceptance>) -> bool
-    ensures { result ≡ is_lesser here.now (option_copied least.entry) }
-{
-    match least {
-        None => true,
-        Some(least) => !(least.ballot < here.ballot),
-    }
-}
-
-// The acceptance, where its command is chosen and its ballot not above that of the one found.
+// One more acceptance is chosen where it is at the slot and a majority accepted in its ballot. What
+// was found is chosen: so of an older ballot nothing new is asked, and of the same one neither.
+#[tactic(auto, using(crate::proofs::Better::better_elsewhere, crate::proofs::Better::better_later, crate::proofs::Better::better_chosen, crate::proofs::Better::better_none, crate::proofs::Better::same_chosen))]
 fn better_of<'a>(
-    is_chosen: bool,
+    members: &[u16],
+    found: &[Acceptance],
+    slot: u32,
     here: &'a Acceptance,
     least: Option<&'a Acceptance>,
 ) -> Option<&'a Acceptance>
-    ensures { option_map report_of (option_copied result) ≡
-        with_chosen is_chosen (report_of here.now)
-        (option_map report_of (option_copied least.entry)) }
+    requires few { length members.now ≤ 9 }
+    requires chosen { IsFoundChosen members.now (steps_of found.now) slot (option_copied least) }
+    ensures better { option_map report_of (option_copied result) ≡
+        with_chosen ((here.now.slot == slot) &&
+        is_majority members.now (voters_of (steps_of found.now) here.now.ballot slot))
+        (report_of here.now) (option_map report_of (option_copied least.entry)) }
+    ensures chosen { IsFoundChosen members.now (steps_of found.now) slot (option_copied result) }
 {
-    if is_chosen && is_lesser(here, least) {
+    if here.slot != slot {
+        return least;
+    }
+    if let Some(least) = least {
+        if least.ballot < here.ballot {
+            return Some(least);
+        }
+        if same_ballot(least.ballot, here.ballot) {
+            return Some(here);
+        }
+    }
+    if is_majority(members, found, here.ballot, slot) {
         return Some(here);
     }
     least
-}
-
-// Whether an acceptance is at a slot, and in its ballot a majority of the members accepted there.
-fn is_chosen(members: &[u16], found: &[Acceptance], slot: u32, here: &Acceptance) -> bool
-    requires { length members.now ≤ 9 }
-    ensures { result ≡ ((here.now.slot == slot) &&
-        is_majority members.now (voters_of (steps_of found.now) here.now.ballot slot)) }
-{
-    if here.slot != slot {
-        return false;
-    }
-    is_majority(members, found, here.ballot, slot)
 }
 
 // Of the acceptances at a slot in ballots in which a majority of the members accepted there, the
@@ -86,11 +87,7 @@ fn find_at<'a>(members: &[u16], found: &'a [Acceptance], slot: u32) -> Option<&'
 {
     let mut best: Option<&'a Acceptance> = None;
     for acceptance in found {
-        best = better_of(
-            is_chosen(members, found, slot, acceptance),
-            acceptance,
-            best,
-        );
+        best = better_of(members, found, slot, acceptance, best);
     }
     best
 }

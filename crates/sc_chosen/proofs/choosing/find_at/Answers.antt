@@ -10,7 +10,10 @@ loop-acceptance-preserved c =
     let found = c.args.found.now in
     let i = c.loop-acceptance.acceptance-index in
     let one : i + 1 ≡ suc i = omega arith in
-    c.better_of-best.ensures
-    ∙ rw (c.is_chosen.ensures, c.loop-acceptance.invariant)
-    (sym (ap (λ xs. found_in c.args.members.now (steps_of found) c.args.slot (steps_of xs)) (ap (λ n. take n found) one ∙ take-suc found i c.acceptance-item.result (omega (arith, c.loop-acceptance-test.true)) ∙ ap (λ x. take i found ++ x ∷ []) (sym c.acceptance-item.is))
-    ∙ found-next c.args.members.now (steps_of found) c.args.slot (take i found) c.acceptance-item.result))
+    record {
+      least = c.better_of-best.ensures.better
+          ∙ rw c.loop-acceptance.invariant.least
+          (sym (ap (λ xs. found_in c.args.members.now (steps_of found) c.args.slot (steps_of xs)) (ap (λ n. take n found) one ∙ take-suc found i c.acceptance-item.result (omega (arith, c.loop-acceptance-test.true)) ∙ ap (λ x. take i found ++ x ∷ []) (sym c.acceptance-item.is))
+          ∙ found-next c.args.members.now (steps_of found) c.args.slot (take i found) c.acceptance-item.result));
+      chosen = c.better_of-best.ensures.chosen;
+    }
