@@ -43,8 +43,9 @@ fn is_majority(members: &[u16], found: &[Acceptance], ballot: Ballot, slot: u32)
     false
 }
 
-// One more acceptance is chosen where it is at the slot and a majority accepted in its ballot. What
-// was found is chosen: so of an older ballot nothing new is asked, and of the same one neither.
+// The acceptance, where it is at the slot, a majority accepted in its ballot, and that is not above
+// the ballot of the one found. The one found is chosen: so of a later ballot no vote is counted, and
+// of the same ballot neither.
 #[tactic(auto, using(crate::proofs::Better::better_elsewhere, crate::proofs::Better::better_later, crate::proofs::Better::better_chosen, crate::proofs::Better::better_none, crate::proofs::Better::same_chosen))]
 fn better_of<'a>(
     members: &[u16],
