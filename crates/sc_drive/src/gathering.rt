@@ -6,19 +6,19 @@ ghost use Rattle.sc_drive.specs.Gatherings.{OthersMet};
 
 use sc_actor::Actor;
 use sc_base::OutOfMemory;
-use sc_exchange::{Fetched, Port};
+use sc_exchange::Port;
 use sc_shell::Shell;
 use sc_workers::{meet_one, vouch};
 use std::sync::Wait;
 
 /// All gather where each shell but that at a place has seen only what the port has seen: so only
-/// that one meets the port. Answers what is pending first of all.
+/// that one meets the port. Answers to whom the first pending mail of all goes.
 pub(crate) fn gather_after<A: Actor, R: Wait>(
     rt: &R,
     net: &mut Port<A::Mail, A::Order>,
     shells: &mut Vec<Shell<A>>,
     place: usize,
-) -> Result<Fetched<A::Mail>, OutOfMemory>
+) -> Result<Option<u32>, OutOfMemory>
     requires exchange { AllOf net.old shells.old.items }
     requires inside { place < length shells.old.items }
     requires others { OthersMet place net.old shells.old.items }
@@ -27,7 +27,7 @@ pub(crate) fn gather_after<A: Actor, R: Wait>(
     ensures found { IfOk result (λ found. IsFirst net.new found) }
 {
     meet_one(rt, net, &mut shells[place])?;
-    let found = net.fetch(rt, 1)?;
+    let found = net.first_receiver(rt);
     vouch(net, shells);
     Ok(found)
 }

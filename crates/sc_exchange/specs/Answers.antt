@@ -16,6 +16,19 @@ module _ {M O : Type 0} where
   IsFetch receiver actors rows who k (Mail number mail) = (kth_pending receiver actors rows who k ≡ Some number) × (numbered (mails rows) number ≡ Some mail)
   IsFetch receiver actors rows who k (Empty seen) = (kth_pending receiver actors rows who k ≡ None) × (seen ≡ length rows)
 
+  -- the first mail that is pending for this actor after these rows, or for any where the number is 0, goes to this receiver
+  pub record GoesTo (receiver : M → ℕ) (actors : ℕ) (rows : List (Row M O)) (who to : ℕ) : Type 0 where
+    pub number : ℕ
+    pub mail : M
+    pub first : kth_pending receiver actors rows who 1 ≡ Some number
+    pub sent : numbered (mails rows) number ≡ Some mail
+    pub goes : receiver mail ≡ to
+
+  -- that receiver; or none is pending
+  abbrev pub IsFirstTo : (M → ℕ) → ℕ → List (Row M O) → ℕ → Option ℕ → Type 0
+  IsFirstTo receiver actors rows who None = kth_pending receiver actors rows who 1 ≡ None
+  IsFirstTo receiver actors rows who (Some to) = GoesTo receiver actors rows who to
+
   -- how many mails these rows sent, and each pending copy after them, in ascending order of number; each is where its receiver would find it
   pub record IsLook (receiver : M → ℕ) (actors : ℕ) (rows : List (Row M O)) (look : Look) : Type 0 where
     pub sent : look.sent ≡ length (mails rows)

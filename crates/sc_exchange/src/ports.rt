@@ -9,12 +9,14 @@ ghost use Rattle.sc_ledger.specs.Pending.{kth_pending};
 ghost use Rattle.sc_exchange.specs.BareRows.{bare_rows, row_by, rows_from, rows_of};
 ghost use Rattle.sc_exchange.specs.Addressed.{all_addressed};
 ghost use Rattle.sc_exchange.specs.Fetches.{HasFetched, delivered};
-ghost use Rattle.sc_exchange.specs.Answers.{IsFetch, IsLook, number_in};
+ghost use Rattle.sc_exchange.specs.Answers.{IsFetch, IsFirstTo, IsLook, number_in};
 
 use crate::answers::{Fetched, Unposted};
 use crate::fates::Fate;
 use crate::shared::Exchange;
-use crate::turns::{change_at, fetch_at, kth_at, look_at, post_at, receiver_at, waiting_at};
+use crate::turns::{
+    change_at, fetch_at, first_at, kth_at, look_at, post_at, receiver_at, waiting_at,
+};
 use sc_actor::{Event, Journal, Parcel, Row};
 use sc_base::{OutOfMemory, Sequence};
 use sc_ledger::{Look, Unkept};
@@ -203,6 +205,15 @@ impl<M: Parcel + Drop, O: Drop> Port<M, O> {
             ≡ option_map M.receiver (numbered (mails (seen self.new)) number) }
     {
         receiver_at(rt, &mut self.seat, number)
+    }
+
+    /// To whom the first mail goes that is pending for this port's actor, or of all at the network's
+    /// port. None exactly where none is pending. The mail is not copied.
+    pub fn first_receiver<R: Wait>(&mut self, rt: &R) -> Option<u32>
+        ensures looked { HasLooked self.old self.new self.old.fetched }
+        ensures first { IsFirstTo M.receiver self.old.actors (seen self.new) self.old.who result }
+    {
+        first_at(rt, &mut self.seat, self.actors, self.who)
     }
 
     /// For each of these actors, whether mail is pending for it, all at this one turn.
