@@ -1,6 +1,7 @@
-//! All gather where only one actor has acted.
+//! All gather where only one actor has acted, or none.
 ghost use Rattle.std.specs.Prelude.{◌<◌, length, IfOk, OnOk};
-ghost use Rattle.sc_workers.specs.Crews.{AllOf, AreStill};
+ghost use Rattle.sc_exchange.specs.Ports.{IsTrue, IsAddressed};
+ghost use Rattle.sc_workers.specs.Crews.{AllMet, AllOf, AreStill};
 ghost use Rattle.sc_workers.specs.Ends.{IsFirst, IsGathered};
 ghost use Rattle.sc_drive.specs.Gatherings.{OthersMet};
 
@@ -30,4 +31,17 @@ pub(crate) fn gather_after<A: Actor, R: Wait>(
     let found = net.first_receiver(rt);
     vouch(net, shells);
     Ok(found)
+}
+
+/// All gather where each shell has seen only what the port has seen, which has looked last: so none
+/// meets it, and each vouches for what it has seen.
+pub(crate) fn gather_again<A: Actor>(net: &mut Port<A::Mail, A::Order>, shells: &mut Vec<Shell<A>>)
+    requires exchange { AllOf net.old shells.old.items }
+    requires met { AllMet net.old shells.old.items }
+    requires rows { IsTrue net.old }
+    requires addressed { IsAddressed net.old }
+    ensures still { AreStill net.old net.new shells.old.items shells.new.items }
+    ensures gathered { IsGathered net.new shells.new.items }
+{
+    vouch(net, shells);
 }

@@ -4,9 +4,10 @@ use Rattle.sc_base.specs.declared.dups.OutOfMemory.{OutOfMemory}
 use Rattle.sc_actor.specs.declared.rows.Row.{Row}
 use Rattle.sc_actor.specs.Mail.{mails, numbered}
 use Rattle.sc_ledger.specs.Pending.{kth_pending}
-use Rattle.sc_ledger.specs.Spots.{spots_of}
+use Rattle.sc_ledger.specs.Spots.{copies_for, picked_spot, spots_of}
 use Rattle.sc_ledger.specs.declared.spots.Spot.{Spot}
 use Rattle.sc_ledger.specs.declared.spots.Look.{Look}
+use Rattle.sc_ledger.specs.declared.spots.Glance.{Glance}
 use Rattle.sc_exchange.specs.declared.answers.Fetched.{Fetched}
 use Rattle.sc_exchange.specs.declared.answers.Fetched.TheVariants.{Mail, Empty}
 
@@ -34,6 +35,12 @@ module _ {M O : Type 0} where
     pub sent : look.sent ≡ length (mails rows)
     pub spots : look.pending ≡ spots_of receiver actors rows
     pub each : All (λ (spot : Spot). kth_pending receiver actors rows spot.who spot.k ≡ Some spot.number) look.pending
+
+  -- how many mails these rows sent, and of the pending copies for some actors the one that a word picks; each copy is where its receiver would find it
+  pub record IsGlance (receiver : M → ℕ) (actors : ℕ) (rows : List (Row M O)) (whos : List ℕ) (word : ℕ) (glance : Glance) : Type 0 where
+    pub sent : glance.sent ≡ length (mails rows)
+    pub spot : glance.spot ≡ picked_spot (copies_for whos (spots_of receiver actors rows)) word
+    pub each : All (λ (spot : Spot). kth_pending receiver actors rows spot.who spot.k ≡ Some spot.number) (spots_of receiver actors rows)
 
 -- the number that was fetched, if any was
 abbrev pub fetched_number : {M : Type 0} → Fetched M → Option ℕ
