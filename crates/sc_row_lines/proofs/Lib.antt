@@ -3,7 +3,9 @@ pub mod Bare
 pub mod BodyTexts
 pub mod CommandTexts
 pub mod Digits
+pub mod ListTexts
 pub mod MailTexts
 pub mod OpTexts
+pub mod ReportTexts
 pub mod RowTexts
 pub mod Spelling

@@ -110,6 +110,28 @@ fn body_prepare(alloc: Global, bytes: &[u8]) -> Option<(MailBody, &[u8])>
     ))
 }
 
+fn body_promise(alloc: Global, bytes: &[u8]) -> Option<(MailBody, &[u8])>
+    ensures { IfSome result
+        (λ found. TextBegins mail_body_json FitsMailBody bytes.now found.0 found.1.now) }
+{
+    let (ballot, group, reports, rest) = three_of(
+        alloc,
+        bytes,
+        br#"{"Promise":{"ballot":"#,
+        br#","group":"#,
+        br#","reports":"#,
+        b"}}",
+    )?;
+    Some((
+        MailBody::Promise {
+            group,
+            ballot,
+            reports,
+        },
+        rest,
+    ))
+}
+
 fn body_accept(alloc: Global, bytes: &[u8]) -> Option<(MailBody, &[u8])>
     ensures { IfSome result
         (λ found. TextBegins mail_body_json FitsMailBody bytes.now found.0 found.1.now) }
@@ -233,6 +255,9 @@ impl FromText for MailBody {
         if let Some(found) = body_learn(alloc, bytes) {
             return Some(found);
         }
-        body_ask(alloc, bytes)
+        if let Some(found) = body_ask(alloc, bytes) {
+            return Some(found);
+        }
+        body_promise(alloc, bytes)
     }
 }

@@ -9,11 +9,13 @@
 mod bodies;
 mod commands;
 mod from_text;
+mod lists;
 mod mails;
 mod names;
 mod numbers;
 mod ops;
 mod parts;
+mod reports;
 mod rows;
 mod texts;
 mod words;

@@ -1,0 +1,33 @@
+//! Reports of what was accepted.
+ghost use Rattle.sc_row_text.specs.Commands.{report_json, FitsReport};
+
+use crate::from_text::FromText;
+use crate::parts::three_of;
+use sc_cmd::Command;
+use sc_paxos_words::Report;
+use std::alloc::Global;
+
+impl FromText for Report<Command> {
+    ghost json_of = { report_json };
+
+    ghost Fits = { FitsReport };
+
+    fn take(alloc: Global, bytes: &[u8]) -> Option<(Report<Command>, &[u8])> {
+        let (ballot, slot, value, rest) = three_of(
+            alloc,
+            bytes,
+            br#"{"ballot":"#,
+            br#","slot":"#,
+            br#","value":"#,
+            b"}",
+        )?;
+        Some((
+            Report {
+                slot,
+                ballot,
+                value,
+            },
+            rest,
+        ))
+    }
+}
