@@ -229,20 +229,21 @@ fn take(alloc: Global, known: &mut Known, acceptance: &Acceptance) -> Result<boo
     Ok(is_still_chosen(known, slot))
 }
 
-/// A group takes in what was accepted, if it was accepted for it.
-pub fn taken_in(
+/// A group takes in what was accepted, if it was accepted for it. Whether its log only goes on, by
+/// entries that make no child.
+pub fn take_in(
     alloc: Global,
-    mut known: Known,
+    known: &mut Known,
     name: Draw,
     acceptance: &Acceptance,
-) -> Result<(Known, bool), OutOfMemory>
-    ensures { IfOk result (λ done. done.1 ≡ true → (rows after : List (Row Mail OrderLine)) →
-        Adds (Some (name, acceptance.now)) rows after → IsKnown rows known →
-        StaysKnown rows after known done.0) }
+) -> Result<bool, OutOfMemory>
+    ensures { IfOk result (λ calm. calm ≡ true → (rows after : List (Row Mail OrderLine)) →
+        Adds (Some (name, acceptance.now)) rows after → IsKnown rows known.old →
+        StaysKnown rows after known.old known.new) }
 {
     if same_draw(known.base.core.id, name) {
-        let calm = take(alloc, &mut known, acceptance)?;
-        return Ok((known, calm));
+        let calm = take(alloc, known, acceptance)?;
+        return Ok(calm);
     }
-    Ok((known, true))
+    Ok(true)
 }

@@ -1,3 +1,4 @@
 pub mod Families
 pub mod Gained
+pub mod InPlace
 pub mod OneMore

@@ -20,7 +20,7 @@ ghost use Rattle.sc_decided.specs.Found.{log_kept, new_entries, grown_by, StayKn
 use crate::births::{Groups, both, groups_of, log_in};
 use sc_actor::Row;
 use sc_base::{Draw, Dup, OutOfMemory, same_draw};
-use sc_chosen::{Acceptance, Known, accepted_in, add_mails, taken_in};
+use sc_chosen::{Acceptance, Known, accepted_in, add_mails, take_in};
 use sc_cmd::{Base, Command, OrderLine};
 use sc_log_entries::LogEntry;
 use sc_mail::Mail;
@@ -94,26 +94,38 @@ fn look_again(
     Ok(new)
 }
 
-// The groups with one more acceptance. Whether their logs only go on, by entries that make no
-// child.
-fn take_all(
+// Groups take in what was accepted, each where it lies, since it is large. Whether their logs only
+// go on, by entries that make no child.
+fn take_each(
     alloc: Global,
-    knowns: Vec<Known>,
+    knowns: &mut [Known],
     name: Draw,
     acceptance: &Acceptance,
-) -> Result<(Vec<Known>, bool), OutOfMemory>
-    ensures { IfOk result (λ done. done.1 ≡ true → (rows after : List (Row Mail OrderLine)) →
-        Adds (Some (name, acceptance.now)) rows after → Each (IsKnown rows) knowns.items →
-        StayKnown rows after knowns.items done.0.items) }
+) -> Result<bool, OutOfMemory>
+    ensures { IfOk result (λ calm. calm ≡ true → (rows after : List (Row Mail OrderLine)) →
+        Adds (Some (name, acceptance.now)) rows after → Each (IsKnown rows) knowns.old →
+        StayKnown rows after knowns.old knowns.new) }
 {
-    let mut after = Vec::new(alloc);
     let mut calm = true;
-    for known in knowns {
-        let (known, was_calm) = taken_in(alloc, known, name, acceptance)?;
+    for known in knowns.iter_mut() {
+        let was_calm = take_in(alloc, known, name, acceptance)?;
         calm = both(calm, was_calm);
-        after.push(known)?;
     }
-    Ok((after, calm))
+    Ok(calm)
+}
+
+// The same of the groups of a vector.
+fn take_all(
+    alloc: Global,
+    knowns: &mut Vec<Known>,
+    name: Draw,
+    acceptance: &Acceptance,
+) -> Result<bool, OutOfMemory>
+    ensures { IfOk result (λ calm. calm ≡ true → (rows after : List (Row Mail OrderLine)) →
+        Adds (Some (name, acceptance.now)) rows after → Each (IsKnown rows) knowns.old.items →
+        StayKnown rows after knowns.old.items knowns.new.items) }
+{
+    take_each(alloc, knowns.as_mut_slice(), name, acceptance)
 }
 
 // What a row adds to the log of the group with a name, which had so many entries.
@@ -143,7 +155,7 @@ fn after_acceptance(
     bases: &[Base],
     before: &[Row<Mail, OrderLine>],
     after: &[Row<Mail, OrderLine>],
-    knowns: Vec<Known>,
+    mut knowns: Vec<Known>,
     name: Draw,
     acceptance: &Acceptance,
 ) -> Result<Groups, OutOfMemory>
@@ -157,15 +169,15 @@ fn after_acceptance(
 {
     let kept = knowns.as_slice();
     let count = log_in(kept, name).len();
-    let (grown, calm) = take_all(alloc, knowns, name, acceptance)?;
+    let calm = take_all(alloc, &mut knowns, name, acceptance)?;
     if !calm {
         let found = look_again(alloc, entries, bases, before, after)?;
         return Ok(found);
     }
-    let later = grown.as_slice();
+    let later = knowns.as_slice();
     add_grown(alloc, entries, later, name, count)?;
     Ok(Groups {
-        knowns: grown,
+        knowns,
         settled: true,
     })
 }

@@ -13,8 +13,8 @@ pub returns : goal.returns
 returns c = λ row is adds found.
     let entries = c.args.entries.now.items in
     let count = ap length (c.log_in-count.ensures ∙ ap (log_kept c.args.name) c.as_slice-kept.ensures.value) in
-    let stay = c.in_ok-grown.ensures c.if-not-calm.false c.args.before.now c.args.after.now adds found.known.each in
-    let goes = one_accepted c.args.bases.now c.args.before.now c.args.after.now row c.args.name c.args.acceptance.now c.args.knowns.items c.in_ok-grown.grown.items _ is adds found.known (found.settled refl) stay count in (
+    let stay = c.in_ok-calm.ensures c.if-not-calm.false c.args.before.now c.args.after.now adds found.known.each in
+    let goes = one_accepted c.args.bases.now c.args.before.now c.args.after.now row c.args.name c.args.acceptance.now c.args.knowns.items c.take_all.new.knowns.items _ is adds found.known (found.settled refl) stay count in (
       record { known = goes.known; settled = λ t. goes.settled },
       c.in_ok-add_grown.ensures
           ∙ ap (λ (ks : List Known). entries ++ flat_map (grown_by c.args.name (length c.log_in-count.result.now) (log_kept c.args.name ks)) ks) c.as_slice-later.ensures.value

@@ -1,17 +1,20 @@
-use Rattle.std.proofs.Common.{◌≡◌, List, [], ◌∷◌, ◌++◌, refl, sym, subst, ◌∙◌, rules}
-use Rattle.std.proofs.lemmas.Bool.{and_parts}
-use Rattle.sc_decided.specs.Found.{StayKnown}
+use Rattle.std.proofs.Common.{rules, ◌≡◌, List, length, sym, subst, true, Some, IfOk}
+use Rattle.sc_base.specs.Among.{Each}
+use Rattle.sc_cmd.specs.declared.orders.OrderLine.{OrderLine}
+use Rattle.sc_mail.specs.declared.bodies.Mail.{Mail}
+use Rattle.sc_actor.specs.declared.rows.Row.{Row}
+use Rattle.sc_chosen.specs.Known.{Adds, IsKnown}
 use Rattle.sc_chosen.specs.declared.known.Known.{Known}
-use Rattle.sc_decided.proofs.Gained.{stay_push}
+use Rattle.sc_decided.specs.Found.{StayKnown}
+use Rattle.sc_decided.proofs.InPlace.{whole_slice}
 use Rattle.sc_decided.proofs.entries.take_all.Goals as goal
 
-pub loop-known-init : goal.loop-known-init
-loop-known-init c = λ calm rows later adds each.
-    let none : c.new-after.result.items ≡ [] = search rules in
-    subst (λ (items : List Known). StayKnown rows later [] items) (sym none) (record { same = refl; each = tt; children = tt })
-
-pub loop-known-preserved : goal.loop-known-preserved
-loop-known-preserved c = λ calm rows later adds each.
-    let parts = and_parts c.loop-known.calm c.in_ok-known.was_calm (sym c.both-calm.ensures ∙ calm) in
-    subst (StayKnown rows later (c.loop-known.yielded ++ c.in-Some.known ∷ [])) (sym c.in_ok-push.ensures.items)
-    (stay_push rows later c.loop-known.yielded c.loop-known.after.items c.in-Some.known c.in_ok-known.known each (λ all. c.loop-known.invariant parts.0 rows later adds all) (λ is. c.in_ok-known.ensures parts.1 rows later adds is))
+pub returns : goal.returns
+returns c =
+    let old = c.args.knowns.now.items in let new = c.take_each.new.knowns in
+    let same : length new ≡ length old = search rules in
+    let all : c.args.knowns.now.len ≡ length old = search rules in
+    subst (λ (l : List Known). IfOk c.take_each.result (λ calm. calm ≡ true → (rows after : List (Row Mail OrderLine)) → Adds (Some (c.args.name, c.args.acceptance.now)) rows after → Each (IsKnown rows) old → StayKnown rows after old l))
+    (sym (whole_slice new old c.args.knowns.now.len same all))
+    (subst (λ (l : List Known). IfOk c.take_each.result (λ calm. calm ≡ true → (rows after : List (Row Mail OrderLine)) → Adds (Some (c.args.name, c.args.acceptance.now)) rows after → Each (IsKnown rows) l → StayKnown rows after l new))
+    c.as_mut_slice.ensures.value c.take_each.ensures)
