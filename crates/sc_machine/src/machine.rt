@@ -1,5 +1,5 @@
 //! The group machine: one command, and requests.
-ghost use Rattle.std.specs.Prelude.{◌≡◌, length, IfOk, OnErr};
+ghost use Rattle.std.specs.Prelude.{◌≡◌, IfOk, OnErr};
 ghost use Rattle.std.specs.FinMap.{entries, get};
 ghost use Rattle.sc_ideal.specs.IdealStore.{holds_key, key_of};
 ghost use Rattle.sc_ideal.specs.Clients.{seen_of};
@@ -81,13 +81,6 @@ impl Machine {
         ensures { IfOk result (λ pairs. pairs ≡ entries self.now.pairs) }
     {
         self.store.list()
-    }
-
-    /// How many pairs the group has.
-    pub fn count_pairs(&self) -> usize
-        ensures { result ≡ length (entries self.now.pairs) }
-    {
-        self.store.count()
     }
 
     /// The group's whole record. A machine that is born from it is the same as this one.

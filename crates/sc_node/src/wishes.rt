@@ -1,26 +1,12 @@
 //! What a policy orders of a group at a tick.
 ghost use Rattle.std.specs.Prelude.{◌≡◌, IfOk, OnOk, Some};
-ghost use Rattle.std.specs.FinMap.{entries};
-ghost use Rattle.sc_policy.specs.Wishes.{wished_order};
 ghost use Rattle.sc_node_table.specs.Policy.{wished_line, with_line, names_with};
 
 use crate::orders::put_untold;
-use sc_base::{Draws, OutOfMemory, Pairs};
+use sc_base::{Draws, OutOfMemory};
 use sc_cmd::OrderLine;
-use sc_policy::{asks_for_pairs, wished_order};
+use sc_policy::wished_order;
 use sc_replica::Replica;
-
-// The pairs of the group, where what is wished of it depends on them, and else none: they are many.
-fn pairs_asked_for(replica: &Replica) -> Result<Pairs, OutOfMemory>
-    ensures { IfOk result (λ pairs. wished_order replica.now.group.core pairs
-        ≡ wished_order replica.now.group.core (entries replica.now.group.pairs)) }
-{
-    let machine = replica.machine();
-    if !asks_for_pairs(machine.core(), machine.count_pairs()) {
-        return Ok(Pairs::new(replica.alloc()));
-    }
-    machine.pairs()
-}
 
 /// What a policy, if it is on, orders of a group that is at rest. Its orders have the number 0.
 fn wished_line(replica: &Replica, policy: bool) -> Result<Option<OrderLine>, OutOfMemory>
@@ -29,7 +15,7 @@ fn wished_line(replica: &Replica, policy: bool) -> Result<Option<OrderLine>, Out
     if !policy || !replica.is_at_rest() {
         return Ok(None);
     }
-    let pairs = pairs_asked_for(replica)?;
+    let pairs = replica.machine().pairs()?;
     match wished_order(replica.machine().core(), &pairs) {
         Some(order) => Ok(Some(OrderLine { number: 0, order })),
         None => Ok(None),

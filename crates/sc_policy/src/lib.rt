@@ -10,4 +10,4 @@ mod wishes;
 pub use bodies::Body0;
 pub use laws::keys_rise_from_the_start;
 pub use orders::is_told;
-pub use wishes::{asks_for_pairs, wish, wished_order};
+pub use wishes::{wish, wished_order};

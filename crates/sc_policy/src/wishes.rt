@@ -1,5 +1,5 @@
 //! What is wished of a group.
-ghost use Rattle.std.specs.Prelude.{◌≡◌, ℕ, List, [], false, nat_le, nat_lt, length, filter, slice_get};
+ghost use Rattle.std.specs.Prelude.{◌≡◌, nat_le, nat_lt, length, filter, slice_get};
 ghost use Rattle.sc_policy.specs.Wishes.{has_neighbour, middle_of, positions, middle_key, wants_split, wished, wished_of_two, wished_order};
 
 use crate::bodies::Body0;
@@ -42,15 +42,6 @@ pub fn wished_order(core: &Core, keys: &Pairs) -> Option<Order>
         Some(body) => Some(body.order(core.id)),
         None => None,
     }
-}
-
-/// Whether it has to be seen which pairs a group of that record has, of which there are so many. If
-/// not, what is wished is the same as with no pairs.
-pub fn asks_for_pairs(core: &Core, many: usize) -> bool
-    ensures { result ≡ false → (pairs : List (List ℕ × List ℕ)) → length pairs ≡ many →
-        wished_order core.now [] ≡ wished_order core.now pairs }
-{
-    MOST_PAIRS < many && has_neighbour(core)
 }
 
 fn wants_split(core: &Core) -> bool

@@ -1,5 +1,5 @@
 //! A map from keys to values, on which one operation after another is carried out.
-ghost use Rattle.std.specs.Prelude.{◌≡◌, ℕ, IfOk, OnOk, OnErr, length, take, is_some};
+ghost use Rattle.std.specs.Prelude.{◌≡◌, ℕ, IfOk, OnOk, OnErr, take, is_some};
 ghost use Rattle.std.specs.List.{list_any};
 ghost use Rattle.std.specs.Option.{option_copied};
 ghost use Rattle.std.specs.FinMap as map;
@@ -66,13 +66,6 @@ impl Store {
             pairs.push(key.dup(self.alloc)?, value.dup(self.alloc)?)?;
         }
         Ok(pairs)
-    }
-
-    /// How many pairs there are.
-    pub fn count(&self) -> usize
-        ensures { result ≡ length (map.entries self.now) }
-    {
-        self.pairs.len()
     }
 
     /// The pairs whose positions the arc holds, in the order of the keys.
