@@ -1,5 +1,5 @@
 -- Groups that take in one acceptance, one after the other, each where it lies.
-use Rattle.std.proofs.Common.{◌≡◌, ℕ, ◌+◌, ◌<◌, ◌≤◌, List, [], ◌∷◌, ◌++◌, length, get_or, set, take, drop, refl, sym, ap, ◌∙◌, subst, arith, append-nil}
+use Rattle.std.proofs.Common.{◌≡◌, ℕ, ◌+◌, ◌<◌, ◌≤◌, List, [], ◌∷◌, ◌++◌, length, get_or, set, take, drop, sym, ap, ◌∙◌, subst, arith, append-nil}
 use Rattle.std.proofs.lemmas.List.{take_more, take_all, take_more_set, drop_more, drop-set-lt}
 use Rattle.std.proofs.Math.Seq.{drop-length}
 use Rattle.sc_base.specs.Among.{Each}
@@ -18,7 +18,7 @@ module _ (old now : List Known) (i : ℕ) (lt : i < length now) (long : length n
       let here = drop_more now i d lt in
       let there = drop_more old i d (omega (arith, lt, long)) in
       let both : (get_or now i d ∷ drop (i + 1) now) ≡ (get_or old i d ∷ drop (i + 1) old) = sym here ∙ (left ∙ there) in
-      (cc, cc)
+      ((cc), (cc))
 
   pub left_next : (y : Known) → drop (i + 1) (set now i y) ≡ drop (i + 1) old
   left_next y = (let less : i < i + 1 = omega arith in drop-set-lt (i + 1) now i y less ∙ (next_was y).1)
