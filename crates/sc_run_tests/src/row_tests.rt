@@ -45,6 +45,9 @@ const COMMON_BODIES: &[Pieces] = &[
     ],
     &[ANSWERED, br#"{"Value":{"old":null}}"#, ANSWERED_SO],
     &[ANSWERED, br#"{"Value":{"old":"null"}}"#, ANSWERED_SO],
+    &[ANSWERED, br#"{"NotLeader":{"hint":1}}"#, ANSWERED_SO],
+    &[ANSWERED, br#"{"NotLeader":{"hint":null}}"#, ANSWERED_SO],
+    &[ANSWERED, br#"{"Stale":{"last":2}}"#, ANSWERED_SO],
     &[br#"{"Prepare":{"ballot":[2,9],"from_slot":0,"group":"0.1"}}"#],
     &[CALLED, br#"{"Get":{"key":"a"}}"#, CALLED_SO],
     &[
@@ -67,8 +70,6 @@ const COMMON_BODIES: &[Pieces] = &[
 /// before.
 const OTHER_BODIES: &[Pieces] = &[
     &[ASKED, br#"{"Get":{"key":"\"\\"}}"#, ASKED_SO],
-    &[ANSWERED, br#"{"NotLeader":{"hint":1}}"#, ANSWERED_SO],
-    &[ANSWERED, br#"{"NotLeader":{"hint":null}}"#, ANSWERED_SO],
     &[
         ANSWERED,
         br#"{"NotMine":{"arc":[0,7],"succ":"#,
@@ -81,7 +82,6 @@ const OTHER_BODIES: &[Pieces] = &[
         br#"{"Gone":{"into":{"group":"0.1","lo":0,"members":[1]}}}"#,
         ANSWERED_SO,
     ],
-    &[ANSWERED, br#"{"Stale":{"last":2}}"#, ANSWERED_SO],
     &[br#"{"Promise":{"ballot":[2,2],"group":"0.1","reports":[]}}"#],
     &[
         br#"{"Promise":{"ballot":[2,2],"group":"0.1","reports":[{"ballot":[1,1],"slot":2,"#,
