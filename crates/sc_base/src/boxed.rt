@@ -3,7 +3,7 @@ ghost use Rattle.std.specs.Prelude.{◌≡◌, IfOk};
 
 use crate::dups::{Dup, OutOfMemory};
 use crate::sames::Same;
-use std::alloc::Global;
+use std::alloc::{AllocError, Global};
 use std::marker::Model;
 
 /// A value in a block of its own: what holds it is no larger for it than a pointer. For the rare
@@ -43,6 +43,28 @@ impl<T: Dup + Drop> Dup for Boxed<T> {
         let copy = self.get().dup(alloc)?;
         Boxed::new(alloc, copy)
     }
+}
+
+impl<T: Dup + Drop> Clone for Boxed<T> {
+    ghost is_clone = { λ value copy. copy ≡ value };
+
+    fn clone(&self) -> Result<Boxed<T>, AllocError> {
+        Ok(self.dup(*Box::allocator(&self.kept))?)
+    }
+}
+
+impl<T: PartialEq> PartialEq for Boxed<T> {
+    ghost eq = { T.eq };
+
+    ghost laws = { T.laws };
+
+    fn eq(&self, other: &Boxed<T>) -> bool {
+        self.get() == other.get()
+    }
+}
+
+impl<T: Eq> Eq for Boxed<T> {
+    ghost laws = { T.Eq.laws };
 }
 
 impl<T: Same> Same for Boxed<T> {

@@ -1,9 +1,10 @@
 //! A list of values of one type, which contracts see as the list.
 ghost use Rattle.std.specs.Prelude.{◌≡◌, ◌<◌, [], ◌∷◌, ◌++◌, length, slice_get, Some, OnOk, OnErr};
+ghost use Rattle.std.specs.Cmp.Lexicographic.{pointwise, lists_per, lists_equiv};
 
-use crate::dups::{Dup, OutOfMemory};
+use crate::dups::{Dup, OutOfMemory, dup_items};
 use crate::sames::{Same, are_same};
-use std::alloc::Global;
+use std::alloc::{AllocError, Global};
 use std::marker::Model;
 
 /// A list. The one list type of all elements; contracts see it as the list.
@@ -81,12 +82,31 @@ impl<T: Drop> Sequence<T> {
 
 impl<T: Dup + Drop> Dup for Sequence<T> {
     fn dup(&self, alloc: Global) -> Result<Sequence<T>, OutOfMemory> {
-        let mut copy = Sequence::new(alloc);
-        for item in self.items.iter() {
-            copy.push(item.dup(alloc)?)?;
-        }
-        Ok(copy)
+        let items = dup_items(self.as_slice(), alloc)?;
+        Ok(Sequence { items })
     }
+}
+
+impl<T: Dup + Drop> Clone for Sequence<T> {
+    ghost is_clone = { λ list copy. copy ≡ list };
+
+    fn clone(&self) -> Result<Sequence<T>, AllocError> {
+        Ok(self.dup(*self.items.allocator())?)
+    }
+}
+
+impl<T: PartialEq> PartialEq for Sequence<T> {
+    ghost eq = { pointwise T.eq };
+
+    ghost laws = { lists_per T.laws };
+
+    fn eq(&self, other: &Sequence<T>) -> bool {
+        self.as_slice() == other.as_slice()
+    }
+}
+
+impl<T: Eq> Eq for Sequence<T> {
+    ghost laws = { lists_equiv T.Eq.laws };
 }
 
 impl<T: Same> Same for Sequence<T> {

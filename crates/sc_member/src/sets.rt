@@ -1,11 +1,13 @@
 //! Sets of one to nine nodes.
-ghost use Rattle.std.specs.Prelude.{◌≡◌, ◌<◌, ◌≤◌, ◌∷◌, [], IsTrue, length, slice_index, MatchResult, Some, None, find, nat_lt};
+ghost use Rattle.std.specs.Prelude.{◌≡◌, ◌<◌, ◌≤◌, ◌∷◌, [], IsTrue, length, slice_index, MatchResult, Some, None, find, nat_eq, nat_lt};
+ghost use Rattle.std.specs.Cmp.{partial_equiv_from_equiv};
+ghost use Rattle.std.specs.Cmp.Lexicographic.{pointwise, nat_list_eq_equiv};
 ghost use Rattle.sc_member.specs.Roster.{IsRoster, is_member, with_member, without_member, least_of, next_after};
 ghost use Rattle.sc_member.specs.Faults.{add_fault, remove_fault};
 ghost use Rattle.sc_member.specs.Majority.{is_majority, votes_of};
 
 use crate::nodes::Nodes;
-use sc_base::{Dup, OutOfMemory, Same, are_same};
+use sc_base::{Dup, OutOfMemory, Same};
 use std::alloc::Global;
 use std::marker::Model;
 
@@ -23,7 +25,7 @@ pub enum MemberFault {
 }
 
 /// One to nine nodes. Contracts see them as their list, ascending.
-#[derive(Clone, Copy, Debug, PartialEq, Eq)]
+#[derive(Clone, Copy, Debug)]
 pub struct Members {
     nodes: Nodes,
 }
@@ -141,9 +143,24 @@ impl Dup for Members {
     }
 }
 
+// Sets are compared as their lists, so that `==` tells them apart exactly.
+impl PartialEq for Members {
+    ghost eq = { pointwise nat_eq };
+
+    ghost laws = { partial_equiv_from_equiv nat_list_eq_equiv };
+
+    fn eq(&self, other: &Members) -> bool {
+        self.as_slice() == other.as_slice()
+    }
+}
+
+impl Eq for Members {
+    ghost laws = { nat_list_eq_equiv };
+}
+
 impl Same for Members {
     fn is_same(&self, other: &Members) -> bool {
-        are_same(self.as_slice(), other.as_slice())
+        self == other
     }
 }
 

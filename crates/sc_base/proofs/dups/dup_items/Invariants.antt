@@ -1,6 +1,6 @@
 use Rattle.std.proofs.Common.{◌≡◌, take}
-use Rattle.sc_base.proofs.lists.SequenceDup.dup.Given as goal
+use Rattle.sc_base.proofs.dups.dup_items.Given as goal
 
 -- the items so far are copied
 abbrev pub invariant-loop-item : goal.invariant-loop-item
-invariant-loop-item g l = l.copy ≡ take l.item-index l.item-items
+invariant-loop-item g l = l.copy.items ≡ take l.item-index l.items
