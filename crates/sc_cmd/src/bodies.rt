@@ -18,7 +18,7 @@ pub enum Body {
 }
 
 /// What a coordinator asks of its participant. `by` is the node that asks.
-#[derive(Clone, Copy)]
+#[derive(Clone, Copy, PartialEq, Eq)]
 pub struct Offer {
     pub coord: Draw,
     pub part: Draw,
@@ -30,7 +30,7 @@ pub struct Offer {
 
 /// What a coordinator asks of its watcher: that its predecessor `old` be replaced by `next`.
 /// `by` is the node that asks, one of the coordinator's `members`.
-#[derive(Clone, Copy)]
+#[derive(Clone, Copy, PartialEq, Eq)]
 pub struct Watch {
     pub coord: Draw,
     pub members: Members,
@@ -66,22 +66,12 @@ impl Same for Body {
 
 impl Same for Offer {
     fn is_same(&self, other: &Offer) -> bool {
-        self.coord.is_same(&other.coord)
-            && self.part.is_same(&other.part)
-            && self.arc.is_same(&other.arc)
-            && self.members.is_same(&other.members)
-            && self.body.is_same(&other.body)
-            && self.by.is_same(&other.by)
+        self == other
     }
 }
 
 impl Same for Watch {
     fn is_same(&self, other: &Watch) -> bool {
-        self.coord.is_same(&other.coord)
-            && self.members.is_same(&other.members)
-            && self.part.is_same(&other.part)
-            && self.old.is_same(&other.old)
-            && self.next.is_same(&other.next)
-            && self.by.is_same(&other.by)
+        self == other
     }
 }

@@ -5,7 +5,7 @@ use sc_base::{Boxed, Draw, Dup, Op, OutOfMemory, Same};
 use std::alloc::Global;
 
 /// An entry of a log. An `order` of 0 means that a policy made the order.
-#[derive(Drop)]
+#[derive(Clone, Drop)]
 pub enum Command {
     /// Fills a gap.
     Noop,
@@ -34,56 +34,8 @@ pub enum Command {
 }
 
 impl Dup for Command {
-    fn dup(&self, alloc: Global) -> Result<Command, OutOfMemory> {
-        Ok(match self {
-            Command::Noop => Command::Noop,
-            Command::Call { client, seq, op } => Command::Call {
-                client: *client,
-                seq: *seq,
-                op: op.dup(alloc)?,
-            },
-            Command::Join { node, order } => Command::Join {
-                node: *node,
-                order: *order,
-            },
-            Command::Leave { node, order } => Command::Leave {
-                node: *node,
-                order: *order,
-            },
-            Command::Split { at, child, order } => Command::Split {
-                at: *at,
-                child: *child,
-                order: *order,
-            },
-            Command::Begin { tx, body, order } => Command::Begin {
-                tx: *tx,
-                body: *body,
-                order: *order,
-            },
-            Command::Prepared { tx, offer } => Command::Prepared {
-                tx: *tx,
-                offer: offer.dup(alloc)?,
-            },
-            Command::RecordVote { tx, vote, by } => Command::RecordVote {
-                tx: *tx,
-                vote: vote.dup(alloc)?,
-                by: *by,
-            },
-            Command::GiveUp { tx } => Command::GiveUp { tx: *tx },
-            Command::Finish { tx, outcome } => Command::Finish {
-                tx: *tx,
-                outcome: outcome.dup(alloc)?,
-            },
-            Command::Watched { tx, watch } => Command::Watched {
-                tx: *tx,
-                watch: watch.dup(alloc)?,
-            },
-            Command::RecordWatch { tx, vote, by } => Command::RecordWatch {
-                tx: *tx,
-                vote: *vote,
-                by: *by,
-            },
-        })
+    fn dup(&self, _alloc: Global) -> Result<Command, OutOfMemory> {
+        Ok(self.clone()?)
     }
 }
 

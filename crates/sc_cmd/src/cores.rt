@@ -10,7 +10,7 @@ use sc_member::Members;
 use std::alloc::Global;
 
 /// What a group is bound to. Only a group that is free, or a watcher, serves its keys.
-#[derive(Drop)]
+#[derive(Clone, Drop)]
 pub enum Lock {
     Free,
     /// It has begun a transaction; `heard` is the participant's vote where it waits for a
@@ -34,7 +34,7 @@ pub enum Lock {
 }
 
 /// A group but for its pairs and its client table.
-#[derive(Drop)]
+#[derive(Clone, Drop)]
 pub struct Core {
     /// The group's name.
     pub id: Draw,
@@ -58,7 +58,7 @@ pub struct Core {
 }
 
 /// A whole group: what a replica starts from.
-#[derive(Drop)]
+#[derive(Clone, Drop)]
 pub struct Base {
     pub core: Core,
     pub pairs: Pairs,
@@ -75,58 +75,20 @@ impl Core {
 }
 
 impl Dup for Lock {
-    fn dup(&self, alloc: Global) -> Result<Lock, OutOfMemory> {
-        Ok(match self {
-            Lock::Free => Lock::Free,
-            Lock::Coordinating {
-                tx,
-                body,
-                order,
-                heard,
-            } => Lock::Coordinating {
-                tx: *tx,
-                body: *body,
-                order: *order,
-                heard: heard.dup(alloc)?,
-            },
-            Lock::Promised { tx, offer } => Lock::Promised {
-                tx: *tx,
-                offer: *offer,
-            },
-            Lock::Watching { tx, watch } => Lock::Watching {
-                tx: *tx,
-                watch: *watch,
-            },
-        })
+    fn dup(&self, _alloc: Global) -> Result<Lock, OutOfMemory> {
+        Ok(self.clone()?)
     }
 }
 
 impl Dup for Core {
-    fn dup(&self, alloc: Global) -> Result<Core, OutOfMemory> {
-        Ok(Core {
-            id: self.id,
-            first: self.first,
-            arc: self.arc,
-            members: self.members,
-            succ: self.succ,
-            pred: self.pred,
-            lock: self.lock.dup(alloc)?,
-            begun: self.begun,
-            decided: self.decided.dup(alloc)?,
-            voted: self.voted.dup(alloc)?,
-            born: self.born.dup(alloc)?,
-            gone: self.gone,
-        })
+    fn dup(&self, _alloc: Global) -> Result<Core, OutOfMemory> {
+        Ok(self.clone()?)
     }
 }
 
 impl Dup for Base {
-    fn dup(&self, alloc: Global) -> Result<Base, OutOfMemory> {
-        Ok(Base {
-            core: self.core.dup(alloc)?,
-            pairs: self.pairs.dup(alloc)?,
-            clients: self.clients.dup(alloc)?,
-        })
+    fn dup(&self, _alloc: Global) -> Result<Base, OutOfMemory> {
+        Ok(self.clone()?)
     }
 }
 

@@ -11,7 +11,7 @@ use sc_base::{Draw, Dup, OutOfMemory, Reply, RingArc};
 use std::alloc::Global;
 
 /// The answer of one executed entry.
-#[derive(Drop)]
+#[derive(Clone, Drop)]
 pub enum Effect {
     /// The operation was applied.
     Done(Reply),
@@ -104,22 +104,7 @@ impl Effect {
 }
 
 impl Dup for Effect {
-    fn dup(&self, alloc: Global) -> Result<Effect, OutOfMemory> {
-        Ok(match self {
-            Effect::Done(reply) => Effect::Done(reply.dup(alloc)?),
-            Effect::Again(reply) => Effect::Again(reply.dup(alloc)?),
-            Effect::Stale { last } => Effect::Stale { last: *last },
-            Effect::NotMine { arc, succ } => Effect::NotMine {
-                arc: *arc,
-                succ: *succ,
-            },
-            Effect::Gone { into } => Effect::Gone { into: *into },
-            Effect::NoEffect { tx } => Effect::NoEffect { tx: *tx },
-            Effect::Idle => Effect::Idle,
-            Effect::Changed => Effect::Changed,
-            Effect::Voted(vote) => Effect::Voted(*vote),
-            Effect::Decided(outcome) => Effect::Decided(outcome.dup(alloc)?),
-            Effect::Refused(why) => Effect::Refused(*why),
-        })
+    fn dup(&self, _alloc: Global) -> Result<Effect, OutOfMemory> {
+        Ok(self.clone()?)
     }
 }

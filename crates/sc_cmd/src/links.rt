@@ -4,14 +4,14 @@ use sc_member::Members;
 use std::alloc::Global;
 
 /// A neighbour group. The name is exact; the member list is a hint.
-#[derive(Clone, Copy)]
+#[derive(Clone, Copy, PartialEq, Eq)]
 pub struct Link {
     pub group: Draw,
     pub members: Members,
 }
 
 /// A group, the position at which its arc starts, and its members as far as they are known.
-#[derive(Clone, Copy)]
+#[derive(Clone, Copy, PartialEq, Eq)]
 pub struct Route {
     pub group: Draw,
     pub lo: u32,
@@ -35,14 +35,12 @@ impl Dup for Route {
 
 impl Same for Link {
     fn is_same(&self, other: &Link) -> bool {
-        self.group.is_same(&other.group) && self.members.is_same(&other.members)
+        self == other
     }
 }
 
 impl Same for Route {
     fn is_same(&self, other: &Route) -> bool {
-        self.group.is_same(&other.group)
-            && self.lo.is_same(&other.lo)
-            && self.members.is_same(&other.members)
+        self == other
     }
 }

@@ -5,7 +5,7 @@ use sc_member::Members;
 use std::alloc::Global;
 
 /// The record of a participant, which stays as it is from its Yes to the outcome.
-#[derive(Drop)]
+#[derive(Clone, Drop)]
 pub struct Frozen {
     pub arc: RingArc,
     pub members: Members,
@@ -15,7 +15,7 @@ pub struct Frozen {
 }
 
 /// What a coordinator has heard from its participant, and from which node.
-#[derive(Drop)]
+#[derive(Clone, Drop)]
 pub struct Heard {
     pub frozen: Frozen,
     pub by: u16,
@@ -35,7 +35,7 @@ pub enum No {
 }
 
 /// A participant's vote.
-#[derive(Drop)]
+#[derive(Clone, Drop)]
 pub enum Vote {
     Yes(Boxed<Frozen>),
     No(No),
@@ -50,14 +50,14 @@ pub enum Past {
 }
 
 /// What a moved boundary brings to the group that gains the arc.
-#[derive(Drop)]
+#[derive(Clone, Drop)]
 pub struct Gift {
     pub pairs: Pairs,
     pub clients: SeenList,
 }
 
 /// What a coordinator has decided.
-#[derive(Drop)]
+#[derive(Clone, Drop)]
 pub enum Outcome {
     Abort,
     /// The participant is gone into the coordinator, whose new route is this.
@@ -76,23 +76,14 @@ pub type DecidedList = Sequence<(Draw, Outcome)>;
 pub type VotedList = Sequence<(Draw, Past)>;
 
 impl Dup for Frozen {
-    fn dup(&self, alloc: Global) -> Result<Frozen, OutOfMemory> {
-        Ok(Frozen {
-            arc: self.arc,
-            members: self.members,
-            succ: self.succ,
-            pairs: self.pairs.dup(alloc)?,
-            clients: self.clients.dup(alloc)?,
-        })
+    fn dup(&self, _alloc: Global) -> Result<Frozen, OutOfMemory> {
+        Ok(self.clone()?)
     }
 }
 
 impl Dup for Heard {
-    fn dup(&self, alloc: Global) -> Result<Heard, OutOfMemory> {
-        Ok(Heard {
-            frozen: self.frozen.dup(alloc)?,
-            by: self.by,
-        })
+    fn dup(&self, _alloc: Global) -> Result<Heard, OutOfMemory> {
+        Ok(self.clone()?)
     }
 }
 
@@ -103,11 +94,8 @@ impl Dup for No {
 }
 
 impl Dup for Vote {
-    fn dup(&self, alloc: Global) -> Result<Vote, OutOfMemory> {
-        Ok(match self {
-            Vote::Yes(frozen) => Vote::Yes(frozen.dup(alloc)?),
-            Vote::No(why) => Vote::No(*why),
-        })
+    fn dup(&self, _alloc: Global) -> Result<Vote, OutOfMemory> {
+        Ok(self.clone()?)
     }
 }
 
@@ -118,26 +106,14 @@ impl Dup for Past {
 }
 
 impl Dup for Gift {
-    fn dup(&self, alloc: Global) -> Result<Gift, OutOfMemory> {
-        Ok(Gift {
-            pairs: self.pairs.dup(alloc)?,
-            clients: self.clients.dup(alloc)?,
-        })
+    fn dup(&self, _alloc: Global) -> Result<Gift, OutOfMemory> {
+        Ok(self.clone()?)
     }
 }
 
 impl Dup for Outcome {
-    fn dup(&self, alloc: Global) -> Result<Outcome, OutOfMemory> {
-        Ok(match self {
-            Outcome::Abort => Outcome::Abort,
-            Outcome::Merged { into } => Outcome::Merged { into: *into },
-            Outcome::Moved { at, gift } => Outcome::Moved {
-                at: *at,
-                gift: gift.dup(alloc)?,
-            },
-            Outcome::Migrated { node } => Outcome::Migrated { node: *node },
-            Outcome::Divided => Outcome::Divided,
-        })
+    fn dup(&self, _alloc: Global) -> Result<Outcome, OutOfMemory> {
+        Ok(self.clone()?)
     }
 }
 
