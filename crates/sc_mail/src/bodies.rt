@@ -22,7 +22,7 @@ pub fn client_number(client: u16) -> u32
 pub type Reports = Sequence<Report<Command>>;
 
 /// A node's answer to a client's request.
-#[derive(Clone, Drop)]
+#[derive(Clone, PartialEq, Eq, Drop)]
 pub enum AnswerBody {
     /// The operation is in the log, with this reply.
     Value(Reply),
@@ -37,7 +37,7 @@ pub enum AnswerBody {
 }
 
 /// What a mail says. `group` is the group that it is about.
-#[derive(Drop)]
+#[derive(Clone, Drop)]
 pub enum MailBody {
     Request {
         group: Draw,
@@ -137,7 +137,7 @@ pub enum MailBody {
 }
 
 /// A mail, with the actor numbers of its sender and receiver.
-#[derive(Drop)]
+#[derive(Clone, Drop)]
 pub struct Mail {
     pub from: u32,
     pub to: u32,

@@ -4,25 +4,7 @@ use sc_base::Same;
 
 impl Same for AnswerBody {
     fn is_same(&self, other: &AnswerBody) -> bool {
-        match (self, other) {
-            (AnswerBody::Value(one), AnswerBody::Value(second)) => one.is_same(second),
-            (AnswerBody::NotLeader { hint }, AnswerBody::NotLeader { hint: second_hint }) =>
-                hint.is_same(second_hint),
-            (
-                AnswerBody::NotMine { arc, succ },
-                AnswerBody::NotMine {
-                    arc: second_arc,
-                    succ: second_succ,
-                },
-            ) => arc.is_same(second_arc) && succ.is_same(second_succ),
-            (AnswerBody::Gone { into }, AnswerBody::Gone { into: second_into }) => into.is_same(
-                second_into,
-            ),
-            (AnswerBody::Stale { last }, AnswerBody::Stale { last: second_last }) => last.is_same(
-                second_last,
-            ),
-            _ => false,
-        }
+        self == other
     }
 }
 
