@@ -33,7 +33,7 @@ use Rattle.sc_cmd.specs.declared.votes.Vote.{Vote}
 use Rattle.sc_cmd.specs.declared.votes.Vote.TheVariants as Says
 use Rattle.sc_mail.specs.declared.bodies.AnswerBody.{AnswerBody}
 use Rattle.sc_mail.specs.declared.bodies.Mail.{Mail}
-use Rattle.sc_mail.specs.declared.bodies.MailBody.TheVariants.{TxVote, TxOutcome, TxWatched}
+use Rattle.sc_mail.specs.declared.bodies.MailBody.TheVariants.{TxPrepare, TxVote, TxOutcome, TxWatched}
 use Rattle.sc_member.specs.Roster.{is_member, with_member, least_of}
 use Rattle.sc_member.specs.Union.{united}
 use Rattle.sc_machine_table.specs.Finishes.{gained_group, lost_group, welcomed_group, participant_after, settled_in, finished}
@@ -47,12 +47,12 @@ use Rattle.sc_machine_table.specs.Votes.{has_voted, voted_on, vote_of, watch_vot
 use Rattle.sc_node_table.specs.Mails.{sent}
 use Rattle.sc_node_table.specs.Execute.{entered, order_result, told_effect, told_call, announced, answer_of}
 use Rattle.sc_node_table.specs.Pump.{is_act}
-use Rattle.sc_node_table.specs.Questions.{asked_link, question, asked_first}
+use Rattle.sc_node_table.specs.Questions.{offer_of, asked_link, question, asked_first}
 use Rattle.sc_node_table.specs.Replica.{ReplicaState, Place, members, forgotten}
 use Rattle.sc_node_table.specs.Spoken.{before_of, asked_on, vote_sent, watch_sent, released_to, vote_answered, watch_answered_by, told_begun, went_on, spoken_mails, spoken}
 use Rattle.sc_calm_law.specs.Executing.{AreBounded}
 use Rattle.sc_calm_law.specs.Laws.{said_place, newcomers}
-use Rattle.sc_calm_law.specs.Owed.{Ways, body_owes, mail_owes}
+use Rattle.sc_calm_law.specs.Owed.{Ways, mail_owes}
 use Rattle.sc_calm_law.proofs.OwedSums.{sent_owes}
 use Rattle.sc_calm_law.proofs.OwedLearnt.{filter_short, begun_owes}
 use Rattle.sc_calm_law.proofs.OwedChanges.{among_member, same_new, one_new, entered_members, ordered_members}
@@ -267,34 +267,19 @@ module _ (ways : Ways) where
   -- ---- a coordinator asks
 
   module _ (bounded : AreBounded ways) where
-    question_most : (me : ℕ) (core : Core) (tx : Draw) (body : Body) (heard : Option Heard) (node : ℕ) → body_owes ways node (question me core tx body heard) ≤ 215 + 4 * ways.most
-    question_most me core tx At.Merge None node = let far = bounded core.succ.group node in omega (arith, far)
-    question_most me core tx At.Merge (Some heard) node = let far = bounded heard.frozen.succ.group node in omega (arith, far)
-    question_most me core tx (At.Repart at) None node = let far = bounded core.succ.group node in omega (arith, far)
-    question_most me core tx (At.Repart at) (Some heard) node = let far = bounded heard.frozen.succ.group node in omega (arith, far)
-    question_most me core tx (At.Migrate who) None node = let far = bounded core.succ.group node in omega (arith, far)
-    question_most me core tx (At.Migrate who) (Some heard) node = let far = bounded heard.frozen.succ.group node in omega (arith, far)
-    question_most me core tx (At.Split at child) heard node = let far = bounded core.succ.group node in omega (arith, far)
-
-    asked_most : (lock : Lock) (me : ℕ) (core : Core) (more : List Mail) → sum (asked_first lock me core more) ≤ sum more + (215 + 4 * ways.most)
-    asked_most Free me core more = omega arith
-    asked_most (Coordinating tx body order heard) me core more =
-        let node = least_of (asked_link core body heard).members in
-        let s = sent_owes ways me node (question me core tx body heard) more in
-        let le = question_most me core tx body heard node in
-        omega (arith, s, le)
-    asked_most (Promised tx offer) me core more = omega arith
-    asked_most (Watching tx watch) me core more = omega arith
-
     pub begin_said : (tx : Draw) (body : Body) (order : ℕ) (r : ReplicaState) (mails : List Mail) → SaysMost (Begin tx body order) r mails (215 + 4 * ways.most)
     unfolding went_on
     begin_said tx body order r mails =
         let step = applied r.group (Begin tx body order) in
-        act_said (Begin tx body order) r mails (215 + 4 * ways.most) refl refl (λ more. by (is_changed step.1) step.0.core more (asked_most step.0.core.lock r.me step.0.core more))
+        act_said (Begin tx body order) r mails (215 + 4 * ways.most) refl refl (λ more. by (is_changed step.1) step.0.core more)
       where
-        by : (b : Bool) (core : Core) (more : List Mail) → sum (asked_first core.lock r.me core more) ≤ sum more + (215 + 4 * ways.most) → sum (cond b (asked_first core.lock r.me core more) more) ≤ sum more + (215 + 4 * ways.most)
-        by true core more le = le
-        by false core more le = omega arith
+        by : (b : Bool) (core : Core) (more : List Mail) → sum (cond b (sent r.me (least_of core.succ.members) (TxPrepare tx (offer_of r.me core body)) more) more) ≤ sum more + (215 + 4 * ways.most)
+        by true core more =
+            let node = least_of core.succ.members in
+            let s = sent_owes ways r.me node (TxPrepare tx (offer_of r.me core body)) more in
+            let far = bounded core.succ.group node in
+            omega (arith, s, far)
+        by false core more = omega arith
 
     -- ---- a split: one of a group that is alone asks nobody
 

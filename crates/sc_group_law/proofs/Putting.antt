@@ -1,6 +1,7 @@
 -- What is said to the parties of transactions is put behind what was said before.
 use Rattle.std.proofs.Common.{◌≡◌, ℕ, Bool, true, false, if◌then◌else◌, List, [], ◌∷◌, ◌++◌, Option, Some, None, refl, sym, ◌∙◌, ap, append_assoc, append-nil}
 use Rattle.sc_base.specs.declared.names.Draw.{Draw}
+use Rattle.sc_cmd.specs.declared.bodies.Body.{Body}
 use Rattle.sc_cmd.specs.declared.bodies.Offer.{Offer}
 use Rattle.sc_cmd.specs.declared.bodies.Watch.{Watch}
 use Rattle.sc_cmd.specs.declared.commands.Command.{Command}
@@ -26,7 +27,7 @@ use Rattle.sc_node_table.specs.Mails.{sent_all}
 use Rattle.sc_node_table.specs.Questions.{asked_first, asked_node, asked_link}
 use Rattle.sc_node_table.specs.Reminders.{reminders}
 use Rattle.sc_node_table.specs.declared.Before.{Before}
-use Rattle.sc_node_table.specs.Spoken.{asked_on, vote_sent, watch_sent, aborted_to, aborted_watcher, given_up_by, vote_answered, released_to, watch_answered_by, went_on}
+use Rattle.sc_node_table.specs.Spoken.{asked_on, begun_asks, vote_sent, watch_sent, aborted_to, aborted_watcher, given_up_by, vote_answered, released_to, watch_answered_by, went_on}
 use Rattle.sc_node_table.specs.Transactions.{voted_to, watched_to, told_outcome, next_asked, asked_next}
 use Rattle.sc_base.specs.Same.{same_draw}
 
@@ -57,6 +58,10 @@ puts_first (Watching tx watch) me core mails = sym (append-nil mails)
 puts_on : (effect : Effect) (me : ℕ) (core : Core) → Puts (asked_on effect me core)
 puts_on Was.Changed me core mails = puts_first core.lock me core mails
 puts_on _ me core mails = sym (append-nil mails)
+
+puts_begun : (effect : Effect) (me : ℕ) (core : Core) (tx : Draw) (body : Body) → Puts (begun_asks effect me core tx body)
+puts_begun Was.Changed me core tx body mails = refl
+puts_begun _ me core tx body mails = sym (append-nil mails)
 
 -- a vote
 pub puts_vote : (me : ℕ) (group : Group) (node : ℕ) (tx : Draw) (offer : Offer) (vote : Past) → Puts (voted_to me group node tx offer vote)
@@ -110,7 +115,7 @@ puts_watch_answered (Some outcome) Cast.Ended me was tx by mails = sym (append-n
 pub puts_went_on : (me : ℕ) (group : Group) (was : Before) (effect : Effect) (c : Command) → Puts (went_on me group was effect c)
 unfolding went_on
 puts_went_on me group was effect (Split at child order) mails = puts_on effect me group.core mails
-puts_went_on me group was effect (Begin tx body order) mails = puts_on effect me group.core mails
+puts_went_on me group was effect (Begin tx body order) mails = puts_begun effect me group.core tx body mails
 puts_went_on me group was effect (Prepared tx offer) mails = puts_cast (cast_in effect) me group tx offer mails
 puts_went_on me group was effect (RecordVote tx vote by) mails =
     puts_after (asked_on effect me group.core) (vote_answered (decided_in effect) vote me was tx by) (puts_on effect me group.core) (puts_answered (decided_in effect) vote me was tx by) mails

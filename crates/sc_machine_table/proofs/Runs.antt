@@ -1,19 +1,20 @@
 -- Small runs of the group machine, computed: joins, leaves, a split, and the refusals of each in their order.
 use Rattle.std.proofs.Common.{◌≡◌, ℕ, ◌^◌, List, [], ◌∷◌, Some, None, refl}
 use Rattle.sc_base.specs.declared.names.Draw.{Draw}
-use Rattle.sc_cmd.specs.declared.bodies.Body.TheVariants.{Merge}
+use Rattle.sc_cmd.specs.declared.bodies.Body.TheVariants.{Merge, Split as Divide}
 use Rattle.sc_cmd.specs.declared.commands.Command.{Command}
-use Rattle.sc_cmd.specs.declared.commands.Command.TheVariants.{Join, Leave, Split}
+use Rattle.sc_cmd.specs.declared.commands.Command.TheVariants.{Join, Leave, Split, RecordWatch}
 use Rattle.sc_cmd.specs.declared.cores.Core.{Core}
 use Rattle.sc_cmd.specs.declared.cores.Lock.TheVariants.{Free, Coordinating}
 use Rattle.sc_cmd.specs.declared.effects.Effect.{Effect}
 use Rattle.sc_cmd.specs.declared.effects.Effect.TheVariants.{Changed, NoEffect, Refused}
 use Rattle.sc_cmd.specs.declared.orders.OrderRefusal.TheVariants.{NotLeader, InTransaction, BadBoundary, TooManyMembers, NotMember, LastMember, IsMember}
 use Rattle.sc_cmd.specs.declared.votes.Outcome.TheVariants.{Abort}
+use Rattle.sc_cmd.specs.declared.votes.Past.TheVariants.{Yes}
 use Rattle.sc_machine_table.specs.Group.{group_of}
 use Rattle.sc_machine_table.specs.Machine.{applied}
 use Rattle.sc_machine_table.specs.Orders.{refusal_of}
-use Rattle.sc_machine_table.specs.Splits.{left_core, right_core}
+use Rattle.sc_machine_table.specs.Splits.{left_core, right_core, right_succ}
 
 abbrev draw : ℕ → ℕ → Draw
 draw node count = record { node = node; count = count }
@@ -135,3 +136,13 @@ splits = refl
 
 splits_by_plan : (applied (group_of (record { core = core five; pairs = []; clients = [] })) (Split 1828716544 (draw 1 1) 1)).0.core ≡ left_core (core five) 1828716544 (draw 1 1)
 splits_by_plan = refl
+
+-- by its watcher's Yes a group splits within its neighbours, also where it is its own successor, which no lawful journal has: who stood before it stays, and who stood after it stands after the child
+abbrev coordinating : Core
+coordinating = record (core five) { lock = Coordinating (draw 1 1) (Divide 1828716544 (draw 1 1)) 1 None }
+
+pred_stays : (applied (group_of (record { core = coordinating; pairs = []; clients = [] })) (RecordWatch (draw 1 1) Yes 9)).0.core.pred ≡ coordinating.pred
+pred_stays = refl
+
+succ_stays : right_succ coordinating ≡ coordinating.succ
+succ_stays = refl

@@ -1,5 +1,5 @@
 -- The split of a group in two, as the groups of Scatter (SOSP 2011) split in general shape: the group keeps the positions before a boundary and its lesser members, and a new group, its child, takes the rest.
-use Rattle.std.specs.Prelude.{ℕ, ◌-◌, ◌/◌, ◌≤◌, Bool, ◌||◌, if◌then◌else◌, List, [], ◌∷◌, ◌++◌, length, take, drop, Option, Some, None, false}
+use Rattle.std.specs.Prelude.{ℕ, ◌-◌, ◌/◌, ◌≤◌, Bool, not, is_some, ◌&&◌, ◌||◌, if◌then◌else◌, List, [], ◌∷◌, ◌++◌, length, take, drop, Option, Some, None, false}
 use Rattle.std.specs.List.{list_any}
 use Rattle.std.specs.FinMap.{entries}
 use Rattle.sc_base.specs.Arc.{CanCut, before, from}
@@ -40,13 +40,17 @@ left_link core = record { group = core.id; members = left_members core.members }
 abbrev pub right_link : Core → Draw → Link
 right_link core child = record { group = child; members = right_members core.members }
 
--- who stands before the group, and who after its child: where the group was alone, the other part
+-- whether a group splits at once: it is in no transaction, and its own successor; one that is in the transaction of its split has a watcher
+abbrev pub splits_at_once : Core → Bool
+splits_at_once core = not (is_some (locked_in core.lock)) && is_alone core
+
+-- who stands before the group: after a split at once the other part, else who stood there
 abbrev pub left_pred : Core → Draw → Link
-left_pred core child = if is_alone core then right_link core child else core.pred
+left_pred core child = if splits_at_once core then right_link core child else core.pred
 
 -- who stands after the child
 abbrev pub right_succ : Core → Link
-right_succ core = if is_alone core then left_link core else core.succ
+right_succ core = if splits_at_once core then left_link core else core.succ
 
 -- the group afterwards: it keeps its name, and remembers the child
 abbrev pub left_core : Core → ℕ → Draw → Core

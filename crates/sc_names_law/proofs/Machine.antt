@@ -40,7 +40,7 @@ use Rattle.sc_machine_table.specs.Children.{ordered_child, released_child, answe
 use Rattle.sc_machine_table.specs.Group.{Group}
 use Rattle.sc_machine_table.specs.Machine.{served_by_note, served, called, split_group, ordered_by, applied}
 use Rattle.sc_machine_table.specs.Orders.{locked_in, limit_refused, body_refused, refused_free, refused_in, refusal_of, ordered, with_node, without_node}
-use Rattle.sc_machine_table.specs.Splits.{left_link, right_link, left_group, child_of, has_named}
+use Rattle.sc_machine_table.specs.Splits.{splits_at_once, left_link, right_link, left_group, child_of, has_named}
 use Rattle.sc_machine_table.specs.Plans.{Plan, can_cut, has_key_of, can_split, may_merge, can_repart, taken, can_migrate, split_plan, merged_core, merged_link, merge_plan, closing_plan, repart_plan, migrate_plan}
 use Rattle.sc_machine_table.specs.Transactions.{asks_watcher, is_coordinating, begun_group, decided, committed, granted, participant_answered, vote_recorded, released, watch_answered, watch_recorded}
 use Rattle.sc_machine_table.specs.Votes.{has_voted, size_no, body_no, offer_no, watch_no, no_of, vote_of, watch_vote_of, past_of, bound_by, voted_on, offer_voted, watched}
@@ -155,7 +155,7 @@ module _ (K : Draw → Type 0) where
   left_names group at child c k = record {
     id = k.id;
     succ = c;
-    pred = either_way LinkOf (is_alone group.core) (right_link group.core child) group.core.pred c k.pred;
+    pred = either_way LinkOf (splits_at_once group.core) (right_link group.core child) group.core.pred c k.pred;
     lock = k.lock;
     decided = k.decided;
     voted = k.voted;
@@ -167,7 +167,7 @@ module _ (K : Draw → Type 0) where
   pub child_names : (group : Group) (at : ℕ) (child : Draw) → K child → CoreNames K group.core → CoreNames K (child_of group at child).core
   child_names group at child c k = record {
     id = c;
-    succ = either_way LinkOf (is_alone group.core) (left_link group.core) group.core.succ k.id k.succ;
+    succ = either_way LinkOf (splits_at_once group.core) (left_link group.core) group.core.succ k.id k.succ;
     pred = k.id;
     lock = tt;
     decided = tt;

@@ -28,7 +28,8 @@ use Rattle.sc_cmd.specs.Effects.{refused_result, result_of, decided_in, cast_in}
 use Rattle.sc_mail.specs.declared.bodies.AnswerBody.{AnswerBody}
 use Rattle.sc_mail.specs.declared.bodies.Mail.{Mail}
 use Rattle.sc_mail.specs.declared.bodies.MailBody.{MailBody}
-use Rattle.sc_mail.specs.declared.bodies.MailBody.TheVariants.{Answer, TxVote, TxOutcome, TxWatched, Told}
+use Rattle.sc_mail.specs.declared.bodies.MailBody.TheVariants.{Answer, TxPrepare, TxVote, TxOutcome, TxWatched, Told}
+use Rattle.sc_member.specs.Roster.{least_of}
 use Rattle.sc_member.specs.Union.{united}
 use Rattle.sc_machine_table.specs.Group.{Group}
 use Rattle.sc_machine_table.specs.Plans.{can_split, frozen_of, merged_link}
@@ -38,7 +39,7 @@ use Rattle.sc_node_table.specs.declared.Before.{Before}
 use Rattle.sc_node_table.specs.Mails.{sent, sent_all, sent_others, answered, answered_all, told_order, dismissed, dismissed_all}
 use Rattle.sc_node_table.specs.Questions.{offer_of, heard_question, question, asked_first}
 use Rattle.sc_node_table.specs.Transactions.{voted_to, watched_to, told_outcome}
-use Rattle.sc_node_table.specs.Spoken.{heard_from, before_in, before_of, outcome_result, decided_result, begun_result, spoken_number, told_result, told_begun, asked_on, vote_sent, watch_sent, aborted_to, aborted_watcher, given_up_by, vote_answered, released_to, watch_answered_by, went_on, spoken_mails}
+use Rattle.sc_node_table.specs.Spoken.{heard_from, before_in, before_of, outcome_result, decided_result, begun_result, spoken_number, told_result, told_begun, asked_on, begun_asks, vote_sent, watch_sent, aborted_to, aborted_watcher, given_up_by, vote_answered, released_to, watch_answered_by, went_on, spoken_mails}
 use Rattle.sc_names_law.specs.Names.{Opt, BodyNames, OfferNames, WatchNames, PastNames, OutcomeNames, HeardNames, LockNames, CoreNames, CommandNames, EffectNames, ResultNames, AnswerNames, BodiesNames, MailNames}
 use Rattle.sc_law_lemmas.proofs.Ways.{either_way}
 
@@ -208,6 +209,10 @@ module _ (K : Draw → Type 0) where
   asked_on_names Was.Changed me core mails k m = first_names core.lock me core mails k.lock k m
   asked_on_names _ me core mails k m = m
 
+  begun_asks_names : (effect : Effect) (me : ℕ) (core : Core) (tx : Draw) (body : Body) (mails : List Mail) → K tx → BodyNames K body → CoreNames K core → Sent mails → Sent (begun_asks effect me core tx body mails)
+  begun_asks_names Was.Changed me core tx body mails t b k m = sent_names me (least_of core.succ.members) (TxPrepare tx (offer_of me core body)) mails (t, offer_names me core body b k) m
+  begun_asks_names _ me core tx body mails t b k m = m
+
   vote_sent_names : (vote : Option Past) (me : ℕ) (group : Group) (tx : Draw) (offer : Offer) (mails : List Mail) → Opt (PastNames K) vote → CoreNames K group.core → K tx → OfferNames K offer → Sent mails → Sent (vote_sent vote me group tx offer mails)
   vote_sent_names None me group tx offer mails v k t o m = m
   vote_sent_names (Some vote) me group tx offer mails v k t o m = voted_to_names me group offer.by tx offer vote mails k t o v m
@@ -245,7 +250,7 @@ module _ (K : Draw → Type 0) where
   went_on_names : (me : ℕ) (group : Group) (before : Before) (effect : Effect) (command : Command) (mails : List Mail) → CoreNames K group.core → BeforeNames before → EffectNames K effect → CommandNames K command → Sent mails → Sent (went_on me group before effect command mails)
   unfolding went_on
   went_on_names me group before effect (Split at child order) mails k b e c m = asked_on_names effect me group.core mails k m
-  went_on_names me group before effect (Begin tx body order) mails k b e c m = asked_on_names effect me group.core mails k m
+  went_on_names me group before effect (Begin tx body order) mails k b e c m = begun_asks_names effect me group.core tx body mails c.0 c.1 k m
   went_on_names me group before effect (Prepared tx offer) mails k b e c m = vote_sent_names (cast_in effect) me group tx offer mails (cast_names effect e) k c.0 c.1 m
   went_on_names me group before effect (RecordVote tx vote by) mails k b e c m = vote_answered_names (decided_in effect) vote me before tx by (asked_on effect me group.core mails) (decided_names effect e) b c.0 (asked_on_names effect me group.core mails k m)
   went_on_names me group before effect (GiveUp tx) mails k b e c m = given_up_names (decided_in effect) me before tx mails b c m

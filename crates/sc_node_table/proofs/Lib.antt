@@ -5,3 +5,4 @@ pub mod Frames
 pub mod SamenessLemmas
 pub mod MemberRuns
 pub mod Readiness
+mod Asked

@@ -153,6 +153,11 @@ begins : (spoken true (before_of (left_core (1 ∷ []) Free [])) Changed (Begin 
 unfolding spoken spoken_mails told_begun went_on told_order sent_all
 begins = refl
 
+-- .. also of a split, which no lawful journal begins so
+begins_split : (spoken true (before_of (left_core (1 ∷ []) Free [])) Changed (Begin tx (Divide 7 tx) 1) (at 1 (left_core (1 ∷ []) (Coordinating tx (Divide 7 tx) 1 None) []))).1 ≡ mail 1 2 (TxPrepare tx (record offer { body = Divide 7 tx })) ∷ []
+unfolding spoken spoken_mails told_begun went_on told_order sent_all
+begins_split = refl
+
 asks_again : (elsewhere_row 2 tx (Some 5) (elsewhere_row 2 tx None (at 1 (left_core (1 ∷ []) merging [])))).1 ≡ mail 1 2 (TxPrepare tx offer) ∷ mail 1 5 (TxPrepare tx offer) ∷ []
 unfolding elsewhere_row
 asks_again = refl

@@ -1,12 +1,14 @@
 -- A replica begins to run, or runs no longer.
-use Rattle.std.specs.Prelude.{ℕ, ◌+◌, ◌-◌, ◌^◌, ◌==◌, ◌&&◌, Bool, true, false, List, [], filter, if◌then◌else◌, Option, Some}
+use Rattle.std.specs.Prelude.{◌≡◌, ℕ, ◌≤◌, ◌+◌, ◌-◌, ◌^◌, ◌==◌, ◌&&◌, Bool, true, false, List, [], filter, fold, if◌then◌else◌, Option, Some}
 use Rattle.std.specs.List.{list_any}
+use Rattle.sc_base.specs.Among.{Each}
 use Rattle.sc_base.specs.Limits.{most_nodes}
 use Rattle.sc_base.specs.declared.names.Ballot.{Ballot}
 use Rattle.sc_mail.specs.declared.bodies.AnswerBody.{AnswerBody}
 use Rattle.sc_mail.specs.declared.bodies.AnswerBody.TheVariants as Says
 use Rattle.sc_mail.specs.declared.bodies.MailBody.TheVariants.{Prepare}
 use Rattle.sc_member.specs.Roster.{is_member}
+use Rattle.sc_member.specs.Union.{united}
 use Rattle.sc_paxos_words.specs.Ballots.{below}
 use Rattle.sc_paxos_words.specs.Leaders.{new_leader}
 use Rattle.sc_node_table.specs.Slots.{numbers_from}
@@ -21,9 +23,14 @@ is_in_some sets node = list_any (λ set. is_member set node) sets
 unfoldable pub nodes_to : ℕ → List (List ℕ) → List ℕ
 nodes_to most sets = filter (λ node. is_in_some sets node) (numbers_from 1 most)
 
--- the nodes that are in one of these sets
+-- the nodes that are in one of these sets: each of 1 to 32 that is a member of one
 abbrev pub open_nodes : List (List ℕ) → List ℕ
 open_nodes sets = nodes_to most_nodes sets
+
+-- where all members of the sets have numbers of nodes, these are the union of the sets, ascending
+abbrev pub AsksTheOpenSets : Type 0
+AsksTheOpenSets =
+    (sets : List (List ℕ)) → Each (λ set. Each (λ node. (1 ≤ node) × (node ≤ most_nodes)) set) sets → open_nodes sets ≡ fold united [] sets
 
 -- Election: it runs with the next ballot of its own and asks the members of the open slots to promise it (Paxos Made Simple, section 2.2, phase 1). The queues stay. No round is above 2^32 - 1
 unfoldable pub elected : Place → Place

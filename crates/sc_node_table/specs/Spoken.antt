@@ -25,12 +25,13 @@ use Rattle.sc_cmd.specs.declared.votes.Vote.{Vote}
 use Rattle.sc_cmd.specs.declared.votes.Vote.TheVariants as Says
 use Rattle.sc_cmd.specs.Cores.{is_alone}
 use Rattle.sc_mail.specs.declared.bodies.Mail.{Mail}
-use Rattle.sc_mail.specs.declared.bodies.MailBody.TheVariants.{TxOutcome}
+use Rattle.sc_mail.specs.declared.bodies.MailBody.TheVariants.{TxPrepare, TxOutcome}
+use Rattle.sc_member.specs.Roster.{least_of}
 use Rattle.sc_machine_table.specs.Group.{Group}
 use Rattle.sc_node_table.specs.Replica.{Place}
-use Rattle.sc_node_table.specs.Mails.{sent_all, told_order}
+use Rattle.sc_node_table.specs.Mails.{sent, sent_all, told_order}
 use Rattle.sc_node_table.specs.declared.Before.{Before}
-use Rattle.sc_node_table.specs.Questions.{asked_first}
+use Rattle.sc_node_table.specs.Questions.{offer_of, asked_first}
 use Rattle.sc_node_table.specs.Transactions.{voted_to, watched_to, told_outcome}
 
 -- ---- the group before an entry, as far as its mails need it
@@ -117,9 +118,14 @@ told_begun me before effect command mails = told_result me (begun_result before.
 
 -- ---- how a transaction goes on
 
--- a group that has begun, or has heard its participant, asks
+-- a group that only locks to be split, or has heard its participant, asks its watcher
 abbrev pub asked_on : Effect → ℕ → Core → List Mail → List Mail
 asked_on effect me core mails = if is_changed effect then asked_first core.lock me core mails else mails
+
+-- a group that has begun asks the least member of its successor, whatever it has begun
+abbrev pub begun_asks : Effect → ℕ → Core → Draw → Body → List Mail → List Mail
+begun_asks effect me core tx body mails =
+    if is_changed effect then sent me (least_of core.succ.members) (TxPrepare tx (offer_of me core body)) mails else mails
 
 -- the vote goes to the node that asked
 abbrev pub vote_sent : Option Past → ℕ → Group → Draw → Offer → List Mail → List Mail
@@ -166,7 +172,7 @@ watch_answered_by (Some outcome) Cast.Ended me before tx by mails = mails
 -- the mails of a counted command of a transaction
 unfoldable pub went_on : ℕ → Group → Before → Effect → Command → List Mail → List Mail
 went_on me group before effect (Split at child order) mails = asked_on effect me group.core mails
-went_on me group before effect (Begin tx body order) mails = asked_on effect me group.core mails
+went_on me group before effect (Begin tx body order) mails = begun_asks effect me group.core tx body mails
 went_on me group before effect (Prepared tx offer) mails = vote_sent (cast_in effect) me group tx offer mails
 went_on me group before effect (RecordVote tx vote by) mails = vote_answered (decided_in effect) vote me before tx by (asked_on effect me group.core mails)
 went_on me group before effect (GiveUp tx) mails = given_up_by (decided_in effect) me before tx mails

@@ -2,6 +2,7 @@
 //! Definitions, no logic.
 #![tactic(auto)]
 
+ghost use Rattle.sc_node_table.specs.Election.{AsksTheOpenSets};
 ghost use Rattle.sc_node_table.specs.Pump.{StaysSettled};
 ghost use Rattle.sc_node_table.specs.Sameness.{TellsCommands};
 
@@ -58,4 +59,9 @@ pub fn commands_are_told_apart()
 /// it once.
 pub fn settled_replicas_stay_settled()
     ensures { StaysSettled }
+{}
+
+/// An election asks the union of the open sets, in ascending order: all members are nodes 1 to 32.
+pub fn elections_ask_the_open_sets()
+    ensures { AsksTheOpenSets }
 {}

@@ -29,18 +29,19 @@ use Rattle.sc_cmd.specs.Effects.{decided_in, cast_in}
 use Rattle.sc_mail.specs.declared.bodies.AnswerBody.{AnswerBody}
 use Rattle.sc_mail.specs.declared.bodies.Mail.{Mail}
 use Rattle.sc_mail.specs.declared.bodies.MailBody.{MailBody}
-use Rattle.sc_mail.specs.declared.bodies.MailBody.TheVariants.{Answer, Accept, Learn, TxVote, TxOutcome, TxWatched, Told}
+use Rattle.sc_mail.specs.declared.bodies.MailBody.TheVariants.{Answer, Accept, Learn, TxPrepare, TxVote, TxOutcome, TxWatched, Told}
+use Rattle.sc_member.specs.Roster.{least_of}
 use Rattle.sc_machine_table.specs.Group.{Group}
 use Rattle.sc_machine_table.specs.Plans.{frozen_of}
 use Rattle.sc_paxos_words.specs.Logs.{entry_at}
 use Rattle.sc_node_table.specs.declared.Before.{Before}
 use Rattle.sc_node_table.specs.Mails.{sent, sent_all, sent_others, told_order}
-use Rattle.sc_node_table.specs.Questions.{question, asked_first, asked_link}
+use Rattle.sc_node_table.specs.Questions.{offer_of, question, asked_first, asked_link}
 use Rattle.sc_node_table.specs.Replica.{ReplicaState, name_of, flying, members, next}
 use Rattle.sc_node_table.specs.Reminders.{reminders}
 use Rattle.sc_node_table.specs.Rows.{taught, uncounted, asked_again, told_last}
 use Rattle.sc_node_table.specs.Transactions.{voted_to, watched_to, told_outcome, next_asked, asked_next}
-use Rattle.sc_node_table.specs.Spoken.{begun_result, spoken_number, told_result, told_begun, asked_on, vote_sent, watch_sent, aborted_to, aborted_watcher, given_up_by, vote_answered, released_to, watch_answered_by, went_on, spoken_mails}
+use Rattle.sc_node_table.specs.Spoken.{begun_result, spoken_number, told_result, told_begun, asked_on, begun_asks, vote_sent, watch_sent, aborted_to, aborted_watcher, given_up_by, vote_answered, released_to, watch_answered_by, went_on, spoken_mails}
 use Rattle.sc_law_lemmas.proofs.Ways.{either_way}
 use Rattle.sc_refusal_law.specs.Causes.{IfAnswer, answers_in, is_answer}
 
@@ -151,6 +152,10 @@ module _ (Sent : List Mail → Type 0) (plain : (me to : ℕ) (body : MailBody) 
   on_plain Was.Changed me core mails m = first_plain core.lock me core mails m
   on_plain _ me core mails m = m
 
+  begun_asks_plain : (effect : Effect) (me : ℕ) (core : Core) (tx : Draw) (body : Body) (mails : List Mail) → Sent mails → Sent (begun_asks effect me core tx body mails)
+  begun_asks_plain Was.Changed me core tx body mails m = plain me (least_of core.succ.members) (TxPrepare tx (offer_of me core body)) mails tt m
+  begun_asks_plain _ me core tx body mails m = m
+
   cast_plain : (vote : Option Past) (me : ℕ) (group : Group) (tx : Draw) (offer : Offer) (mails : List Mail) → Sent mails → Sent (vote_sent vote me group tx offer mails)
   cast_plain None me group tx offer mails m = m
   cast_plain (Some vote) me group tx offer mails m = vote_plain me group offer.by tx offer vote mails m
@@ -192,7 +197,7 @@ module _ (Sent : List Mail → Type 0) (plain : (me to : ℕ) (body : MailBody) 
   went_plain : (me : ℕ) (group : Group) (before : Before) (effect : Effect) (command : Command) (mails : List Mail) → Sent mails → Sent (went_on me group before effect command mails)
   unfolding went_on
   went_plain me group before effect (Split at child order) mails m = on_plain effect me group.core mails m
-  went_plain me group before effect (Begin tx body order) mails m = on_plain effect me group.core mails m
+  went_plain me group before effect (Begin tx body order) mails m = begun_asks_plain effect me group.core tx body mails m
   went_plain me group before effect (Prepared tx offer) mails m = cast_plain (cast_in effect) me group tx offer mails m
   went_plain me group before effect (RecordVote tx vote by) mails m = answered_plain (decided_in effect) vote me before tx by (asked_on effect me group.core mails) (on_plain effect me group.core mails m)
   went_plain me group before effect (GiveUp tx) mails m = given_up_plain (decided_in effect) me before tx mails m

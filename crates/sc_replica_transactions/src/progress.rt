@@ -1,9 +1,9 @@
 //! How a transaction goes on when an entry of it was executed.
 ghost use Rattle.std.specs.Prelude.{◌≡◌, OnOk};
-ghost use Rattle.sc_node_table.specs.Spoken.{heard_from, is_merge, before_in, before_of, asked_on, vote_sent, watch_sent, went_on, spoken_mails};
+ghost use Rattle.sc_node_table.specs.Spoken.{heard_from, is_merge, before_in, before_of, asked_on, begun_asks, vote_sent, watch_sent, went_on, spoken_mails};
 
 use crate::endings::{answer_vote, answer_watch, give_up};
-use crate::questions::ask_first;
+use crate::questions::{ask_first, ask_successor};
 use crate::tellings::tell_begun;
 use crate::votes::{tell_vote, tell_watch};
 use sc_base::{Draw, OutOfMemory, Sequence};
@@ -60,7 +60,7 @@ pub fn before_of(core: &Core) -> Before
     }
 }
 
-/// A group that has begun, or has heard its participant, asks.
+/// A group that only locks to be split, or has heard its participant, asks its watcher.
 fn ask_by(
     alloc: Global,
     effect: &Effect,
@@ -72,6 +72,25 @@ fn ask_by(
 {
     if effect.is_changed() {
         ask_first(alloc, me, core, out)
+    } else {
+        Ok(())
+    }
+}
+
+/// A group that has begun asks its successor.
+fn ask_begun(
+    alloc: Global,
+    effect: &Effect,
+    me: u16,
+    core: &Core,
+    tx: Draw,
+    body: &Body,
+    out: &mut Sequence<Mail>,
+) -> Result<(), OutOfMemory>
+    ensures { OnOk result (out.new ≡ begun_asks effect.now me core.now tx body.now out.old) }
+{
+    if effect.is_changed() {
+        ask_successor(alloc, me, core, tx, body, out)
     } else {
         Ok(())
     }
@@ -125,13 +144,10 @@ fn go_on(
         (out.new ≡ went_on me machine.now before.now effect.now command.now out.old) }
 {
     match command {
-        Command::Split { .. } | Command::Begin { .. } => ask_by(
-            alloc,
-            effect,
-            me,
-            machine.core(),
-            out,
-        ),
+        Command::Split { .. } => ask_by(alloc, effect, me, machine.core(), out),
+        Command::Begin { tx, body, .. } => {
+            ask_begun(alloc, effect, me, machine.core(), *tx, body, out)
+        }
         Command::Prepared { tx, offer } => {
             send_vote(alloc, effect.vote(), machine, me, *tx, offer.get(), out)
         }

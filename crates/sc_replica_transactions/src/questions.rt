@@ -1,5 +1,6 @@
 //! What a coordinator asks, and whom.
 ghost use Rattle.std.specs.Prelude.{◌≡◌, IfOk, OnOk};
+ghost use Rattle.sc_mail.specs.declared.bodies.MailBody.TheVariants.{TxPrepare};
 ghost use Rattle.sc_member.specs.Roster.{least_of};
 ghost use Rattle.sc_node_table.specs.Mails.{sent, sent_all};
 ghost use Rattle.sc_node_table.specs.Questions.{offer_of, heard_link, watcher_link, or_successor, asked_link, watch_of, child_link, both_link, split_watch, union_watch, heard_question, question, asked_node, asked_least, asked_all, asked_first};
@@ -271,6 +272,25 @@ pub(crate) fn ask_first(
         } => ask_least(alloc, me, core, *tx, body, heard, out),
         Lock::Free | Lock::Promised { .. } | Lock::Watching { .. } => Ok(()),
     }
+}
+
+/// The question of a group that has begun: its offer, to the least member of its successor.
+pub(crate) fn ask_successor(
+    alloc: Global,
+    me: u16,
+    core: &Core,
+    tx: Draw,
+    body: &Body,
+    out: &mut Sequence<Mail>,
+) -> Result<(), OutOfMemory>
+    ensures { OnOk result
+        (out.new
+        ≡ sent me (least_of core.now.succ.members) (TxPrepare tx (offer_of me core.now body.now))
+        out.old) }
+{
+    let offer = Boxed::new(alloc, offer_of(me, core, body))?;
+    let node = core.succ.members.least();
+    send(me, node as u32, MailBody::TxPrepare { tx, offer }, out)
 }
 
 /// The node that is asked next: the one that was named, or the member after the sender.

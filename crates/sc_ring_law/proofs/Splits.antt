@@ -1,4 +1,5 @@
 -- Splits: at once, and with a watcher.
+use Rattle.std.specs.Prelude.{not, is_some, ◌&&◌}
 use Rattle.std.proofs.Common.{◌≡◌, ℕ, ◌^◌, ◌<◌, Bool, true, false, cond, inl, inr, Option, Some, None, refl, sym, ◌∙◌, ap}
 use Rattle.std.proofs.lemmas.Option.{same_Some}
 use Rattle.sc_base.specs.Arc.{before, from}
@@ -15,11 +16,12 @@ use Rattle.sc_cmd.specs.declared.votes.Outcome.TheVariants.{Divided}
 use Rattle.sc_cmd.specs.declared.votes.Past.TheVariants as Cast
 use Rattle.sc_machine_table.specs.Group.{Group, group_of}
 use Rattle.sc_machine_table.specs.Finishes.{party_freed, watcher_after}
-use Rattle.sc_machine_table.specs.Splits.{left_group, child_of, left_link, right_link}
+use Rattle.sc_machine_table.specs.Orders.{locked_in}
+use Rattle.sc_machine_table.specs.Splits.{splits_at_once, left_group, child_of, left_link, right_link}
 use Rattle.sc_machine_table.specs.Transactions.{decided_group}
 use Rattle.sc_ring_law.specs.Stories.{Story, Stories, put, unsigned, unsigned_watch, watch_with}
 use Rattle.sc_ring_law.specs.Invariant.{Groups}
-use Rattle.sc_log_entries.proofs.Names.{draw_cases, other_name}
+use Rattle.sc_log_entries.proofs.Names.{draw_cases}
 use Rattle.sc_ring_law.proofs.View.{Ring, Holds, split_view}
 use Rattle.sc_ring_law.proofs.Cover.{at-same, at-other}
 use Rattle.sc_ring_law.proofs.Recut.{split_whole}
@@ -56,10 +58,10 @@ left_inside s at child = inside_part (before s.core.arc at) s.pairs
 child_inside : (s : Group) (at : ℕ) (child : Draw) → IsInside (group_of (child_of s at child))
 child_inside s at child = inside_again (from s.core.arc at) (part_of (from s.core.arc at) s.pairs) (inside_part (from s.core.arc at) s.pairs)
 
--- the records of the two parts, of a group that is alone or not
-pred_by_alone : (b : Bool) (own kept : Link) → (b ≡ true → (cond b own kept).group ≡ own.group) × (b ≡ false → (cond b own kept).group ≡ kept.group)
-pred_by_alone true own kept = (λ e. refl, λ e. absurd (let f : true ≡ false = e in cc))
-pred_by_alone false own kept = (λ e. absurd (let f : false ≡ true = e in cc), λ e. refl)
+-- the records of the two parts, of a split at once or one with a watcher
+link_by : (b : Bool) (own kept : Link) → (b ≡ true → (cond b own kept).group ≡ own.group) × (b ≡ false → (cond b own kept).group ≡ kept.group)
+link_by true own kept = (λ e. refl, λ e. absurd (let f : true ≡ false = e in cc))
+link_by false own kept = (λ e. absurd (let f : false ≡ true = e in cc), λ e. refl)
 
 -- a split that its watcher agreed to
 module _ (owner : Draw → Option Draw) (ring : Ring) (gs : Groups) (ys : Stories) (g : Draw) (s : Group) (tx : Draw) (at : ℕ) (heard : Option Heard) (y : Story) (d : IsDeciding owner gs ys g s tx (At.Split at tx) heard y) where
@@ -79,7 +81,7 @@ module _ (owner : Draw → Option Draw) (ring : Ring) (gs : Groups) (ys : Storie
       let other : (h : Draw) → (h ≡ tx → ⊥) → New gs ys g l tx y' h ≡ e h = λ h n. ap (eff f') (sym (at-other mid tx (Some r) h n)) in
       let gt : g ≡ tx → ⊥ = λ q. some_none s (sym d.is ∙ ap gs q ∙ none) in
       let xt : a.watch.part ≡ tx → ⊥ = λ q. some_none a.group (sym a.is ∙ ap gs q ∙ none) in
-      let apart : is_alone s.core ≡ false = other_name s.core.succ.group s.core.id (λ q. own.apart (q ∙ named)) in
+      let locked : splits_at_once s.core ≡ false = ap (λ l. not (is_some (locked_in l)) && is_alone s.core) d.lock in
       split_good ring (Old gs ys) e g tx a.watch.part s l r at (record {
         mine = mine_old owner gs ys g s tx (At.Split at tx) heard y d;
         new = ap (eff (decisions ys)) none;
@@ -95,10 +97,10 @@ module _ (owner : Draw → Option Draw) (ring : Ring) (gs : Groups) (ys : Storie
         left_arc_is = refl;
         left_succ = refl;
         right_arc_is = refl;
-        right_succ = (pred_by_alone (is_alone s.core) (left_link s.core) s.core.succ).1 apart ∙ x_is;
+        right_succ = (link_by (splits_at_once s.core) (left_link s.core) s.core.succ).1 locked ∙ x_is;
         right_pred = named;
         self = λ q. absurd (own.apart (x_is ∙ q));
-        keeps = λ n. (pred_by_alone (is_alone s.core) (right_link s.core tx) s.core.pred).1 apart;
+        keeps = λ n. (link_by (splits_at_once s.core) (right_link s.core tx) s.core.pred).1 locked;
       }) fits held inside (left_inside s at tx) (child_inside s at tx) w
 
 -- a split at once
@@ -114,6 +116,7 @@ split_now ring gs ys g s at child is free here named alone none fits held inside
     let other : (h : Draw) → (h ≡ child → ⊥) → eff f (mid h) ≡ e h = λ h n. ap (eff f) (sym (at-other mid child (Some r) h n)) in
     let gt : g ≡ child → ⊥ = λ q. some_none s (sym is ∙ ap gs q ∙ none) in
     let self : s.core.succ.group ≡ g = draw_is s.core.succ.group s.core.id alone ∙ named in
+    let at_once : splits_at_once s.core ≡ true = ap (λ l. not (is_some (locked_in l)) && is_alone s.core) free ∙ alone in
     split_good ring (Old gs ys) e g child g s l r at (record {
       mine = ap (eff f) is ∙ eff_free f s here free;
       new = ap (eff f) none;
@@ -127,8 +130,8 @@ split_now ring gs ys g s at child is free here named alone none fits held inside
       left_arc_is = refl;
       left_succ = refl;
       right_arc_is = refl;
-      right_succ = (pred_by_alone (is_alone s.core) (left_link s.core) s.core.succ).0 alone ∙ named;
+      right_succ = (link_by (splits_at_once s.core) (left_link s.core) s.core.succ).0 at_once ∙ named;
       right_pred = named;
-      self = λ q. (pred_by_alone (is_alone s.core) (right_link s.core child) s.core.pred).0 alone;
+      self = λ q. (link_by (splits_at_once s.core) (right_link s.core child) s.core.pred).0 at_once;
       keeps = λ n. absurd (n refl);
     }) fits held inside (left_inside s at child) (child_inside s at child) w

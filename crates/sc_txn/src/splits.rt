@@ -2,10 +2,10 @@
 ghost use Rattle.std.specs.Prelude.{◌≡◌, ◌↔◌, IsTrue, ◌≤◌, ◌<◌, IfOk, All, length, [], ◌∷◌, ◌++◌, None, if◌then◌else◌};
 ghost use Rattle.sc_cmd.specs.declared.cores.Lock.TheVariants.{Free};
 ghost use Rattle.sc_member.specs.Roster.{IsRoster, least_of};
-ghost use Rattle.sc_cmd.specs.Cores.{is_alone};
 ghost use Rattle.sc_machine_table.specs.Plans.{can_split};
-ghost use Rattle.sc_machine_table.specs.Splits.{CanSplit, staying, left_members, right_members, left_core, right_core, left_pred, right_succ};
+ghost use Rattle.sc_machine_table.specs.Splits.{CanSplit, staying, left_members, right_members, left_core, right_core, splits_at_once, left_pred, right_succ};
 
+use crate::checks::locked_in;
 use sc_base::{Draw, Dup, OutOfMemory, RingArc, Sequence};
 use sc_cmd::{Core, Link, Lock};
 use sc_member::Members;
@@ -22,7 +22,7 @@ pub fn can_split(core: &Core, at: u32) -> bool
 
 /// The group after a split at `at`, and its child: the group keeps its name, the arc before `at`
 /// and its first `n - n/2` members of `n`, and the child has the rest. Each is the other's
-/// neighbour there; a group that was its own successor is so on both sides.
+/// neighbour there; where the group splits at once, on both sides.
 /// `can_split` tells whether the group can be split there. Pairs and client table lie beside the
 /// record, and are no part of the plan.
 pub fn plan_split(
@@ -86,6 +86,17 @@ fn put_last(members: &mut Members, node: u16)
     }
 }
 
+/// Whether the group splits at once: it is in no transaction, and its own successor. One that is in
+/// the transaction of its split has a watcher.
+fn splits_at_once(core: &Core) -> bool
+    ensures { result ≡ splits_at_once core.now }
+{
+    match locked_in(&core.lock) {
+        None => core.is_alone(),
+        Some(_) => false,
+    }
+}
+
 /// The group that keeps this arc and is `own` from now on, beside a child there.
 fn left_part(
     alloc: Global,
@@ -101,11 +112,15 @@ fn left_part(
           arc = arc;
           members = own.now.members;
           succ = child.now;
-          pred = if is_alone core.now then child.now else core.now.pred;
+          pred = if splits_at_once core.now then child.now else core.now.pred;
           born = core.now.born ++ child.now.group ∷ [];
         }) }
 {
-    let pred = if core.is_alone() { *child } else { core.pred };
+    let pred = if splits_at_once(core) {
+        *child
+    } else {
+        core.pred
+    };
     let mut left = core.dup(alloc)?;
     left.born.push(child.group)?;
     left.arc = arc;
@@ -123,7 +138,7 @@ fn right_part(alloc: Global, core: &Core, arc: RingArc, parent: &Link, child: &L
           first = least_of child.now.members;
           arc = arc;
           members = child.now.members;
-          succ = if is_alone core.now then parent.now else core.now.succ;
+          succ = if splits_at_once core.now then parent.now else core.now.succ;
           pred = parent.now;
           lock = Free;
           begun = 0;
@@ -133,7 +148,11 @@ fn right_part(alloc: Global, core: &Core, arc: RingArc, parent: &Link, child: &L
           gone = None;
         } }
 {
-    let succ = if core.is_alone() { *parent } else { core.succ };
+    let succ = if splits_at_once(core) {
+        *parent
+    } else {
+        core.succ
+    };
     Core {
         id: child.group,
         first: child.members.least(),

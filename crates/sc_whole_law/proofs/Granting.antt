@@ -232,7 +232,7 @@ module _ (sources : Sources) (ahead : Ahead) (scenario : Scenario) (start : Begi
   speaks = record {
     noop = (tt, tt);
     elsewhere = λ body h tx coord hint. tt;
-    goes_on = λ log c is all m me. goes_on sources told fit name al (after log) (before_of (after log).core) me c (entry_allows log c is)
+    goes_on = λ log c is all m me. goes_on sources told fit name al (after log) (before_of (after log).core) me c (entry_allows log c is) (shared c m)
         (subst (Stands sources told fit name) (state_push (group_of base) log c) (stands (log ++ c ∷ []) is (Each-append Queues log (c ∷ []) all (m, tt))));
     reminds = λ log is all me. said_reminders sources told fit name al (after log) (stands log is all) (watched log is) me (after log).core.lock refl;
     gives_up = λ log is all tx body order got e. (tt, tt);

@@ -32,7 +32,7 @@ use Rattle.sc_machine_table.specs.Group.{Group}
 use Rattle.sc_machine_table.specs.Machine.{applied}
 use Rattle.sc_machine_table.specs.Plans.{frozen_of, can_split, merged_link}
 use Rattle.sc_machine_table.specs.Splits.{right_link}
-use Rattle.sc_machine_table.specs.Transactions.{decided_group, aborted, is_coordinating, asks_watcher, watch_recorded}
+use Rattle.sc_machine_table.specs.Transactions.{begun_group, decided_group, aborted, is_coordinating, asks_watcher, watch_recorded}
 use Rattle.sc_machine_table.specs.Votes.{vote_of, watch_vote_of, past_of}
 use Rattle.sc_member.specs.Union.{united}
 use Rattle.sc_node_table.specs.declared.Before.{Before}
@@ -40,14 +40,15 @@ use Rattle.sc_node_table.specs.Mails.{sent_all}
 use Rattle.sc_node_table.specs.Questions.{offer_of, question, asked_first, both_link, split_watch, child_link, union_watch}
 use Rattle.sc_node_table.specs.Reminders.{reminders}
 use Rattle.sc_node_table.specs.Transactions.{voted_to, watched_to}
-use Rattle.sc_node_table.specs.Spoken.{asked_on, vote_sent, watch_sent, aborted_to, aborted_watcher, given_up_by, vote_answered, released_to, watch_answered_by, went_on}
-use Rattle.sc_ring_law.specs.Allowed.{Sources, IsAllowed}
+use Rattle.sc_node_table.specs.Spoken.{asked_on, begun_asks, vote_sent, watch_sent, aborted_to, aborted_watcher, given_up_by, vote_answered, released_to, watch_answered_by, went_on}
+use Rattle.sc_ring_law.specs.Allowed.{Sources, IsAllowed, IsShared}
 use Rattle.sc_ring_law.specs.Invariant.{Groups, Facts, LockOk}
 use Rattle.sc_ring_law.specs.Stories.{Story, Stories, unsigned, watch_with}
 use Rattle.sc_log_law.specs.Allows.{AllowsAsItStands, MakesAllowed, GroupAllows}
 use Rattle.sc_group_law.proofs.Speech.{IsSaid, AreSaid}
 use Rattle.sc_whole_law.specs.Parameters.{IsHeard}
 use Rattle.sc_whole_law.specs.Parties.{MergesFit}
+use Rattle.sc_whole_law.proofs.Asking.{BeginsShared}
 use Rattle.sc_whole_law.proofs.Coming.{EndsIt, IsDull, voting_group, comes}
 
 -- ---- what a lock says beside what it makes allowed
@@ -144,6 +145,11 @@ module _ (sources : Sources) (stories : Stories) (fit : MergesFit stories) (name
     dull_asks Was.Changed d me core = absurd d
     dull_asks _ d me core = refl
 
+    -- nor where nothing begins
+    dull_begins : (effect : Effect) → IsDull effect → (me : ℕ) (core : Core) (tx : Draw) (body : Body) → begun_asks effect me core tx body [] ≡ []
+    dull_begins Was.Changed d me core tx body = absurd d
+    dull_begins _ d me core tx body = refl
+
     -- and nothing is decided
     dull_decides : (effect : Effect) → IsDull effect → decided_in effect ≡ None
     dull_decides (Was.Decided outcome) d = absurd d
@@ -162,7 +168,7 @@ module _ (sources : Sources) (stories : Stories) (fit : MergesFit stories) (name
     dull_said : (me : ℕ) (group : Group) (was : Before) (effect : Effect) → IsDull effect → (c : Command) → Said (went_on me group was effect c [])
     unfolding went_on
     dull_said me group was effect d (Split at child order) = subst Said (sym (dull_asks effect d me group.core)) tt
-    dull_said me group was effect d (Begin tx body order) = subst Said (sym (dull_asks effect d me group.core)) tt
+    dull_said me group was effect d (Begin tx body order) = subst Said (sym (dull_begins effect d me group.core tx body)) tt
     dull_said me group was effect d (Prepared tx offer) = dull_vote me group tx offer effect d
       where
         dull_vote : (me : ℕ) (group : Group) (tx : Draw) (offer : Offer) (effect : Effect) → IsDull effect → Said (vote_sent (cast_in effect) me group tx offer [])
@@ -256,7 +262,7 @@ module _ (sources : Sources) (stories : Stories) (fit : MergesFit stories) (name
 
     -- ---- each entry
 
-    module _ (group : Group) (was : Before) (me : ℕ) (c : Command) (may : EntryAllows group c) (next : Stands (applied group c).0) where
+    module _ (group : Group) (was : Before) (me : ℕ) (c : Command) (may : EntryAllows group c) (shared : BeginsShared c) (next : Stands (applied group c).0) where
       -- what is said of what came of a command is heard
       abbrev Goes : Command → Group × Effect → Type 0
       Goes d x = d ≡ c → x ≡ applied group c → Said (went_on me x.0 was x.1 d [])
@@ -264,6 +270,13 @@ module _ (sources : Sources) (stories : Stories) (fit : MergesFit stories) (name
       -- the group after it
       stands_next : (after : Group) (effect : Effect) → (after, effect) ≡ applied group c → Stands after
       stands_next after effect e = subst Stands (ap (λ (x : Group × Effect). x.0) (sym e)) next
+
+      -- what is begun has a participant, which hears what it is asked
+      begun_said : (tx : Draw) (body : Body) (order : ℕ) → IsShared body → Stands (begun_group group tx body order) → Said (begun_asks Was.Changed me (begun_group group tx body order).core tx body [])
+      begun_said tx By.Merge order h s = (said_question (begun_group group tx By.Merge order) s me tx By.Merge order None refl, tt)
+      begun_said tx (By.Repart at) order h s = (said_question (begun_group group tx (By.Repart at) order) s me tx (By.Repart at) order None refl, tt)
+      begun_said tx (By.Migrate node) order h s = (said_question (begun_group group tx (By.Migrate node) order) s me tx (By.Migrate node) order None refl, tt)
+      begun_said tx (By.Split at child) order h s = absurd h
 
       -- a participant's vote is heard
       offered_said : (tx : Draw) (offer : Offer) (why : Option No) → Stands (voting_group group tx why (Promised tx offer)) → Said (voted_to me (voting_group group tx why (Promised tx offer)) offer.by tx offer (past_of why) [])
@@ -289,7 +302,7 @@ module _ (sources : Sources) (stories : Stories) (fit : MergesFit stories) (name
             left = λ node order _ _. tt;
             parted = λ at child order free is e. said_first _ (stands_next _ _ e) me _ refl;
             split = λ at child order free is e. said_first _ (stands_next _ _ e) me _ refl;
-            begun = λ tx body order free is e. said_first _ (stands_next _ _ e) me _ refl;
+            begun = λ tx body order free is e. begun_said tx body order (shared tx body order (sym is)) (stands_next _ _ e);
             offered = λ tx offer new is e. offered_said tx offer (vote_of group.core offer) (stands_next _ _ e);
             asked = λ tx watch new is e. asked_said tx watch (watch_vote_of group.core watch)
                 (λ voted. may name (RecordWatch tx Cast.Yes 0) (subst (λ d. MakesAllowed sources name group d name (RecordWatch tx Cast.Yes 0)) is
