@@ -34,12 +34,12 @@ abbrev pub marks_to : ℕ → Mark → List ℕ → List Mark
 marks_to who mark [] = []
 marks_to who mark (node ∷ nodes) = cond (eqb node who) (mark ∷ []) [] ++ marks_to who mark nodes
 
-append_one : (xs ys zs : List Mark) → (xs ++ ys) ++ zs ≡ xs ++ (ys ++ zs)
+pub append_one : (xs ys zs : List Mark) → (xs ++ ys) ++ zs ≡ xs ++ (ys ++ zs)
 append_one [] ys zs = refl
 append_one (x ∷ xs) ys zs = ap (λ l. x ∷ l) (append_one xs ys zs)
 
 -- one mail more leaves its mark, if it is for the actor
-pushed : (name : Draw) (who : ℕ) (mails : List Mail) (me to : ℕ) (body : MailBody) (mark : Mark) → mark_of name me body ≡ Some mark → marks_for name who (sent me to body mails) ≡ marks_for name who mails ++ cond (eqb to who) (mark ∷ []) []
+pub pushed : (name : Draw) (who : ℕ) (mails : List Mail) (me to : ℕ) (body : MailBody) (mark : Mark) → mark_of name me body ≡ Some mark → marks_for name who (sent me to body mails) ≡ marks_for name who mails ++ cond (eqb to who) (mark ∷ []) []
 pushed name who [] me to body mark e = by (eqb to who)
   where
     by : (b : Bool) → marks_of name (cond b ((record { from = me; to = to; body = body }) ∷ []) []) ≡ cond b (mark ∷ []) []

@@ -1,5 +1,6 @@
 pub mod FollowingElected
 pub mod FollowingElects
+pub mod FollowingEntries
 pub mod FollowingKeeps
 pub mod FollowingLeads
 pub mod FollowingLearn

@@ -1,5 +1,5 @@
 -- That a replica's table takes the mail of its group as the marks of it say.
-use Rattle.std.specs.Prelude.{◌≡◌, ℕ, suc, ◌+◌, ◌-◌, ◌^◌, ◌<◌, ◌≤◌, ◌==◌, true, false, List, [], ◌∷◌, length, filter, if◌then◌else◌, Some, None, ◌⊎◌}
+use Rattle.std.specs.Prelude.{◌≡◌, ℕ, suc, ◌+◌, ◌-◌, ◌^◌, ◌<◌, ◌≤◌, ◌==◌, true, false, List, [], ◌∷◌, ◌++◌, length, filter, if◌then◌else◌, Some, None, ◌⊎◌}
 use Rattle.sc_base.specs.declared.names.Ballot.{Ballot}
 use Rattle.sc_base.specs.declared.names.Draw.{Draw}
 use Rattle.sc_cmd.specs.declared.commands.Command.{Command}
@@ -7,14 +7,14 @@ use Rattle.sc_cmd.specs.declared.cores.Base.{Base}
 use Rattle.sc_cmd.specs.declared.links.Route.{Route}
 use Rattle.sc_mail.specs.declared.bodies.Mail.{Mail}
 use Rattle.sc_mail.specs.declared.bodies.MailBody.TheVariants.{Prepare, Accept, Learn, Install}
-use Rattle.sc_member.specs.Roster.{is_member, least_of}
+use Rattle.sc_member.specs.Roster.{IsRoster, is_member, least_of}
 use Rattle.sc_node_table.specs.Election.{open_nodes}
-use Rattle.sc_node_table.specs.Execute.{entered, is_among}
+use Rattle.sc_node_table.specs.Execute.{entered, learnt_to, welcomed, is_among}
 use Rattle.sc_node_table.specs.Replica.{ReplicaState, Place, name_of, next, members, first_ballot, last_slot}
 use Rattle.sc_node_table.specs.Rows.{mailed, made_by}
 use Rattle.sc_paxos_words.specs.Leaders.{new_leader}
-use Rattle.sc_calm_law.specs.Following.{Mark, Asks, Tells, Installs, Prepares, marks_of, next_by, promise_by, IsFit}
-use Rattle.sc_calm_law.specs.FollowingRows.{answered}
+use Rattle.sc_calm_law.specs.Following.{Mark, Asks, Tells, Installs, Prepares, marks_of, next_by, promise_by, IsFit, Course, Sets, members_at}
+use Rattle.sc_calm_law.specs.FollowingRows.{answered, told_of}
 use Rattle.sc_calm_law.specs.Laws.{GoesOn}
 
 -- the marks, for a group, of the mail for an actor
@@ -80,3 +80,20 @@ abbrev pub TablesElect : Type 0
 TablesElect =
     (from slot : ℕ) (command : Command) (r : ReplicaState) → IsInTime (Tells slot) r → r.running ≡ false → r.leader.flights ≡ [] → slot ≤ last_slot → MayElect (entered command r) → name_of (entered command r) ≡ name_of r
     → ElectsBy slot (entered command r).sets r (mailed from (Learn (name_of r) slot command) (r, [])).0
+
+-- a replica that leads in a group's course, after the entry at a slot, before which these were the members
+pub record IsLeader (at : Sets) (course : Course) (before : List ℕ) (slot : ℕ) (r : ReplicaState) : Type 0 where
+  pub executed : next r ≡ slot + 1
+  pub ballot : r.leader.ballot ≡ course.ballot
+  pub first : r.leader.is_first ≡ course.is_first
+  pub mine : course.ballot.node ≡ r.me
+  pub member : is_member before r.me ≡ true
+  pub was : members_at at slot ≡ before
+  pub is : members_at at (slot + 1) ≡ members r
+  pub rosters : IsRoster before × IsRoster (members r)
+
+-- what it sends of an entry that it counted is what is told of it, to each
+abbrev pub EntriesTell : Type 0
+EntriesTell =
+    (at : Sets) (course : Course) (before : List ℕ) (slot : ℕ) (command : Command) (r : ReplicaState) (mails : List Mail) → IsLeader at course before slot r
+    → (who : ℕ) → marks_for (name_of r) who (welcomed true before (learnt_to true before slot command (r, mails))).1 ≡ marks_for (name_of r) who mails ++ told_of at course slot who

@@ -6,8 +6,8 @@
 ghost use Rattle.sc_calm_law.specs.Births.{BornReplicasOwe, MadeReplicasOwe};
 ghost use Rattle.sc_calm_law.specs.Clients.{ClientsLower, GoneSendsOn, NotMineTeaches};
 ghost use Rattle.sc_calm_law.specs.Executing.{CallVotesLower, ExecutionsRaiseNothing, LoneEntriesArePaid, LoneVotesLower};
-ghost use Rattle.sc_calm_law.specs.FollowingNodes.{StatesMake, TablesElect, TablesFollow};
-ghost use Rattle.sc_calm_law.specs.FollowingRows.{Elects, GroupsBeginFollowing, IdleRowsKeep, LeadersKeep, ElectionsKeep, TakersKeep, QuietGroupsAreEven};
+ghost use Rattle.sc_calm_law.specs.FollowingNodes.{EntriesTell, StatesMake, TablesElect, TablesFollow};
+ghost use Rattle.sc_calm_law.specs.FollowingRows.{GroupsBeginFollowing, IdleRowsKeep, LeadersKeep, ElectionsKeep, TakersKeep, QuietGroupsAreEven};
 ghost use Rattle.sc_calm_law.specs.Laws.{AnswersLower, AsksLower, ChangesRaiseNothing, CountedEntriesRaiseNothing, CountsLower, LeadersMayLeave, LearnsLower, LearntEntriesRaiseNothing, MovesLower, OldLearnsLower, OrdersRaiseLittle, PumpsRaiseNothing, VotesLower};
 ghost use Rattle.sc_calm_law.specs.Nodes.{NodesLower, NodesOweAsReplicas, NodesRaiseLittle};
 ghost use Rattle.sc_calm_law.specs.Parties.{PartiesLower, PartiesRaiseLittle};
@@ -223,8 +223,9 @@ pub fn quiet_groups_are_even()
     ensures { QuietGroupsAreEven }
 {}
 
-/// What a replica's table does by an Accept, a Prepare, a Learn or an Install of its group that comes
-/// in time is what its mark says: where its next slot goes, what it promises, and what it answers.
+/// What a replica's table does by an Accept, a Prepare, a Learn or an Install of its group that
+/// comes in time is what its mark says: where its next slot goes, what it promises, and what it
+/// answers.
 pub fn tables_follow()
     ensures { TablesFollow }
 {}
@@ -235,8 +236,15 @@ pub fn states_make_replicas()
     ensures { StatesMake }
 {}
 
-/// The least member that takes no member for the leader elects itself by an entry that it is told: it
-/// runs with the next round of its own, and asks each node that decides an open slot to promise it.
+/// The least member that takes no member for the leader elects itself by an entry that it is told:
+/// it runs with the next round of its own, and asks each node that decides an open slot to promise
+/// it.
 pub fn tables_elect()
     ensures { TablesElect }
+{}
+
+/// What a leader sends of an entry that it counted is what is told of it: the members before the
+/// entry learn it, and each that it adds is sent the state, and asked to promise a later ballot.
+pub fn entries_tell()
+    ensures { EntriesTell }
 {}
