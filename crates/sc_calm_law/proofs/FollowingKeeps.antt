@@ -10,7 +10,7 @@ use Rattle.sc_paxos_words.proofs.BallotLemmas.{same_from_at_least, cases_below}
 use Rattle.sc_paxos_words.proofs.ListLemmas.{Each-append, Each-split, Each-weaker}
 use Rattle.sc_calm_law.specs.Following.{Mark, Asks, Votes, Tells, Installs, Prepares, Promises, next_by, promise_by, reached, pledged, IsFit, AreFit, AreAskedFirst, Course, Progress, Sets, members_at, IsKnown, IsVoting, HasPromised, IsPromising, IsFollowing}
 use Rattle.sc_calm_law.specs.FollowingRows.{IsRow, IsIdle, answered, IsCount, Takes}
-use Rattle.sc_calm_law.proofs.FollowingMarks.{among-left, among-right, among-either, among-listed, reached-append, pledged-append, fit-append, no_step, count-reached, count-pledged, count-fit, count-asks, IsLater, asked-append, asked-counts, asked-left}
+use Rattle.sc_calm_law.proofs.FollowingMarks.{among-left, among-right, among-either, among-listed, reached-append, pledged-append, fit-append, no_step, promise-most, count-reached, count-pledged, count-fit, count-asks, IsLater, asked-append, asked-counts, asked-left}
 
 -- ---- what is under way before and after a row
 
@@ -134,14 +134,6 @@ later_counts bound (Asks ballot slot) c = absurd c
 later_counts bound (Tells slot) c = tt
 later_counts bound (Installs slot) c = tt
 later_counts bound (Prepares ballot) c = tt
-
-promise_kept : (course : Course) (promise : Ballot) (mark : Mark) → IsAtLeast course.ballot promise → IsKnown course mark → IsAtLeast course.ballot (promise_by promise mark)
-promise_kept course promise (Asks ballot slot) most known = most
-promise_kept course promise (Votes node ballot slot) most known = most
-promise_kept course promise (Tells slot) most known = most
-promise_kept course promise (Installs slot) most known = most
-promise_kept course promise (Prepares ballot) most known = known
-promise_kept course promise (Promises node ballot) most known = most
 
 -- a node promises a ballot by being asked to, or has promised it before
 promise_from : (promise ballot : Ballot) (mark : Mark) → promise_by promise mark ≡ ballot → (promise ≡ ballot) ⊎ (mark ≡ Prepares ballot)
@@ -286,7 +278,7 @@ module _ (at : Sets) (now after : Progress) (node : ℕ) (taken : Option Mark) (
         high = was.high;
         known = λ who. each-row now after node taken sent marks marks_after row (IsKnown now.course) who (was.known who) (subst (Each (IsKnown now.course)) (sym (t.sends who)) (known_of now.course node (now.promise node) t.mark who known));
         promised = λ who. elim (cases_eq who node) [
-          | inl is ↦ subst (IsAtLeast now.course.ballot) (sym (ap after.promise is ∙ t.promise)) (promise_kept now.course (now.promise node) t.mark (was.promised node) known)
+          | inl is ↦ subst (IsAtLeast now.course.ballot) (sym (ap after.promise is ∙ t.promise)) (promise-most now.course (now.promise node) t.mark (was.promised node) known)
           | inr ne ↦ subst (IsAtLeast now.course.ballot) (sym (row.promise who ne)) (was.promised who)
         ];
         first = λ f who. pledged_left who ∙ was.first f who;

@@ -73,7 +73,7 @@ fit-asks next promise (mark ∷ marks) ballot slot f (inr a) =
     (let one = rises next promise mark f.0 in let more = fit-asks (next_by next mark) (promise_by promise mark) marks ballot slot f.1 a in omega (arith, one, more))
 
 -- no later ballot is promised than was asked for
-promise-most : (course : Course) (promise : Ballot) (mark : Mark) → IsAtLeast course.ballot promise → IsKnown course mark → IsAtLeast course.ballot (promise_by promise mark)
+pub promise-most : (course : Course) (promise : Ballot) (mark : Mark) → IsAtLeast course.ballot promise → IsKnown course mark → IsAtLeast course.ballot (promise_by promise mark)
 promise-most course promise (Asks ballot slot) most known = most
 promise-most course promise (Votes node ballot slot) most known = most
 promise-most course promise (Tells slot) most known = most

@@ -35,7 +35,7 @@ use Rattle.sc_calm_law.specs.Laws.{GoesOn}
 
 -- ---- the marks of one mail
 
-pub marks-one : (name : Draw) (who me to : ℕ) (body : MailBody) (mark : Mark) → mark_of name me body ≡ Some mark → marks_for name who (sent me to body []) ≡ cond (eqb to who) (mark ∷ []) []
+marks-one : (name : Draw) (who me to : ℕ) (body : MailBody) (mark : Mark) → mark_of name me body ≡ Some mark → marks_for name who (sent me to body []) ≡ cond (eqb to who) (mark ∷ []) []
 marks-one name who me to body mark e =
     let mail : Mail = record { from = me; to = to; body = body } in
     cond_both (eqb to who) (mail ∷ []) [] (λ l. marks_of name l ≡ cond (eqb to who) (mark ∷ []) []) (λ t. ap (λ (o : Option Mark). listed o ++ []) e ∙ sym (cond-true (eqb to who) (mark ∷ []) [] t))

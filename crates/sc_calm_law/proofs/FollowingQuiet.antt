@@ -14,7 +14,7 @@ use Rattle.sc_calm_law.proofs.FollowingLeads.{least_in}
 
 -- ---- a group begins
 
-begins : (at : Sets) (ballot : Ballot) → ((slot : ℕ) → slot < 1 + slots_ahead → at slot ≡ members_at at 1) → is_member (members_at at 1) ballot.node ≡ true → IsFollowing at (begun (members_at at 1) ballot) (λ node. [])
+pub begins : (at : Sets) (ballot : Ballot) → ((slot : ℕ) → slot < 1 + slots_ahead → at slot ≡ members_at at 1) → is_member (members_at at 1) ballot.node ≡ true → IsFollowing at (begun (members_at at 1) ballot) (λ node. [])
 begins at ballot same mine = record {
   fits = λ node. tt;
   within = λ node. cond_both (is_member (members_at at 1) node) 1 0 (λ n. n ≤ 1) (λ _. omega arith) (λ _. omega arith);
@@ -45,9 +45,6 @@ begins at ballot same mine = record {
 
     true_false : true ≡ false → ⊥
     true_false e = cc
-
-pub begins_following : (at : Sets) (ballot : Ballot) → ((slot : ℕ) → slot < 1 + slots_ahead → at slot ≡ members_at at 1) → is_member (members_at at 1) ballot.node ≡ true → IsFollowing at (begun (members_at at 1) ballot) (λ node. [])
-begins_following = begins
 
 -- ---- where all that decide a slot have voted, a majority has
 
