@@ -23,8 +23,8 @@ use Rattle.sc_node_table.specs.Rows.{mailed}
 use Rattle.sc_node_table.specs.Slots.{numbers_from}
 use Rattle.sc_calm_law.specs.Following.{Mark, Prepares, mark_of, marks_of}
 use Rattle.sc_calm_law.specs.FollowingNodes.{marks_for, MayElect, next_ballot, ElectsBy, TablesElect}
-use Rattle.sc_calm_law.proofs.FollowingNodes.{same_mark}
-use Rattle.sc_calm_law.proofs.FollowingLearn.{over, place2, silent, over_off, looks, entered_keeps, told_is}
+use Rattle.sc_calm_law.proofs.FollowingNodes.{same_mark, floor_low}
+use Rattle.sc_calm_law.proofs.FollowingLearn.{over, place2, silent, over_off, looks, entered_keeps, entered_floor, told_is}
 use Rattle.sc_calm_law.proofs.OwedKept.{entered_next}
 
 -- ---- the marks of what is sent to several nodes
@@ -190,6 +190,7 @@ module _ (command : Command) (r : ReplicaState) (off : r.running ≡ false) (non
     runs = refl;
     leads = ap (λ b. new_leader b (next last)) ballot_is ∙ ap (new_leader (next_ballot r)) next_is;
     ready = refl;
+    low = λ l. (let floor = entered_floor command r in let up = entered_next command r in let most = floor_low (next r) in omega (arith, floor, up, most, l));
     asks = asked;
   }
 

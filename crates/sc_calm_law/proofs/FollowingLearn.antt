@@ -1,5 +1,5 @@
 -- A replica that does not run takes an entry that it is told as its mark says, and so the table follows.
-use Rattle.std.proofs.Common.{◌≡◌, ℕ, ◌≤◌, ◌&&◌, eqb, ltb, Bool, true, false, true≢false, cond, List, [], ◌∷◌, Option, Some, None, inl, inr, refl, sym, ◌∙◌, ap, subst, arith}
+use Rattle.std.proofs.Common.{◌≡◌, ℕ, max, ◌≤◌, ◌&&◌, eqb, ltb, Bool, true, false, true≢false, cond, List, [], ◌∷◌, Option, Some, None, inl, inr, refl, sym, ◌∙◌, ap, subst, arith}
 use Rattle.std.specs.Option.{option_map}
 use Rattle.std.proofs.lemmas.Bool.{eqb-true, eq-eqb, le-ltb}
 use Rattle.sc_base.specs.declared.names.Draw.{Draw}
@@ -19,13 +19,13 @@ use Rattle.sc_node_table.specs.Election.{elected}
 use Rattle.sc_node_table.specs.Execute.{entered, order_result, told_effect, announced, learnt_to, welcomed, slot_lost, landed, left_gone, left, is_among, looked_for, looked, executed_one, next_child, has_room, ending, executed_ready, executed}
 use Rattle.sc_node_table.specs.Mails.{sent, told_order, told_desk, order_number}
 use Rattle.sc_node_table.specs.Pump.{pumped}
-use Rattle.sc_node_table.specs.Replica.{ReplicaState, Place, Executed, childless, name_of, next, members, last_slot, forgotten}
+use Rattle.sc_node_table.specs.Replica.{ReplicaState, Place, Executed, childless, name_of, next, members, last_slot, floor_of, forgotten}
 use Rattle.sc_node_table.specs.Rows.{learn_row, mailed}
 use Rattle.sc_node_table.specs.Slots.{at_slot, without_slot}
 use Rattle.sc_node_table.specs.Spoken.{before_of, begun_result, spoken_number, told_result, told_begun, spoken_mails, spoken}
 use Rattle.sc_calm_law.specs.Following.{Tells}
 use Rattle.sc_calm_law.specs.FollowingNodes.{marks_for, StepsBy, IsInTime, Stays, TablesFollow}
-use Rattle.sc_calm_law.proofs.FollowingNodes.{marks-push, accept_steps, prepare_steps, install_steps}
+use Rattle.sc_calm_law.proofs.FollowingNodes.{marks-push, floor_low, accept_steps, prepare_steps, install_steps}
 use Rattle.sc_calm_law.proofs.OwedKept.{entered_next}
 use Rattle.sc_calm_law.proofs.OwedLearn.{idle_pump}
 
@@ -109,6 +109,10 @@ pub entered_keeps : (command : Command) (r : ReplicaState) → ((entered command
 unfolding entered forgotten
 entered_keeps command r = (refl, refl, refl)
 
+pub entered_floor : (command : Command) (r : ReplicaState) → (entered command r).acceptor.floor ≡ max r.acceptor.floor (floor_of (next r))
+unfolding entered forgotten
+entered_floor command r = refl
+
 -- one that does not run executes no more by itself
 idle_ready : (es : List (ℕ × Command)) (place : Place) → place.0.running ≡ false → executed_ready es place ≡ childless place
 unfolding executed_ready
@@ -162,6 +166,7 @@ module _ (command : Command) (r : ReplicaState) (off : r.running ≡ false) (non
       runs = (entered_keeps command r).1;
       leads = λ on. absurd (true≢false (sym on ∙ off));
       answers = silent;
+      low = λ l. (let floor = entered_floor command r in let up = entered_next command r in let most = floor_low (next r) in omega (arith, floor, up, most, l));
     }
 
     entry_steps : StepsBy (Tells slot) r (executed_one false command (r, []))

@@ -1,5 +1,5 @@
 -- A replica's table takes the mail of its group as the marks of it say.
-use Rattle.std.proofs.Common.{◌≡◌, ℕ, suc, ◌+◌, ◌-◌, ◌<◌, ◌≤◌, ◌&&◌, ◌||◌, not, eqb, ltb, Bool, true, false, true≢false, cond, List, [], ◌∷◌, ◌++◌, length, Option, Some, None, inl, inr, refl, sym, ◌∙◌, ap, subst, arith, length-drop}
+use Rattle.std.proofs.Common.{◌≡◌, ℕ, suc, ◌+◌, ◌-◌, ◌<◌, ◌≤◌, ◌&&◌, ◌||◌, not, max, eqb, ltb, Bool, true, false, true≢false, cond, List, [], ◌∷◌, ◌++◌, length, Option, Some, None, inl, inr, refl, sym, ◌∙◌, ap, subst, arith, length-drop}
 use Rattle.std.specs.List.{filter}
 use Rattle.std.proofs.lemmas.Bool.{cases_eq, cond_both, cond-true, cond-false, eq-eqb, ne_eqb, lt-leb, le-ltb, or_from, not_from_true}
 use Rattle.sc_base.specs.declared.names.Ballot.{Ballot}
@@ -111,7 +111,7 @@ took_steps ballot slot command r fit low =
         ∙ ap (λ b. cond b (Votes r.me ballot slot ∷ []) []) (turned ballot.node who)
 
     after : (hint : Option ℕ) → StepsBy (Asks ballot slot) r (record r { acceptor = after_accept report r.acceptor; hint = hint }, sent r.me ballot.node (Accepted (name_of r) ballot slot) [])
-    after hint = record { reaches = refl; promises = fit.2; runs = refl; leads = λ _. (refl, refl); answers = votes }
+    after hint = record { reaches = refl; promises = fit.2; runs = refl; leads = λ _. (refl, refl); answers = votes; low = λ l. l }
 
 pub accept_steps : (ballot : Ballot) (slot : ℕ) (command : Command) (r : ReplicaState) → IsInTime (Asks ballot slot) r → GoesOn ballot r → r.acceptor.floor < next r → StepsBy (Asks ballot slot) r (accept_row ballot.node ballot slot command (r, []))
 unfolding accept_row
@@ -120,7 +120,7 @@ accept_steps ballot slot command r fit goes low =
     (same (took_steps ballot slot command (record r { top = ballot }) fit low)) (took_steps ballot slot command r fit low)
   where
     same : {place : Place} → StepsBy (Asks ballot slot) (record r { top = ballot }) place → StepsBy (Asks ballot slot) r place
-    same s = record { reaches = s.reaches; promises = s.promises; runs = s.runs; leads = s.leads; answers = s.answers }
+    same s = record { reaches = s.reaches; promises = s.promises; runs = s.runs; leads = s.leads; answers = s.answers; low = s.low }
 
 -- ---- Prepare
 
@@ -145,14 +145,14 @@ promised_steps ballot from_slot r fit low =
         ∙ (ap (λ b. cond b (Promises r.me ballot ∷ []) []) (sym (and_false (eqb who ballot.node))) ∙ ap (λ b. cond (eqb who ballot.node && b) (Promises r.me ballot ∷ []) []) (sym least))
 
     after : (hint : Option ℕ) → below r.acceptor.promised ballot ≡ true → StepsBy (Prepares ballot) r (record r { acceptor = after_promise ballot r.acceptor; hint = hint }, sent r.me ballot.node (Promise (name_of r) ballot reports) [])
-    after hint up = record { reaches = refl; promises = refl; runs = refl; leads = λ _. (refl, refl); answers = λ who. promises_it who up }
+    after hint up = record { reaches = refl; promises = refl; runs = refl; leads = λ _. (refl, refl); answers = λ who. promises_it who up; low = λ l. l }
 
     by : (b : Bool) → below r.acceptor.promised ballot ≡ b
         → StepsBy (Prepares ballot) r (promise_to ballot.node ballot (cond b (Answers.Promise reports, after_promise ballot r.acceptor) (Answers.Ignored r.acceptor.promised, r.acceptor)) (r, []))
     by true up =
         hinted_either (λ q. StepsBy (Prepares ballot) r (q, sent r.me ballot.node (Promise (name_of r) ballot reports) [])) ballot (record r { acceptor = after_promise ballot r.acceptor }) (after r.hint up) (after (Some ballot.node) up)
     by false least =
-        record { reaches = refl; promises = same_from_at_least r.acceptor.promised ballot least fit.1; runs = refl; leads = λ _. (refl, refl); answers = λ who. says_no who least }
+        record { reaches = refl; promises = same_from_at_least r.acceptor.promised ballot least fit.1; runs = refl; leads = λ _. (refl, refl); answers = λ who. says_no who least; low = λ l. l }
 
 pub prepare_steps : (ballot : Ballot) (from_slot : ℕ) (r : ReplicaState) → IsInTime (Prepares ballot) r → GoesOn ballot r → r.acceptor.floor < from_slot → StepsBy (Prepares ballot) r (prepare_row ballot.node ballot from_slot (r, []))
 unfolding prepare_row
@@ -160,7 +160,7 @@ prepare_steps ballot from_slot r fit goes low =
     saw_either (λ p. StepsBy (Prepares ballot) r (promised ballot.node ballot from_slot p)) ballot r [] goes (same (promised_steps ballot from_slot (record r { top = ballot }) fit low)) (promised_steps ballot from_slot r fit low)
   where
     same : {place : Place} → StepsBy (Prepares ballot) (record r { top = ballot }) place → StepsBy (Prepares ballot) r place
-    same s = record { reaches = s.reaches; promises = s.promises; runs = s.runs; leads = s.leads; answers = s.answers }
+    same s = record { reaches = s.reaches; promises = s.promises; runs = s.runs; leads = s.leads; answers = s.answers; low = s.low }
 
 -- ---- Install
 
@@ -168,7 +168,7 @@ prepare_steps ballot from_slot r fit goes low =
 cut_next : (upto : ℕ) (log : LogState Command) → upto ≤ log.base + length log.entries → next_of (log_cut upto log) ≡ next_of log
 cut_next upto log low = let d = length-drop (upto - log.base) log.entries in omega (arith, low, d)
 
-floor_low : (last : ℕ) → floor_of last ≤ last
+pub floor_low : (last : ℕ) → floor_of last ≤ last
 floor_low last = omega arith
 
 next_jumped : (slot : ℕ) (base : Base) (sets : List (List ℕ)) (r : ReplicaState) → next (jumped slot base sets r) ≡ suc slot
@@ -181,9 +181,13 @@ jumped_keeps : (slot : ℕ) (base : Base) (sets : List (List ℕ)) (r : ReplicaS
 unfolding jumped forgotten
 jumped_keeps slot base sets r = (refl, refl, refl)
 
-took_over_steps : (from slot : ℕ) (base : Base) (sets : List (List ℕ)) (r : ReplicaState) → r.running ≡ false → is_member base.core.members from ≡ true → StepsBy (Installs slot) r (took_over from slot base sets (r, []))
+jumped_floor : (slot : ℕ) (base : Base) (sets : List (List ℕ)) (r : ReplicaState) → (jumped slot base sets r).acceptor.floor ≡ max r.acceptor.floor (floor_of slot)
+unfolding jumped forgotten
+jumped_floor slot base sets r = refl
+
+took_over_steps : (from slot : ℕ) (base : Base) (sets : List (List ℕ)) (r : ReplicaState) → next r ≤ slot → r.running ≡ false → is_member base.core.members from ≡ true → StepsBy (Installs slot) r (took_over from slot base sets (r, []))
 unfolding took_over looked_up
-took_over_steps from slot base sets r off mine =
+took_over_steps from slot base sets r fit off mine =
     subst (λ (p : Place). StepsBy (Installs slot) r (looked_up from (jumped slot base sets p.0, p.1))) (sym (ap (λ b. cond {A = Place} b (stopped (Some from) (r, [])) (r, [])) off))
     (subst (λ b. StepsBy (Installs slot) r (cond {A = Place} b (record (jumped slot base sets r) { hint = Some from }, []) (looked (jumped slot base sets r, [])))) (sym member) after)
   where
@@ -193,14 +197,17 @@ took_over_steps from slot base sets r off mine =
     member : is_member (members (jumped slot base sets r)) from ≡ true
     member = ap (λ m. is_member m from) keeps.2 ∙ mine
 
+    low : r.acceptor.floor < next r → (jumped slot base sets r).acceptor.floor < next (jumped slot base sets r)
+    low l = (let floor = jumped_floor slot base sets r in let reach = next_jumped slot base sets r in let most = floor_low slot in omega (arith, floor, reach, most, l, fit))
+
     after : StepsBy (Installs slot) r (record (jumped slot base sets r) { hint = Some from }, [])
-    after = record { reaches = next_jumped slot base sets r; promises = keeps.0; runs = keeps.1; leads = λ on. absurd (true≢false (sym on ∙ off)); answers = λ who. refl }
+    after = record { reaches = next_jumped slot base sets r; promises = keeps.0; runs = keeps.1; leads = λ on. absurd (true≢false (sym on ∙ off)); answers = λ who. refl; low = low }
 
 pub install_steps : (from slot : ℕ) (base : Base) (sets : List (List ℕ)) (r : ReplicaState) → IsInTime (Installs slot) r → r.running ≡ false → slot ≤ last_slot → length sets ≡ length r.sets
     → is_member base.core.members from ≡ true → StepsBy (Installs slot) r (install_row from slot base sets (r, []))
 unfolding install_row
 install_steps from slot base sets r fit off low sized mine =
-    subst (λ b. StepsBy (Installs slot) r (cond {A = Place} b (r, []) (took_over from slot base sets (r, [])))) (sym taken) (took_over_steps from slot base sets r off mine)
+    subst (λ b. StepsBy (Installs slot) r (cond {A = Place} b (r, []) (took_over from slot base sets (r, [])))) (sym taken) (took_over_steps from slot base sets r fit off mine)
   where
     taken : (not (eqb (length sets) (length r.sets)) || (ltb last_slot slot || ltb slot (next r))) ≡ false
     taken =
@@ -223,10 +230,19 @@ installed_keeps : (me slot : ℕ) (base : Base) (sets : List (List ℕ)) → ((i
 unfolding forgotten
 installed_keeps me slot base sets = (refl, refl)
 
+floor_is : (me slot : ℕ) (base : Base) (sets : List (List ℕ)) → (installed_replica me slot base sets).acceptor.floor ≡ max 0 (floor_of slot)
+unfolding forgotten
+floor_is me slot base sets = refl
+
+installed_floor : (me slot : ℕ) (base : Base) (sets : List (List ℕ)) → (installed_replica me slot base sets).acceptor.floor < next (installed_replica me slot base sets)
+installed_floor me slot base sets = (let reach = next_installed me slot base sets in let floor = floor_is me slot base sets in let most = floor_low slot in omega (arith, reach, floor, most))
+
 pub states : StatesMake
 states = record {
   reaches = λ me from group slot base sets mine. ap (λ (p : Place). next p.0) (made_is me from group slot base sets mine) ∙ next_installed me slot (named group base) sets;
   promises = λ me from group slot base sets mine. ap (λ (p : Place). p.0.acceptor.promised) (made_is me from group slot base sets mine) ∙ (installed_keeps me slot (named group base) sets).0;
   runs = λ me from group slot base sets mine. ap (λ (p : Place). p.0.running) (made_is me from group slot base sets mine) ∙ (installed_keeps me slot (named group base) sets).1;
+  low = λ me from group slot base sets mine.
+      subst (λ (p : Place). p.0.acceptor.floor < next p.0) (sym (made_is me from group slot base sets mine)) (installed_floor me slot (named group base) sets);
   sends = λ me from group slot base sets mine. ap (λ (p : Place). p.1) (made_is me from group slot base sets mine);
 }

@@ -21,13 +21,14 @@ use Rattle.sc_calm_law.specs.Laws.{GoesOn}
 abbrev pub marks_for : Draw → ℕ → List Mail → List Mark
 marks_for name who mails = marks_of name (filter (λ mail. mail.to == who) mails)
 
--- a replica takes a mail as its mark says: its next slot and its promise go on by it, it answers it, and what it leads stays as it is
+-- a replica takes a mail as its mark says: its next slot and its promise go on by it, it answers it, what it leads stays as it is, and what its acceptor has forgotten stays below its next slot
 pub record StepsBy (mark : Mark) (r : ReplicaState) (after : Place) : Type 0 where
   pub reaches : next after.0 ≡ next_by (next r) mark
   pub promises : after.0.acceptor.promised ≡ promise_by r.acceptor.promised mark
   pub runs : after.0.running ≡ r.running
   pub leads : r.running ≡ true → (after.0.leader ≡ r.leader) × (after.0.ready ≡ r.ready)
   pub answers : (who : ℕ) → marks_for (name_of r) who after.1 ≡ answered r.me r.acceptor.promised mark who
+  pub low : r.acceptor.floor < next r → after.0.acceptor.floor < next after.0
 
 -- mail comes in time to a replica
 abbrev pub IsInTime : Mark → ReplicaState → Type 0
@@ -53,6 +54,7 @@ pub record StatesMake : Type 0 where
   pub reaches : (me from : ℕ) (group : Draw) (slot : ℕ) (base : Base) (sets : List (List ℕ)) → is_member base.core.members from ≡ true → next (made_by me from group slot base sets).0 ≡ next_by 0 (Installs slot)
   pub promises : (me from : ℕ) (group : Draw) (slot : ℕ) (base : Base) (sets : List (List ℕ)) → is_member base.core.members from ≡ true → (made_by me from group slot base sets).0.acceptor.promised ≡ first_ballot base.core
   pub runs : (me from : ℕ) (group : Draw) (slot : ℕ) (base : Base) (sets : List (List ℕ)) → is_member base.core.members from ≡ true → (made_by me from group slot base sets).0.running ≡ false
+  pub low : (me from : ℕ) (group : Draw) (slot : ℕ) (base : Base) (sets : List (List ℕ)) → is_member base.core.members from ≡ true → (made_by me from group slot base sets).0.acceptor.floor < next (made_by me from group slot base sets).0
   pub sends : (me from : ℕ) (group : Draw) (slot : ℕ) (base : Base) (sets : List (List ℕ)) → is_member base.core.members from ≡ true → (made_by me from group slot base sets).1 ≡ []
 
 -- one that does not run elects itself after an entry: it is the least member, takes none for the leader, and has a later round
@@ -73,6 +75,7 @@ pub record ElectsBy (slot : ℕ) (open_sets : List (List ℕ)) (r : ReplicaState
   pub runs : after.0.running ≡ true
   pub leads : after.0.leader ≡ new_leader (next_ballot r) (suc slot)
   pub ready : after.0.ready ≡ []
+  pub low : r.acceptor.floor < next r → after.0.acceptor.floor < next after.0
   pub asks : (who : ℕ) → marks_for (name_of r) who after.1 ≡ (if is_member (open_nodes open_sets) who then Prepares (next_ballot r) ∷ [] else [])
 
 -- a table does so where it is told the last entry, which leaves the group its name
