@@ -1,3 +1,12 @@
+pub mod FollowingElected
+pub mod FollowingElects
+pub mod FollowingEntries
+pub mod FollowingKeeps
+pub mod FollowingLeads
+pub mod FollowingLearn
+pub mod FollowingMarks
+pub mod FollowingNodes
+pub mod FollowingQuiet
 pub mod OwedAsks
 pub mod OwedCalls
 pub mod OwedChanges

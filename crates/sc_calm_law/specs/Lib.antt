@@ -1,6 +1,9 @@
 pub mod Births
 pub mod Clients
 pub mod Executing
+pub mod Following
+pub mod FollowingNodes
+pub mod FollowingRows
 pub mod Laws
 pub mod Nodes
 pub mod Owed
