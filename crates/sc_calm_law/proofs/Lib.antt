@@ -11,11 +11,12 @@ pub mod OwedKept
 pub mod OwedKnowing
 pub mod OwedLearn
 pub mod OwedLearnt
+pub mod OwedLed
 pub mod OwedLone
 pub mod OwedMade
 pub mod OwedMailed
-pub mod OwedOrders
 pub mod OwedNodes
+pub mod OwedOrders
 pub mod OwedParties
 pub mod OwedPump
 pub mod OwedRows

@@ -2,6 +2,7 @@ pub mod Births
 pub mod Clients
 pub mod Executing
 pub mod Laws
+pub mod Led
 pub mod Nodes
 pub mod Owed
 pub mod Parties

@@ -7,6 +7,7 @@ ghost use Rattle.sc_calm_law.specs.Births.{BornReplicasOwe, MadeReplicasOwe};
 ghost use Rattle.sc_calm_law.specs.Clients.{ClientsLower, GoneSendsOn, NotMineTeaches};
 ghost use Rattle.sc_calm_law.specs.Executing.{CallVotesLower, ExecutionsRaiseNothing, LoneEntriesArePaid, LoneVotesLower};
 ghost use Rattle.sc_calm_law.specs.Laws.{AnswersLower, AsksLower, ChangesRaiseNothing, CountedEntriesRaiseNothing, CountsLower, LeadersMayLeave, LearnsLower, LearntEntriesRaiseNothing, MovesLower, OldLearnsLower, OrdersRaiseLittle, PumpsRaiseNothing, VotesLower};
+ghost use Rattle.sc_calm_law.specs.Led.{EndsLeaveNone, LedLearnsLower, LedPartiesLower};
 ghost use Rattle.sc_calm_law.specs.Nodes.{NodesLower, NodesOweAsReplicas, NodesRaiseLittle};
 ghost use Rattle.sc_calm_law.specs.Parties.{PartiesLower, PartiesRaiseLittle};
 ghost use Rattle.sc_calm_law.specs.Quiet.{FirstMembersLead, ReplicasBeginAtRest};
@@ -180,4 +181,22 @@ pub fn parties_lower()
 /// groups takes, at most.
 pub fn parties_raise_little()
     ensures { PartiesRaiseLittle }
+{}
+
+/// An entry by which its group is gone makes none lead that learns it.
+pub fn ends_leave_none()
+    ensures { EndsLeaveNone }
+{}
+
+/// A replica that learns an entry and does not lead by it owes less by itself, whatever its group
+/// owes: also where its group is gone by the entry.
+pub fn led_learns_lower()
+    ensures { LedLearnsLower }
+{}
+
+/// Where another of its group leads or is gone, a mail by which a replica owes less by itself
+/// lowers what is owed by its node and by all groups, also where the replica goes by it: no group
+/// needs to be idle.
+pub fn led_parties_lower()
+    ensures { LedPartiesLower }
 {}
