@@ -21,6 +21,7 @@ pub mod OwedParties
 pub mod OwedPump
 pub mod OwedRows
 pub mod OwedServed
+pub mod OwedStrangers
 pub mod OwedSums
 pub mod OwedTransactions
 pub mod OwedVotes

@@ -7,3 +7,4 @@ pub mod Nodes
 pub mod Owed
 pub mod Parties
 pub mod Quiet
+pub mod Strangers

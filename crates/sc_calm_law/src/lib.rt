@@ -11,6 +11,7 @@ ghost use Rattle.sc_calm_law.specs.Led.{EndsLeaveNone, LedLearnsLower, LedPartie
 ghost use Rattle.sc_calm_law.specs.Nodes.{NodesLower, NodesOweAsReplicas, NodesRaiseLittle};
 ghost use Rattle.sc_calm_law.specs.Parties.{PartiesLower, PartiesRaiseLittle};
 ghost use Rattle.sc_calm_law.specs.Quiet.{FirstMembersLead, ReplicasBeginAtRest};
+ghost use Rattle.sc_calm_law.specs.Strangers.{StrangersLower};
 
 /// What a leader offers was owed: a pump raises nothing, where no report names an open slot and at
 /// most nine nodes decide each.
@@ -199,4 +200,12 @@ pub fn led_learns_lower()
 /// needs to be idle.
 pub fn led_parties_lower()
     ensures { LedPartiesLower }
+{}
+
+/// Mail that no replica of a node takes lowers what is owed by the node and by all groups: it is
+/// for no group, comes from one who sends none such, or is for a group of which the node has no
+/// replica, also where it makes one of a state that it is sent, which does not lead where another
+/// of its group does.
+pub fn strangers_lower()
+    ensures { StrangersLower }
 {}
