@@ -23,6 +23,7 @@ pub mod OwedRows
 pub mod OwedServed
 pub mod OwedStrangers
 pub mod OwedSums
+pub mod OwedTotals
 pub mod OwedTransactions
 pub mod OwedVotes
 pub mod QuietBirth

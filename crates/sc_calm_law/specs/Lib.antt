@@ -8,3 +8,4 @@ pub mod Owed
 pub mod Parties
 pub mod Quiet
 pub mod Strangers
+pub mod Totals

@@ -12,6 +12,7 @@ ghost use Rattle.sc_calm_law.specs.Nodes.{NodesLower, NodesOweAsReplicas, NodesR
 ghost use Rattle.sc_calm_law.specs.Parties.{PartiesLower, PartiesRaiseLittle};
 ghost use Rattle.sc_calm_law.specs.Quiet.{FirstMembersLead, ReplicasBeginAtRest};
 ghost use Rattle.sc_calm_law.specs.Strangers.{StrangersLower};
+ghost use Rattle.sc_calm_law.specs.Totals.{TotalsChangeAsParties};
 
 /// What a leader offers was owed: a pump raises nothing, where no report names an open slot and at
 /// most nine nodes decide each.
@@ -208,4 +209,10 @@ pub fn led_parties_lower()
 /// of its group does.
 pub fn strangers_lower()
     ensures { StrangersLower }
+{}
+
+/// A row of a node changes what all nodes and groups owe as it changes what the node owes among
+/// the others, where a group is led elsewhere if its replica runs or is gone at another node.
+pub fn totals_change_as_parties()
+    ensures { TotalsChangeAsParties }
 {}
