@@ -1,6 +1,7 @@
 pub mod OwedAsks
 pub mod OwedCalls
 pub mod OwedChanges
+pub mod OwedCharts
 pub mod OwedClients
 pub mod OwedCounted
 pub mod OwedEnds
@@ -19,6 +20,7 @@ pub mod OwedNodes
 pub mod OwedOrders
 pub mod OwedParties
 pub mod OwedPump
+pub mod OwedReach
 pub mod OwedRows
 pub mod OwedServed
 pub mod OwedStrangers

@@ -1,4 +1,5 @@
 pub mod Births
+pub mod Charts
 pub mod Clients
 pub mod Executing
 pub mod Laws
@@ -7,5 +8,6 @@ pub mod Nodes
 pub mod Owed
 pub mod Parties
 pub mod Quiet
+pub mod Reach
 pub mod Strangers
 pub mod Totals

@@ -4,6 +4,7 @@
 #![tactic(auto)]
 
 ghost use Rattle.sc_calm_law.specs.Births.{BornReplicasOwe, MadeReplicasOwe};
+ghost use Rattle.sc_calm_law.specs.Charts.{ChartsMayChange};
 ghost use Rattle.sc_calm_law.specs.Clients.{ClientsLower, GoneSendsOn, NotMineTeaches};
 ghost use Rattle.sc_calm_law.specs.Executing.{CallVotesLower, ExecutionsRaiseNothing, LoneEntriesArePaid, LoneVotesLower};
 ghost use Rattle.sc_calm_law.specs.Laws.{AnswersLower, AsksLower, ChangesRaiseNothing, CountedEntriesRaiseNothing, CountsLower, LeadersMayLeave, LearnsLower, LearntEntriesRaiseNothing, MovesLower, OldLearnsLower, OrdersRaiseLittle, PumpsRaiseNothing, VotesLower};
@@ -11,6 +12,7 @@ ghost use Rattle.sc_calm_law.specs.Led.{EndsLeaveNone, LedLearnsLower, LedPartie
 ghost use Rattle.sc_calm_law.specs.Nodes.{NodesLower, NodesOweAsReplicas, NodesRaiseLittle};
 ghost use Rattle.sc_calm_law.specs.Parties.{PartiesLower, PartiesRaiseLittle};
 ghost use Rattle.sc_calm_law.specs.Quiet.{FirstMembersLead, ReplicasBeginAtRest};
+ghost use Rattle.sc_calm_law.specs.Reach.{ClientsPay};
 ghost use Rattle.sc_calm_law.specs.Strangers.{StrangersLower};
 ghost use Rattle.sc_calm_law.specs.Totals.{TotalsChangeAsParties};
 
@@ -215,4 +217,17 @@ pub fn strangers_lower()
 /// the others, where a group is led elsewhere if its replica runs or is gone at another node.
 pub fn totals_change_as_parties()
     ensures { TotalsChangeAsParties }
+{}
+
+/// A client that goes raises nothing that is owed, and each answer lowers it, where a client owes
+/// besides for each group that stands and that it does not know, and for each end by which a group
+/// that it knows is away from one that stands.
+pub fn clients_pay()
+    ensures { ClientsPay }
+{}
+
+/// What is owed may be counted by another chart after a row: where no mail under way and no client
+/// owes more by it, and the groups that come into it are led, all owe no more by it.
+pub fn charts_may_change()
+    ensures { ChartsMayChange }
 {}
