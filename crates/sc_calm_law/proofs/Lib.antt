@@ -8,6 +8,7 @@ pub mod OwedEnds
 pub mod OwedExecuting
 pub mod OwedIdle
 pub mod OwedInstalls
+pub mod OwedKeeping
 pub mod OwedKept
 pub mod OwedKnowing
 pub mod OwedLearn
@@ -21,6 +22,7 @@ pub mod OwedOrders
 pub mod OwedParties
 pub mod OwedPump
 pub mod OwedReach
+pub mod OwedResting
 pub mod OwedRows
 pub mod OwedServed
 pub mod OwedStrangers

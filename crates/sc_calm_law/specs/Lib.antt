@@ -2,6 +2,7 @@ pub mod Births
 pub mod Charts
 pub mod Clients
 pub mod Executing
+pub mod Keeping
 pub mod Laws
 pub mod Led
 pub mod Nodes
@@ -9,5 +10,6 @@ pub mod Owed
 pub mod Parties
 pub mod Quiet
 pub mod Reach
+pub mod Resting
 pub mod Strangers
 pub mod Totals

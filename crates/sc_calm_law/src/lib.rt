@@ -7,12 +7,14 @@ ghost use Rattle.sc_calm_law.specs.Births.{BornReplicasOwe, MadeReplicasOwe};
 ghost use Rattle.sc_calm_law.specs.Charts.{ChartsMayChange};
 ghost use Rattle.sc_calm_law.specs.Clients.{ClientsLower, GoneSendsOn, NotMineTeaches};
 ghost use Rattle.sc_calm_law.specs.Executing.{CallVotesLower, ExecutionsRaiseNothing, LoneEntriesArePaid, LoneVotesLower};
+ghost use Rattle.sc_calm_law.specs.Keeping.{KeptCalmIsMeasured, TakenMailLowers};
 ghost use Rattle.sc_calm_law.specs.Laws.{AnswersLower, AsksLower, ChangesRaiseNothing, CountedEntriesRaiseNothing, CountsLower, LeadersMayLeave, LearnsLower, LearntEntriesRaiseNothing, MovesLower, OldLearnsLower, OrdersRaiseLittle, PumpsRaiseNothing, VotesLower};
 ghost use Rattle.sc_calm_law.specs.Led.{EndsLeaveNone, LedLearnsLower, LedPartiesLower};
 ghost use Rattle.sc_calm_law.specs.Nodes.{NodesLower, NodesOweAsReplicas, NodesRaiseLittle};
 ghost use Rattle.sc_calm_law.specs.Parties.{PartiesLower, PartiesRaiseLittle};
 ghost use Rattle.sc_calm_law.specs.Quiet.{FirstMembersLead, ReplicasBeginAtRest};
 ghost use Rattle.sc_calm_law.specs.Reach.{ClientsPay};
+ghost use Rattle.sc_calm_law.specs.Resting.{KeptCalmEndsQuiet, RestingOwesLittle};
 ghost use Rattle.sc_calm_law.specs.Strangers.{StrangersLower};
 ghost use Rattle.sc_calm_law.specs.Totals.{TotalsChangeAsParties};
 
@@ -230,4 +232,28 @@ pub fn clients_pay()
 /// owes more by it, and the groups that come into it are led, all owe no more by it.
 pub fn charts_may_change()
     ensures { ChartsMayChange }
+{}
+
+/// A mail lowers what is owed at the replica that takes it, where the replica is as mail of its kind
+/// finds it in a calm journal.
+pub fn taken_mail_lowers()
+    ensures { TakenMailLowers }
+{}
+
+/// Where each row of journals that tell at most so many orders finds what it needs, what all
+/// players, groups and mail under way owe is a measure: a delivery lowers it, an order raises it by
+/// what a transaction with two other groups takes at most, and a client that goes raises nothing.
+pub fn kept_calm_is_measured()
+    ensures { KeptCalmIsMeasured }
+{}
+
+/// In a quiet journal that rests, no more is owed than clients owe at their births.
+pub fn resting_owes_little()
+    ensures { RestingOwesLittle }
+{}
+
+/// Where rows keep calm and quiet journals rest, no line of deliveries is cut off that has room for
+/// what is owed at birth and what one order raises, if orders stand alone between such lines.
+pub fn kept_calm_ends_quiet()
+    ensures { KeptCalmEndsQuiet }
 {}
