@@ -1,15 +1,14 @@
 -- By a chart that follows another no more is owed.
-use Rattle.std.proofs.Common.{◌≡◌, ℕ, ◌+◌, ◌≤◌, Bool, true, cond, List, [], ◌∷◌, ◌++◌, sum_by, ap, arith}
+use Rattle.std.proofs.Common.{◌≡◌, ℕ, ◌≤◌, true, cond, List, [], ◌∷◌, sum_by, ap, arith}
 use Rattle.std.proofs.lemmas.List.Sums.{sum_by-cons, sum_by-append}
 use Rattle.sc_base.specs.Among.{Each}
 use Rattle.sc_base.specs.declared.names.Draw.{Draw}
-use Rattle.sc_mail.specs.declared.bodies.Mail.{Mail}
 use Rattle.sc_mail.specs.declared.roles.Role.TheVariants.{Node, Client}
 use Rattle.sc_actor.specs.declared.actors.Seat.{Seat}
 use Rattle.sc_actor.specs.Replay.{value}
 use Rattle.sc_orderly_law.specs.Owing.{under_way}
 use Rattle.sc_sound.specs.Players.{Player, player_table}
-use Rattle.sc_calm_law.specs.Charts.{players, Chart, player_owes, run_owes, SeeksNoMore, MayFollow, ChartsMayChange}
+use Rattle.sc_calm_law.specs.Charts.{players, Chart, player_owes, SeeksNoMore, ChartsMayChange}
 use Rattle.sc_calm_law.specs.Nodes.{node_owes}
 use Rattle.sc_calm_law.specs.Owed.{mail_owes, election}
 use Rattle.sc_calm_law.specs.Totals.{Rows, is_led, group_idles}

@@ -1,5 +1,5 @@
 -- A row that finds what it needs lowers what is owed, where it delivers, and raises it little, where it tells an order.
-use Rattle.std.proofs.Common.{◌≡◌, ℕ, ◌+◌, ◌*◌, ◌≤◌, eqb, true, false, true≢false, cond, List, [], ◌∷◌, ◌++◌, sum_by, find, Option, Some, None, inl, inr, refl, sym, ◌∙◌, ap, subst, arith}
+use Rattle.std.proofs.Common.{◌≡◌, ℕ, ◌+◌, ◌*◌, ◌≤◌, eqb, true, true≢false, cond, List, [], ◌∷◌, ◌++◌, sum_by, find, Some, None, inl, inr, refl, sym, ◌∙◌, ap, subst, arith}
 use Rattle.std.specs.List.{filter}
 use Rattle.std.specs.Option.{option_map}
 use Rattle.std.proofs.lemmas.List.Sums.{sum_by-append}
@@ -18,23 +18,21 @@ use Rattle.sc_actor.specs.declared.rows.Row.{Row}
 use Rattle.sc_actor.specs.Mail.{mails, copies, counts_at, is_delivery}
 use Rattle.sc_actor.specs.Replay.{value, acted, input_of}
 use Rattle.sc_actor.specs.System.{are_apart, row_of}
-use Rattle.sc_actor.specs.Walk.{is_quiet}
 use Rattle.sc_actor.proofs.PendingLemmas.{waiting_one}
 use Rattle.sc_orderly_law.specs.Orderly.{IsCalmEvent, mail_with, is_born, is_told, orders}
 use Rattle.sc_orderly_law.specs.Owing.{under_way}
-use Rattle.sc_orderly_law.specs.Timely.{AreInTime, IsMeasure}
+use Rattle.sc_orderly_law.specs.Timely.{AreInTime}
 use Rattle.sc_orderly_law.proofs.InTime.{by_time, in_time_before, last_in_time}
 use Rattle.sc_orderly_law.proofs.Paying.{count_push, delivered}
 use Rattle.sc_orderly_law.proofs.Rests.{filter_sum}
 use Rattle.sc_orderly_law.proofs.Resting.{after-row, is_born-from}
-use Rattle.sc_node_table.specs.Node.{NodeState, replica_of, on_mail, group_of_order, ordered_of, on_order}
-use Rattle.sc_node_table.specs.Replica.{ReplicaState, name_of}
+use Rattle.sc_node_table.specs.Node.{NodeState, on_mail, ordered_of, on_order}
 use Rattle.sc_client_table.specs.Client.{Client as ClientState}
 use Rattle.sc_client_table.specs.Table.{started, got}
 use Rattle.sc_sound.specs.Players.{Player, player_table, receiver_of}
 use Rattle.sc_calm_law.specs.Charts.{players, Chart, player_owes, run_owes}
 use Rattle.sc_calm_law.specs.Executing.{AreBounded}
-use Rattle.sc_calm_law.specs.Keeping.{MayTake, TakenMailLowers, IsCalmMailAt, Takes, Learns, Makes, Misses, Strays, IsBarred, IsCalmFor, MayGoNow, MayBeTold, FindsCalm, KeepCalm, KeptCalmIsMeasured}
+use Rattle.sc_calm_law.specs.Keeping.{TakenMailLowers, IsCalmMailAt, Takes, Learns, Makes, Misses, Strays, IsBarred, IsCalmFor, MayGoNow, MayBeTold, FindsCalm, KeepCalm, KeptCalmIsMeasured}
 use Rattle.sc_calm_law.specs.Laws.{Lowers, Points}
 use Rattle.sc_calm_law.specs.Led.{LowersLed}
 use Rattle.sc_calm_law.specs.Owed.{Ways, body_owes, mail_owes}

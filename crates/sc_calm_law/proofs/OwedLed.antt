@@ -1,5 +1,5 @@
 -- A replica of whose group another leads or is gone: what it learns lowers what is owed but for what its group owes.
-use Rattle.std.proofs.Common.{◌≡◌, ℕ, ◌+◌, ◌-◌, ◌^◌, ◌≤◌, eqb, ltb, Bool, true, false, true≢false, cond, List, [], sum_by, Option, Some, None, refl, ◌∙◌, ap, arith}
+use Rattle.std.proofs.Common.{◌≡◌, ℕ, ◌+◌, ◌-◌, ◌^◌, ◌≤◌, eqb, ltb, Bool, true, false, true≢false, cond, List, [], Option, Some, None, refl, ◌∙◌, ap, arith}
 use Rattle.std.proofs.lemmas.Bool.{ltb-true}
 use Rattle.sc_base.specs.declared.names.Ballot.{Ballot}
 use Rattle.sc_cmd.specs.declared.commands.Command.{Command}
@@ -16,7 +16,7 @@ use Rattle.sc_node_table.specs.Pump.{pumped}
 use Rattle.sc_node_table.specs.Replica.{ReplicaState, Place, Executed, childless, name_of, next, members, last_slot}
 use Rattle.sc_node_table.specs.Rows.{learn_row, mailed}
 use Rattle.sc_calm_law.specs.Led.{led_owes, StaysBehind, EndsLeaveNone, LearnsLed, LedLearnsLower}
-use Rattle.sc_calm_law.specs.Owed.{Ways, mail_owes}
+use Rattle.sc_calm_law.specs.Owed.{Ways}
 use Rattle.sc_calm_law.proofs.OwedEnds.{looked_gone}
 use Rattle.sc_calm_law.proofs.OwedExecuting.{near}
 use Rattle.sc_calm_law.proofs.OwedLearn.{idle_ready, idle_pump}

@@ -1,7 +1,7 @@
 -- What a client owes with what it owes for groups that it does not know: each answer lowers it.
-use Rattle.std.proofs.Common.{◌≡◌, ℕ, zero, suc, ◌+◌, ◌-◌, ◌*◌, ◌≤◌, leb, ltb, eqb, Bool, true, false, true≢false, cond, List, [], ◌∷◌, ◌++◌, length, sum_by, Option, Some, None, refl, sym, ◌∙◌, ap, arith}
+use Rattle.std.proofs.Common.{◌≡◌, ℕ, zero, suc, ◌+◌, ◌*◌, ◌≤◌, leb, ltb, eqb, Bool, true, false, true≢false, cond, List, [], ◌∷◌, ◌++◌, length, sum_by, Option, Some, None, refl, sym, ◌∙◌, ap, arith}
 use Rattle.std.specs.Prelude.{is_some}
-use Rattle.std.specs.Map.{lookup, set_value}
+use Rattle.std.specs.Map.{set_value}
 use Rattle.std.proofs.lemmas.Bool.{eqb-true, leb-true, leb-false, ltb-true, ltb-false}
 use Rattle.std.proofs.lemmas.List.{length_push}
 use Rattle.std.proofs.lemmas.List.Sums.{sum_by-cons, sum_by_push}
@@ -22,10 +22,10 @@ use Rattle.sc_mail.specs.declared.bodies.AnswerBody.{AnswerBody}
 use Rattle.sc_mail.specs.declared.bodies.AnswerBody.TheVariants as Says
 use Rattle.sc_mail.specs.declared.bodies.MailBody.TheVariants.{Answer}
 use Rattle.sc_client_table.specs.Client.{Client as ClientState, waiting_request}
-use Rattle.sc_client_table.specs.Table.{ClientStep, asked_of, sent_to, sent_where, chosen_for, request_sent, started, waits_for, was_asked, redirected, got}
-use Rattle.sc_calm_law.specs.Clients.{waiting_one, requests_owe, step_owes, AsksWithin, IsInTurn, unknown_one, unknown}
+use Rattle.sc_client_table.specs.Table.{ClientStep, asked_of, sent_where, chosen_for, request_sent, started, waits_for, was_asked, redirected, got}
+use Rattle.sc_calm_law.specs.Clients.{waiting_one, requests_owe, step_owes, IsInTurn, unknown_one, unknown}
 use Rattle.sc_calm_law.specs.Executing.{AreBounded}
-use Rattle.sc_calm_law.specs.Owed.{Ways, answer_owes, mail_owes}
+use Rattle.sc_calm_law.specs.Owed.{Ways, answer_owes}
 use Rattle.sc_calm_law.specs.Reach.{Reach, sent_on, search_owes, client_owes, client_turn_owes, IsUnbegun, LearnsOf, LeavesFor, MayHear, ClientsPay}
 use Rattle.sc_calm_law.proofs.OwedClients.{clients, request_owes}
 use Rattle.sc_calm_law.proofs.OwedKnowing.{set_knows, sent_knows, told_one, gone_one, gone_known}

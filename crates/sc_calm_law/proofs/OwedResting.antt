@@ -1,39 +1,34 @@
 -- In quiet journals that rest only clients owe, and no more than at their births.
-use Rattle.std.proofs.Common.{◌≡◌, ℕ, zero, suc, ◌+◌, ◌-◌, ◌*◌, ◌≤◌, eqb, ltb, ◌&&◌, not, Bool, true, false, true≢false, cond, List, [], ◌∷◌, ◌++◌, length, replicate, sum_by, Option, Some, None, refl, sym, ◌∙◌, ap, arith}
+use Rattle.std.proofs.Common.{◌≡◌, ℕ, zero, suc, ◌+◌, ◌*◌, ◌≤◌, eqb, ltb, Bool, true, false, true≢false, cond, List, [], ◌∷◌, ◌++◌, length, replicate, sum_by, Option, Some, None, refl, sym, ◌∙◌, ap, arith}
 use Rattle.std.specs.Prelude.{slice_get, is_none}
 use Rattle.std.proofs.lemmas.Bool.{ltb-true, ltb-false}
 use Rattle.std.proofs.lemmas.List.Sums.{sum_by-cons}
 use Rattle.sc_base.specs.Among.{Each}
-use Rattle.sc_cmd.specs.declared.commands.Command.{Command}
 use Rattle.sc_cmd.specs.declared.orders.OrderLine.{OrderLine}
 use Rattle.sc_mail.specs.declared.bodies.Mail.{Mail}
 use Rattle.sc_mail.specs.declared.roles.Role.TheVariants.{Node, Client}
 use Rattle.sc_actor.specs.declared.actors.Seat.{Seat}
 use Rattle.sc_actor.specs.declared.rows.Input.{Input}
-use Rattle.sc_actor.specs.declared.rows.Row.{Row}
-use Rattle.sc_actor.specs.Mail.{mails, copies, numbers, may_get, is_for}
+use Rattle.sc_actor.specs.Mail.{mails, copies, numbers, is_for}
 use Rattle.sc_actor.specs.Replay.{value, replay, acted, input_of}
 use Rattle.sc_actor.specs.System.{numbers_of}
 use Rattle.sc_actor.specs.Walk.{is_quiet}
 use Rattle.sc_actor.proofs.PendingLemmas.{wide_none}
 use Rattle.sc_orderly_law.specs.Orderly.{IsTidy, mail_with, is_born}
 use Rattle.sc_orderly_law.specs.Owing.{under_way}
-use Rattle.sc_orderly_law.specs.Timely.{AreInTime, orders_given}
+use Rattle.sc_orderly_law.specs.Timely.{orders_given}
 use Rattle.sc_orderly_law.proofs.InTime.{in_time_tidy}
 use Rattle.sc_orderly_law.proofs.Resting.{may-born}
 use Rattle.sc_orderly_law.proofs.Timing.{ends_quiet}
-use Rattle.sc_paxos_words.specs.declared.flights.Flight.{Flight}
 use Rattle.sc_node_table.specs.Replica.{ReplicaState}
 use Rattle.sc_client_table.proofs.TurnLemmas.{sends_in_turn}
-use Rattle.sc_client_table.specs.Client.{Client as ClientState}
 use Rattle.sc_sound.specs.Players.{Player, player_table, receiver_of}
 use Rattle.sc_calm_law.specs.Charts.{players, Chart, player_owes, run_owes}
-use Rattle.sc_calm_law.specs.Clients.{waiting_one, requests_owe}
-use Rattle.sc_calm_law.specs.Nodes.{node_owes}
+use Rattle.sc_calm_law.specs.Clients.{waiting_one}
 use Rattle.sc_calm_law.specs.Owed.{command_owes, mail_owes, flights_owe, ready_owes, replica_owes}
 use Rattle.sc_calm_law.specs.Quiet.{IsAtRest}
 use Rattle.sc_calm_law.specs.Reach.{search_owes}
-use Rattle.sc_calm_law.specs.Resting.{IsResting, RestsCalm, birth_owes, births_owe, RestingOwesLittle, KeptCalmEndsQuiet}
+use Rattle.sc_calm_law.specs.Resting.{IsResting, birth_owes, births_owe, RestingOwesLittle, KeptCalmEndsQuiet}
 use Rattle.sc_calm_law.specs.Totals.{Rows}
 use Rattle.sc_calm_law.proofs.OwedCharts.{led_idle}
 use Rattle.sc_calm_law.proofs.OwedKeeping.{kept_calm}

@@ -1,5 +1,5 @@
 -- A node among others, and mail that no replica of it takes: it stays as it is, or makes a replica.
-use Rattle.std.proofs.Common.{◌≡◌, ℕ, ◌+◌, ◌-◌, ◌^◌, ◌≤◌, ◌==◌, ◌||◌, not, eqb, Bool, true, false, true≢false, cond, List, [], ◌∷◌, length, sum_by, Option, Some, None, nat_lt, inl, inr, refl, sym, ◌∙◌, ap, arith}
+use Rattle.std.proofs.Common.{◌≡◌, ℕ, ◌+◌, ◌-◌, ◌^◌, ◌≤◌, ◌==◌, ◌||◌, not, eqb, Bool, true, false, true≢false, cond, List, [], ◌∷◌, length, Option, Some, None, nat_lt, inl, inr, refl, sym, ◌∙◌, ap, arith}
 use Rattle.std.proofs.lemmas.Bool.{cond_both, cond-true, cond-false, cases_Bool}
 use Rattle.sc_base.specs.Same.{same_draw}
 use Rattle.sc_base.specs.declared.names.Ballot.{Ballot}
@@ -22,8 +22,8 @@ use Rattle.sc_node_table.specs.Replica.{ReplicaState, Place, name_of, next, memb
 use Rattle.sc_node_table.specs.Rows.{looked_up, made_by}
 use Rattle.sc_node_table.specs.Slots.{slots_ahead}
 use Rattle.sc_calm_law.specs.Led.{led_owes}
-use Rattle.sc_calm_law.specs.Nodes.{group_owes, turn_owes, node_owes, IsDelivered, MayMiss}
-use Rattle.sc_calm_law.specs.Owed.{Ways, mail_owes, idle_owes}
+use Rattle.sc_calm_law.specs.Nodes.{IsDelivered, MayMiss}
+use Rattle.sc_calm_law.specs.Owed.{Ways}
 use Rattle.sc_calm_law.specs.Parties.{idle_with, Elsewhere, groups_owe, party_owes, party_turn_owes, StandsOnce}
 use Rattle.sc_calm_law.specs.Strangers.{PartyLowers, IsMadeBehind, StrangersLower}
 use Rattle.sc_calm_law.proofs.OwedLed.{looked_led}

@@ -1,5 +1,5 @@
 -- What all players and groups owe: a row changes it as it changes one player among the others.
-use Rattle.std.proofs.Common.{◌≡◌, ℕ, ◌+◌, ◌≤◌, eqb, eq-eqb, ◌&&◌, ◌||◌, not, Bool, true, false, true≢false, cond, List, [], ◌∷◌, ◌++◌, sum_by, find, Option, Some, None, refl, sym, ◌∙◌, ap, arith}
+use Rattle.std.proofs.Common.{◌≡◌, ℕ, ◌+◌, eqb, eq-eqb, ◌&&◌, ◌||◌, not, Bool, true, false, true≢false, cond, List, [], ◌∷◌, ◌++◌, sum_by, find, Option, Some, None, refl, sym, ◌∙◌, ap, arith}
 use Rattle.std.specs.Prelude.{is_some}
 use Rattle.std.specs.List.{list_any}
 use Rattle.std.proofs.lemmas.Bool.{eqb-true, and_parts, or_parts, not-true}
@@ -7,7 +7,7 @@ use Rattle.std.proofs.lemmas.List.Sums.{sum_by-cons}
 use Rattle.sc_base.specs.declared.names.Draw.{Draw}
 use Rattle.sc_cmd.specs.declared.links.Route.{Route}
 use Rattle.sc_cmd.specs.declared.orders.OrderLine.{OrderLine}
-use Rattle.sc_mail.specs.declared.roles.Role.TheVariants.{Node, Client}
+use Rattle.sc_mail.specs.declared.roles.Role.TheVariants.{Node}
 use Rattle.sc_actor.specs.declared.actors.Seat.{Seat}
 use Rattle.sc_actor.specs.declared.rows.Event.{Event}
 use Rattle.sc_actor.specs.Mail.{mails}
@@ -18,9 +18,9 @@ use Rattle.sc_node_table.specs.Node.{NodeState, replica_of}
 use Rattle.sc_node_table.specs.Replica.{ReplicaState}
 use Rattle.sc_orderly_law.proofs.Seats.{one_changes}
 use Rattle.sc_sound.specs.Players.{Player, player_table}
-use Rattle.sc_calm_law.specs.Owed.{Ways, idle_owes, election}
-use Rattle.sc_calm_law.specs.Parties.{idle_with, Elsewhere, groups_owe, party_owes}
-use Rattle.sc_calm_law.specs.Totals.{Rows, is_leading, leads, is_led, led_elsewhere, group_idles, players_owe, node_part, nodes_owe, TotalsChangeAsParties}
+use Rattle.sc_calm_law.specs.Owed.{idle_owes, election}
+use Rattle.sc_calm_law.specs.Parties.{idle_with, Elsewhere, groups_owe}
+use Rattle.sc_calm_law.specs.Totals.{Rows, is_leading, leads, is_led, led_elsewhere, group_idles, players_owe, node_part, TotalsChangeAsParties}
 
 -- ---- any of some seats, of which one stands apart
 

@@ -1,5 +1,5 @@
 -- What is owed in quiet journals that rest, and that calm journals which keep what they need end quiet.
-use Rattle.std.specs.Prelude.{◌≡◌, ℕ, ◌+◌, ◌*◌, ◌≤◌, nat_lt, true, false, List, [], ◌∷◌, ◌++◌, length, sum_by, None, if◌then◌else◌}
+use Rattle.std.specs.Prelude.{◌≡◌, ℕ, ◌+◌, ◌*◌, ◌≤◌, nat_lt, true, false, List, [], length, sum_by, None, if◌then◌else◌}
 use Rattle.sc_base.specs.Among.{Each}
 use Rattle.sc_cmd.specs.declared.orders.OrderLine.{OrderLine}
 use Rattle.sc_mail.specs.declared.roles.Role.TheVariants.{Node, Client}
