@@ -101,7 +101,7 @@ pub record MakesCalmly (groups : List Draw) (elsewhere : Elsewhere) (from : ℕ)
   pub body_is : body ≡ Install group slot base sets
   pub behind : IsMadeBehind elsewhere from group slot base sets node
 
--- one that misses its replica is sent nothing that it would have to answer at length
+-- a node without replica of the group, and mail after which less is owed at such a one
 pub record MissesCalmly (group : Draw) (body : MailBody) (node : NodeState) : Type 0 where
   pub named : group_of_mail body ≡ Some group
   pub none : replica_of group node.replicas ≡ None
