@@ -4,11 +4,12 @@ use Rattle.std.specs.Prelude.{is_some}
 use Rattle.std.specs.Map.{lookup, set_value}
 use Rattle.std.proofs.lemmas.List.Sums.{sum_by-cons}
 use Rattle.sc_base.specs.Among.{Among}
-use Rattle.sc_base.specs.Arc.{end_of}
+use Rattle.sc_base.specs.Arc.{Arc, end_of}
 use Rattle.sc_base.specs.Same.{same_draw}
 use Rattle.sc_base.specs.declared.names.Draw.{Draw}
 use Rattle.sc_base.specs.declared.ops.Op.{Op}
 use Rattle.sc_base.proofs.NameLemmas.{same_name}
+use Rattle.sc_cmd.specs.declared.links.Link.{Link}
 use Rattle.sc_cmd.specs.declared.links.Route.{Route}
 use Rattle.sc_lookup.specs.Known.{KnownGroups, way_to, target_in, changed, starting, group_learnt, told_not_mine, told_gone}
 use Rattle.sc_lookup.specs.Ways.{new_way}
@@ -16,12 +17,14 @@ use Rattle.sc_lookup.specs.declared.ways.Way.{Way}
 use Rattle.sc_client_table.specs.Client.{Client as ClientState, waiting_request}
 use Rattle.sc_client_table.specs.Table.{ClientStep, asked_of, sent_where, chosen_for, request_sent, waits_for, was_asked}
 use Rattle.sc_calm_law.specs.Clients.{unknown_one, unknown, IsToldOne, NotMineTeaches, IsSentOn, GoneSendsOn}
+use Rattle.sc_calm_law.specs.Executing.{AreBounded}
+use Rattle.sc_calm_law.specs.Owed.{Ways}
 use Rattle.sc_calm_law.proofs.OwedClients.{request_owes}
 
 -- ---- whom a client knows
 
 -- another value of a known group leaves what is known
-set_knows : (test other : Draw → Bool) (known : KnownGroups) (way : Way) → is_some (lookup other (set_value test known way)) ≡ is_some (lookup other known)
+pub set_knows : (test other : Draw → Bool) (known : KnownGroups) (way : Way) → is_some (lookup other (set_value test known way)) ≡ is_some (lookup other known)
 set_knows test other [] way = refl
 set_knows test other (k ∷ ks) way = by (test k.0) (set_knows test other ks way)
   where
@@ -124,12 +127,21 @@ asked_knows client group (Some target) (Some request) = refl
 asked_knows client group (Some target) None = refl
 asked_knows client group None request = refl
 
-sent_knows : (client : ClientState) (o : Option Draw) → (sent_where client o).0.known ≡ client.known
+pub sent_knows : (client : ClientState) (o : Option Draw) → (sent_where client o).0.known ≡ client.known
 sent_knows client None = refl
 sent_knows client (Some group) = asked_knows client group (target_in group client.known) (waiting_request client)
 
-pub not_mine_teaches : NotMineTeaches
-not_mine_teaches ways groups from seq group arc succ client bounded told = by (waits_for client.waiting seq) refl (was_asked client.asked from group) refl
+-- one that learns of another group
+pub told_one : (ways : Ways) (groups : List Draw) (group : Draw) (arc : Arc) (succ : Link) (client : ClientState) → AreBounded ways → Among succ.group groups → way_to succ.group client.known ≡ None
+    → IsToldOne ways groups group arc succ client (request_sent (record client { known = told_not_mine group arc succ client.known }))
+told_one ways groups group arc succ client bounded a none =
+    let le = request_owes ways ways.most after (λ g node e. bounded g node) in
+    let keeps : (g : Draw) → is_some (way_to g client.known) ≡ true → is_some (way_to g (told_not_mine group arc succ client.known)) ≡ true = λ g e. learnt_knows succ.group (end_of arc) succ.members middle g (starting_knows g group arc.lo client.known ∙ e) in
+    let was : unknown_one client.known succ.group ≡ 1 = ap (λ (o : Option Way). cond (is_some o) 0 1) none in
+    let is : unknown_one (told_not_mine group arc succ client.known) succ.group ≡ 0 = known_one (told_not_mine group arc succ client.known) succ.group (learnt_known succ.group (end_of arc) succ.members middle) in
+    let few = one_fewer client.known (told_not_mine group arc succ client.known) keeps groups succ.group a was is in
+    let same = ap (unknown groups) (sent_knows after (chosen_for after (waiting_request after))) in
+    (omega (arith, le), omega (arith, few, same))
   where
     middle : KnownGroups
     middle = starting group arc.lo client.known
@@ -137,28 +149,34 @@ not_mine_teaches ways groups from seq group arc succ client bounded told = by (w
     after : ClientState
     after = record client { known = told_not_mine group arc succ client.known }
 
-    taught : Among succ.group groups → way_to succ.group client.known ≡ None → IsToldOne ways groups group arc succ client (request_sent after)
-    taught a none =
-        let le = request_owes ways ways.most after (λ g node e. bounded g node) in
-        let keeps : (g : Draw) → is_some (way_to g client.known) ≡ true → is_some (way_to g (told_not_mine group arc succ client.known)) ≡ true = λ g e. learnt_knows succ.group (end_of arc) succ.members middle g (starting_knows g group arc.lo client.known ∙ e) in
-        let was : unknown_one client.known succ.group ≡ 1 = ap (λ (o : Option Way). cond (is_some o) 0 1) none in
-        let is : unknown_one (told_not_mine group arc succ client.known) succ.group ≡ 0 = known_one (told_not_mine group arc succ client.known) succ.group (learnt_known succ.group (end_of arc) succ.members middle) in
-        let few = one_fewer client.known (told_not_mine group arc succ client.known) keeps groups succ.group a was is in
-        let same = ap (unknown groups) (sent_knows after (chosen_for after (waiting_request after))) in
-        (omega (arith, le), omega (arith, few, same))
+pub not_mine_teaches : NotMineTeaches
+not_mine_teaches ways groups from seq group arc succ client bounded told = by (waits_for client.waiting seq) refl (was_asked client.asked from group) refl
+  where
+    after : ClientState
+    after = record client { known = told_not_mine group arc succ client.known }
 
     by : (b : Bool) → waits_for client.waiting seq ≡ b → (c : Bool) → was_asked client.asked from group ≡ c →
         (cond {A = ClientStep} b (cond c (request_sent after) (client, [])) (client, []) ≡ (client, [])) ⊎ IsToldOne ways groups group arc succ client (cond {A = ClientStep} b (cond c (request_sent after) (client, [])) (client, []))
-    by true waits true asked = let both = told waits asked in inr (taught both.0 both.1)
+    by true waits true asked = let both = told waits asked in inr (told_one ways groups group arc succ client bounded both.0 both.1)
     by true waits false asked = inl refl
     by false waits c asked = inl refl
 
 -- ---- an answer that the group is gone
 
-gone_known : (group : Draw) (into : Route) (way : Way) (known : KnownGroups) → known ≡ (group, way) ∷ [] → told_gone group into known ≡ (into.group, new_way into.lo into.members) ∷ []
+pub gone_known : (group : Draw) (into : Route) (way : Way) (known : KnownGroups) → known ≡ (group, way) ∷ [] → told_gone group into known ≡ (into.group, new_way into.lo into.members) ∷ []
 gone_known group into way known is =
     ap (told_gone group into) is
     ∙ ap (λ b. group_learnt into.group into.lo into.members (cond {A = KnownGroups} b [] ((group, way) ∷ []))) (same_name group group refl)
+
+-- one that leaves a group for another
+pub gone_one : (ways : Ways) (group : Draw) (into : Route) (way : Way) (client : ClientState) → AreBounded ways → client.known ≡ (group, way) ∷ []
+    → IsSentOn ways group into client (request_sent (record client { known = told_gone group into client.known }))
+gone_one ways group into way client bounded is =
+    let le = request_owes ways ways.most after (λ g node e. bounded g node) in
+    (omega (arith, le), sent_knows after (chosen_for after (waiting_request after)) ∙ gone_known group into way client.known is)
+  where
+    after : ClientState
+    after = record client { known = told_gone group into client.known }
 
 pub gone_sends_on : GoneSendsOn
 gone_sends_on ways from seq group into way client bounded is = by (waits_for client.waiting seq) (was_asked client.asked from group)
@@ -166,13 +184,8 @@ gone_sends_on ways from seq group into way client bounded is = by (waits_for cli
     after : ClientState
     after = record client { known = told_gone group into client.known }
 
-    sent_on : IsSentOn ways group into client (request_sent after)
-    sent_on =
-        let le = request_owes ways ways.most after (λ g node e. bounded g node) in
-        (omega (arith, le), sent_knows after (chosen_for after (waiting_request after)) ∙ gone_known group into way client.known is)
-
     by : (b c : Bool) →
         (cond {A = ClientStep} b (cond c (request_sent after) (client, [])) (client, []) ≡ (client, [])) ⊎ IsSentOn ways group into client (cond {A = ClientStep} b (cond c (request_sent after) (client, [])) (client, []))
-    by true true = inr sent_on
+    by true true = inr (gone_one ways group into way client bounded is)
     by true false = inl refl
     by false c = inl refl

@@ -60,7 +60,7 @@ looked_fresh r mails stopped few = by r.running stopped r.group.core.gone
 
 -- ---- what follows the entry
 
-idle_ready : (es : List (ℕ × Command)) (place : Place) → place.0.running ≡ false → executed_ready es place ≡ childless place
+pub idle_ready : (es : List (ℕ × Command)) (place : Place) → place.0.running ≡ false → executed_ready es place ≡ childless place
 unfolding executed_ready
 idle_ready [] place stopped = refl
 idle_ready (e ∷ es) place stopped =

@@ -182,6 +182,17 @@ module _ (ways : Ways) where
           let b = without_slot_owes ways.most slot r.ready in
           (refl, omega (arith, a, b), refl, refl)
 
+  landed_group : (slot : ℕ) (command : Command) (r : ReplicaState) (mails : List Mail) → r.leader.flights ≡ [] → (landed false slot command (r, mails)).0.group ≡ r.group
+  unfolding landed
+  landed_group slot command r mails none = by (flying r slot) flown
+    where
+      flown : flying r slot ≡ None
+      flown = ap (λ (fs : List (Flight Command)). option_map (λ (flight : Flight Command). flight.value) (flight_at slot fs)) none
+
+      by : (o : Option Command) → o ≡ None → (slot_lost false command o (record r { leader = without_flight_at slot r.leader; ready = without_slot r.ready slot })).group ≡ r.group
+      by (Some other) e = cc
+      by None e = refl
+
   left_learnt : (r : ReplicaState) (mails : List Mail) → r.running ≡ false → left (r, mails) ≡ (r, mails)
   unfolding left
   left_learnt r mails stopped = by r.running stopped
@@ -198,6 +209,7 @@ module _ (ways : Ways) where
     pub sets : place.0.sets ≡ (entered command before.0).sets
     pub owes : replica_owes ways.most place.0 ≤ replica_owes ways.most before.0
     pub sent : sum_by (mail_owes ways) place.1 ≡ sum_by (mail_owes ways) before.1
+    pub group : place.0.group ≡ (entered command before.0).group
 
   -- what holds where it looks for one holds after the entry
   pub learnt_ends : (P : Place → Type 0) (command : Command) (before : Place) → before.0.running ≡ false → before.0.leader.flights ≡ [] → ((r : ReplicaState) (mails : List Mail) → Learns command before (r, mails) → P (looked (r, mails))) → P (executed_one false command before)
@@ -221,7 +233,7 @@ module _ (ways : Ways) where
       let running : place5.0.running ≡ false = e.0 ∙ (ap (λ (q : ReplicaState). q.running) state ∙ (entered_running command r ∙ stopped)) in
       let owes = ap (replica_owes ways.most) state ∙ entered_owes command r in
       let low : replica_owes ways.most place5.0 ≤ replica_owes ways.most r = (let le = e.1 in omega (arith, le, owes)) in
-      let learns : Learns command (r, mails) (place5.0, place5.1) = record { stopped = running; sets = e.3 ∙ ap (λ (q : ReplicaState). q.sets) state; owes = low; sent = ap (sum_by (mail_owes ways)) e.2 ∙ sent } in
+      let learns : Learns command (r, mails) (place5.0, place5.1) = record { stopped = running; sets = e.3 ∙ ap (λ (q : ReplicaState). q.sets) state; owes = low; sent = ap (sum_by (mail_owes ways)) e.2 ∙ sent; group = landed_group (next r) command place4.0 place4.1 flights ∙ ap (λ (q : ReplicaState). q.group) state } in
       subst (λ (p : Place). P (looked p)) (sym (left_learnt place5.0 place5.1 running)) (then place5.0 place5.1 learns)
 
   pub learnt_owes : (command : Command) (place : Place) → place.0.running ≡ false → place.0.group.core.gone ≡ None → place.0.leader.flights ≡ [] → place_owes ways (executed_one false command place) ≤ place_owes ways place

@@ -17,7 +17,7 @@ pub born_owe : BornReplicasOwe
 born_owe ways ahead me base = omega arith
 
 -- one that is made of a state waits for nothing, and does not run
-installed_idle : (most me slot : ℕ) (base : Base) (sets : List (List ℕ)) →
+pub installed_idle : (most me slot : ℕ) (base : Base) (sets : List (List ℕ)) →
     (replica_owes most (installed_replica me slot base sets) ≡ 0) × ((installed_replica me slot base sets).running ≡ false) × ((installed_replica me slot base sets).group.core.gone ≡ base.core.gone)
 unfolding forgotten
 installed_idle most me slot base sets = (refl, refl, refl)

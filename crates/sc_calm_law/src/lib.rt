@@ -4,14 +4,21 @@
 #![tactic(auto)]
 
 ghost use Rattle.sc_calm_law.specs.Births.{BornReplicasOwe, MadeReplicasOwe};
+ghost use Rattle.sc_calm_law.specs.Charts.{ChartsMayChange};
 ghost use Rattle.sc_calm_law.specs.Clients.{ClientsLower, GoneSendsOn, NotMineTeaches};
 ghost use Rattle.sc_calm_law.specs.Executing.{CallVotesLower, ExecutionsRaiseNothing, LoneEntriesArePaid, LoneVotesLower};
 ghost use Rattle.sc_calm_law.specs.FollowingNodes.{EntriesTell, StatesMake, TablesElect, TablesFollow};
 ghost use Rattle.sc_calm_law.specs.FollowingRows.{GroupsBeginFollowing, IdleRowsKeep, LeadersKeep, ElectionsKeep, TakersKeep, QuietGroupsAreEven};
+ghost use Rattle.sc_calm_law.specs.Keeping.{KeptCalmIsMeasured, TakenMailLowers};
 ghost use Rattle.sc_calm_law.specs.Laws.{AnswersLower, AsksLower, ChangesRaiseNothing, CountedEntriesRaiseNothing, CountsLower, LeadersMayLeave, LearnsLower, LearntEntriesRaiseNothing, MovesLower, OldLearnsLower, OrdersRaiseLittle, PumpsRaiseNothing, VotesLower};
+ghost use Rattle.sc_calm_law.specs.Led.{EndsLeaveNone, LedLearnsLower, LedPartiesLower};
 ghost use Rattle.sc_calm_law.specs.Nodes.{NodesLower, NodesOweAsReplicas, NodesRaiseLittle};
 ghost use Rattle.sc_calm_law.specs.Parties.{PartiesLower, PartiesRaiseLittle};
 ghost use Rattle.sc_calm_law.specs.Quiet.{FirstMembersLead, ReplicasBeginAtRest};
+ghost use Rattle.sc_calm_law.specs.Reach.{ClientsPay};
+ghost use Rattle.sc_calm_law.specs.Resting.{KeptCalmEndsQuiet, RestingOwesLittle};
+ghost use Rattle.sc_calm_law.specs.Strangers.{StrangersLower};
+ghost use Rattle.sc_calm_law.specs.Totals.{TotalsChangeAsParties};
 
 /// What a leader offers was owed: a pump raises nothing, where no report names an open slot and at
 /// most nine nodes decide each.
@@ -247,4 +254,71 @@ pub fn tables_elect()
 /// entry learn it, and each that it adds is sent the state, and asked to promise a later ballot.
 pub fn entries_tell()
     ensures { EntriesTell }
+/// An entry by which its group is gone makes none lead that learns it.
+pub fn ends_leave_none()
+    ensures { EndsLeaveNone }
+{}
+
+/// A replica that learns an entry and does not lead by it owes less by itself, whatever its group
+/// owes: also where its group is gone by the entry.
+pub fn led_learns_lower()
+    ensures { LedLearnsLower }
+{}
+
+/// Where another of its group leads or is gone, a mail by which a replica owes less by itself
+/// lowers what is owed by its node and by all groups, also where the replica goes by it: no group
+/// needs to be idle.
+pub fn led_parties_lower()
+    ensures { LedPartiesLower }
+{}
+
+/// Mail that no replica of a node takes lowers what is owed by the node and by all groups: it is
+/// for no group, comes from one who sends none such, or is for a group of which the node has no
+/// replica, also where it makes one of a state that it is sent, which does not lead where another
+/// of its group does.
+pub fn strangers_lower()
+    ensures { StrangersLower }
+{}
+
+/// A row of a node changes what all nodes and groups owe as it changes what the node owes among
+/// the others, where a group is led elsewhere if its replica runs or is gone at another node.
+pub fn totals_change_as_parties()
+    ensures { TotalsChangeAsParties }
+{}
+
+/// A client that goes raises nothing that is owed, and each answer lowers it, where a client owes
+/// besides for each group that stands and that it does not know, and for each end by which a group
+/// that it knows is away from one that stands.
+pub fn clients_pay()
+    ensures { ClientsPay }
+{}
+
+/// What is owed may be counted by another chart after a row: where no mail under way and no client
+/// owes more by it, and the groups that come into it are led, all owe no more by it.
+pub fn charts_may_change()
+    ensures { ChartsMayChange }
+{}
+
+/// A mail lowers what is owed at the replica that takes it, where the replica is as mail of its kind
+/// finds it in a calm journal.
+pub fn taken_mail_lowers()
+    ensures { TakenMailLowers }
+{}
+
+/// Where each row of journals that tell at most so many orders finds what it needs, what all
+/// players, groups and mail under way owe is a measure: a delivery lowers it, an order raises it by
+/// what a transaction with two other groups takes at most, and a client that goes raises nothing.
+pub fn kept_calm_is_measured()
+    ensures { KeptCalmIsMeasured }
+{}
+
+/// In a quiet journal that rests, no more is owed than clients owe at their births.
+pub fn resting_owes_little()
+    ensures { RestingOwesLittle }
+{}
+
+/// Where rows keep calm and quiet journals rest, no line of deliveries is cut off that has room for
+/// what is owed at birth and what one order raises, if orders stand alone between such lines.
+pub fn kept_calm_ends_quiet()
+    ensures { KeptCalmEndsQuiet }
 {}

@@ -133,25 +133,32 @@ module _ {A M O : Type 0} (s : System A M O) where
           } in
           (row_of s.table found.0 rows (Deliver number), calm, refl, tt)
 
-  module _ (owed : List (Row M O) → ℕ) (still raise : ℕ) (measure : IsMeasure s owed still raise) where
+  -- a delivery tells no order more
+  pub delivery_orders : (rows : List (Row M O)) (row : Row M O) → is_delivery row.event ≡ true → orders (rows ++ row ∷ []) ≡ orders rows
+  delivery_orders rows row d = (let o = count_push (λ (r : Row M O). is_told r.event) rows row false (delivery_untold row.event d) in omega (arith, o))
+
+  module _ (told : ℕ) (owed : List (Row M O) → ℕ) (still raise : ℕ) (measure : IsMeasure s told owed still raise) where
     -- something is owed where something is pending
-    pub pending_owes : (rows : List (Row M O)) → AreInTime s rows → is_quiet s rows ≡ false → 1 ≤ owed rows
-    pending_owes rows timely loud =
+    pub pending_owes : (rows : List (Row M O)) → AreInTime s rows → orders rows ≤ told → is_quiet s rows ≡ false → 1 ≤ owed rows
+    pending_owes rows timely few loud =
         let d = next_delivery rows (in_time_tidy rows timely) loud in
         let t = in_time_row rows d.0 timely d.1 d.3 in
-        let low = measure.lowers rows d.0 t in
+        let same = delivery_orders rows d.0 d.2 in
+        let low = measure.lowers rows d.0 t (omega (arith, same, few)) in
         let one = ap one_if d.2 in
         let none : cond (is_told d.0.event) raise 0 ≡ 0 = ap (λ b. cond b raise 0) (delivery_untold d.0.event d.2) in
         omega (arith, low, one, none)
 
     -- the deliveries made and what is owed still are no more than is owed in quiet, and what the orders raised
-    pub deliveries_and_orders : (journal : List (Row M O)) → AreInTime s journal → deliveries journal + owed journal ≤ still + orders journal * raise
+    pub deliveries_and_orders : (journal : List (Row M O)) → AreInTime s journal → orders journal ≤ told → deliveries journal + owed journal ≤ still + orders journal * raise
     deliveries_and_orders journal timely =
-        by_time (λ rows. deliveries rows + owed rows ≤ still + orders rows * raise) (let q = measure.quiet [] (λ before row after e. absurd (never before row after e)) refl in omega (arith, q))
-        (λ rows row t le.
-        let low = measure.lowers rows row t in
+        by_time (λ rows. orders rows ≤ told → deliveries rows + owed rows ≤ still + orders rows * raise) (λ few. (let q = measure.quiet [] (λ before row after e. absurd (never before row after e)) few refl in omega (arith, q)))
+        (λ rows row t more few.
+        let low = measure.lowers rows row t few in
         let d = count_push (λ (r : Row M O). is_delivery r.event) rows row (is_delivery row.event) refl in
-        let o = raised (is_told row.event) (orders rows) (orders (rows ++ row ∷ [])) (count_push (λ (r : Row M O). is_told r.event) rows row (is_told row.event) refl) in
+        let fewer = count_push (λ (r : Row M O). is_told r.event) rows row (is_told row.event) refl in
+        let le = more (omega (arith, few, fewer)) in
+        let o = raised (is_told row.event) (orders rows) (orders (rows ++ row ∷ [])) fewer in
         omega (arith, low, d, o, le))
         journal timely
       where

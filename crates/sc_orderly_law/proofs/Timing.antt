@@ -1,8 +1,8 @@
 -- On the walk of spaced lines each order begins where nothing is under way, and no line of deliveries that has room is cut off.
 use Rattle.std.proofs.Common.{◌≡◌, ℕ, zero, suc, ◌+◌, ◌-◌, ◌≤◌, List, [], ◌∷◌, ◌++◌, Bool, true, false, true≢false, cond, eqb, ◌||◌, not, refl, sym, ◌∙◌, ap, subst, arith, Option, None, Some}
 use Rattle.std.specs.List.{flat_map}
-use Rattle.std.proofs.lemmas.Bool.{ne_eqb}
-use Rattle.std.proofs.lemmas.List.Sums.{fold-append}
+use Rattle.std.proofs.lemmas.Bool.{cond_both, ne_eqb}
+use Rattle.std.proofs.lemmas.List.Sums.{fold-append, sum_by-cons}
 use Rattle.sc_base.specs.Among.{Each}
 use Rattle.sc_actor.specs.declared.rows.Row.{Row}
 use Rattle.sc_actor.specs.declared.rows.Event.{Event}
@@ -11,14 +11,15 @@ use Rattle.sc_actor.specs.declared.schedules.Line.{Line}
 use Rattle.sc_actor.specs.declared.schedules.Line.TheVariants.{Go as GoLine, Deliver as DeliverLine, Drop as DropLine, Again as AgainLine, Tick as TickLine, Crash as CrashLine, Told as ToldLine, Settle, Free, Storm}
 use Rattle.sc_actor.specs.Mail.{has_crashed, is_delivery}
 use Rattle.sc_actor.specs.System.{System, acts, has_gone}
-use Rattle.sc_actor.specs.Walk.{Task, Once, Settles, Frees, Storms, WalkPlace, Allows, MayAdd, IsLawful, onward, is_over, is_quiet, after_row, place_after, rest_of_all, tasks_of, unsettled}
+use Rattle.sc_actor.specs.Walk.{Task, Once, Settles, Frees, Storms, WalkPlace, Allows, MayAdd, IsLawful, onward, is_over, is_quiet, skips, cuts, after_row, place_after, rest_of_all, tasks_of, unsettled}
 use Rattle.sc_actor.proofs.WalkLemmas.{lawful-last, place_after-rows}
-use Rattle.sc_orderly_law.specs.Orderly.{IsCalmRow, is_told}
+use Rattle.sc_orderly_law.specs.Orderly.{IsCalmRow, is_told, orders}
 use Rattle.sc_orderly_law.specs.Owing.{HasRoom}
-use Rattle.sc_orderly_law.specs.Timely.{Said, Nothing, Goes, AnOrder, MayGo, MayOrder, AreSpaced, IsClear, ComesInTime, AreInTime, IsMeasure}
+use Rattle.sc_orderly_law.specs.Timely.{Said, Nothing, Goes, AnOrder, MayGo, MayOrder, AreSpaced, IsClear, ComesInTime, AreInTime, gives_order, orders_given, IsMeasure}
 use Rattle.sc_orderly_law.proofs.Ordering.{allows_calm, by_rows}
+use Rattle.sc_orderly_law.proofs.Paying.{count_push}
 use Rattle.sc_orderly_law.proofs.Settling.{acts-event, delivery-event, free-event}
-use Rattle.sc_orderly_law.proofs.InTime.{in_time_row, pending_owes, clear_row, clear_quiet, delivery_untold, delivery_in_time, one_if}
+use Rattle.sc_orderly_law.proofs.InTime.{in_time_row, pending_owes, clear_row, clear_quiet, delivery_untold, delivery_in_time, delivery_orders, one_if}
 
 -- where so much may be owed, tasks are spaced and each of many deliveries has room
 abbrev AreTasksSpaced : {O : Type 0} → ℕ → Said → List (Task O) → Type 0
@@ -50,7 +51,36 @@ lines_spaced words total said (TickLine who ∷ lines) apart room = absurd apart
 lines_spaced words total said (CrashLine who ∷ lines) apart room = absurd apart
 lines_spaced words total said (Storm number most ∷ lines) apart room = absurd apart
 
-module _ {A M O : Type 0} (s : System A M O) (owed : List (Row M O) → ℕ) (still raise : ℕ) (measure : IsMeasure s owed still raise) where
+-- whether a task gives an order
+abbrev tells : {O : Type 0} → Task O → Bool
+tells (Once line) = gives_order line
+tells (Settles left) = false
+tells (Frees left) = false
+tells (Storms words) = false
+
+-- how many do
+abbrev tasks_told : {O : Type 0} → List (Task O) → ℕ
+tasks_told [] = 0
+tasks_told (task ∷ tasks) = cond (tells task) 1 0 + tasks_told tasks
+
+given_cons : {O : Type 0} (line : Line O) (lines : List (Line O)) → orders_given (line ∷ lines) ≡ cond (gives_order line) 1 0 + orders_given lines
+given_cons line lines = sum_by-cons (λ other. cond (gives_order other) 1 0) line lines
+
+-- as many as lines
+lines_told : {O : Type 0} (words : ℕ → ℕ → ℕ × ℕ) (said : Said) (lines : List (Line O)) → AreSpaced said lines → tasks_told (flat_map (tasks_of words) lines) ≡ orders_given lines
+lines_told words said [] apart = refl
+lines_told words said (Settle most ∷ lines) apart = let more = lines_told words Nothing lines apart in let c = given_cons (Settle most) lines in omega (arith, more, c)
+lines_told words said (Free most workers ∷ lines) apart = let more = lines_told words Nothing lines apart in let c = given_cons (Free most workers) lines in omega (arith, more, c)
+lines_told words said (GoLine who ∷ lines) apart = let more = lines_told words Goes lines apart.1 in let c = given_cons (GoLine who) lines in omega (arith, more, c)
+lines_told words said (ToldLine who order ∷ lines) apart = let more = lines_told words AnOrder lines apart.1 in let c = given_cons (ToldLine who order) lines in omega (arith, more, c)
+lines_told words said (DeliverLine who k ∷ lines) apart = absurd apart
+lines_told words said (DropLine who k ∷ lines) apart = absurd apart
+lines_told words said (AgainLine mail ∷ lines) apart = absurd apart
+lines_told words said (TickLine who ∷ lines) apart = absurd apart
+lines_told words said (CrashLine who ∷ lines) apart = absurd apart
+lines_told words said (Storm number most ∷ lines) apart = absurd apart
+
+module _ {A M O : Type 0} (s : System A M O) (told : ℕ) (owed : List (Row M O) → ℕ) (still raise : ℕ) (measure : IsMeasure s told owed still raise) where
   -- what is known of the rows by what lines said since the last deliveries
   abbrev Knows : Said → List (Row M O) → Type 0
   Knows Nothing rows = is_quiet s rows ≡ true
@@ -88,14 +118,23 @@ module _ {A M O : Type 0} (s : System A M O) (owed : List (Row M O) → ℕ) (st
   may_order Goes rows may known = absurd may
   may_order AnOrder rows may known = absurd may
 
-  module _ (rows : List (Row M O)) (timely : AreInTime s rows) (bound : owed rows ≤ still + raise) where
+  -- the tasks that are passed over tell no more
+  onward_told : (rows : List (Row M O)) (tasks : List (Task O)) (skipped : ℕ) (cut : Bool) → tasks_told (onward s rows tasks skipped cut).tasks ≤ tasks_told tasks
+  onward_told rows [] skipped cut = omega arith
+  onward_told rows (task ∷ tasks) skipped cut =
+      let more = onward_told rows tasks (skipped + skips task) (cut || cuts s rows task) in
+      cond_both (is_over s rows task) (onward s rows tasks (skipped + skips task) (cut || cuts s rows task)) (record { tasks = task ∷ tasks; rows = rows; skipped = skipped; unsettled = cut }) (λ (place : WalkPlace M O). tasks_told place.tasks ≤ tasks_told (task ∷ tasks))
+      (λ _. omega (arith, more))
+      (λ _. omega arith)
+
+  module _ (rows : List (Row M O)) (timely : AreInTime s rows) (few : orders rows ≤ told) (bound : owed rows ≤ still + raise) where
     -- a line of deliveries with room is over only where it is quiet
     over_quiet : (left : ℕ) → owed rows ≤ left → (eqb left 0 || is_quiet s rows) ≡ true → is_quiet s rows ≡ true
     over_quiet left room over = by left (is_quiet s rows) refl room over
       where
         by : (left : ℕ) (b : Bool) → is_quiet s rows ≡ b → owed rows ≤ left → (eqb left 0 || b) ≡ true → b ≡ true
         by left true q room' over' = refl
-        by zero false q room' over' = let some = pending_owes s owed still raise measure rows timely q in absurd (omega (arith, some, room'))
+        by zero false q room' over' = let some = pending_owes s told owed still raise measure rows timely few q in absurd (omega (arith, some, room'))
         by (suc left) false q room' over' = absurd (true≢false (sym over' ∙ ap (λ b. b || false) (ne_eqb (suc left) 0 (λ z. absurd (omega (arith, z))))))
 
     uncut : (b : Bool) → b ≡ true → (false || not b) ≡ false
@@ -168,6 +207,7 @@ module _ {A M O : Type 0} (s : System A M O) (owed : List (Row M O) → ℕ) (st
   -- what is found of a row: it is in time, and the tasks that are left stand
   record IsStep (rows : List (Row M O)) (row : Row M O) (tasks : List (Task O)) (skipped : ℕ) : Type 0 where
     timely : AreInTime s (rows ++ row ∷ [])
+    few : orders (rows ++ row ∷ []) + tasks_told (rest_of_all tasks) ≤ told
     bound : owed (rows ++ row ∷ []) ≤ still + raise
     fine : IsFine (rows ++ row ∷ []) (onward s (rows ++ row ∷ []) (rest_of_all tasks) skipped false)
 
@@ -175,92 +215,105 @@ module _ {A M O : Type 0} (s : System A M O) (owed : List (Row M O) → ℕ) (st
     timely_by : (task : Task O) (event : Event O) → event ≡ row.event → Allows s rows task row → IsCalmRow s rows row → ComesInTime s rows event → AreInTime s (rows ++ row ∷ [])
     timely_by task event is may calm comes = in_time_row s rows row timely calm (subst (λ (e : Event O). ComesInTime s rows e) is comes)
 
-    go_step : (who : ℕ) (tasks : List (Task O)) (skipped : ℕ) → Allows s rows (Once (GoLine who)) row → IsClear s rows → AreTasksSpaced (still + raise) Goes tasks → IsStep rows row (Once (GoLine who) ∷ tasks) skipped
-    go_step who tasks skipped may clear apart =
+    go_step : (who : ℕ) (tasks : List (Task O)) (skipped : ℕ) → Allows s rows (Once (GoLine who)) row → IsClear s rows → AreTasksSpaced (still + raise) Goes tasks → orders rows + tasks_told (Once (GoLine who) ∷ tasks) ≤ told → IsStep rows row (Once (GoLine who) ∷ tasks) skipped
+    go_step who tasks skipped may clear apart few =
         let go : Event O = Go in
         let is : go ≡ row.event = acts-event s rows who go row (unless-some (has_gone rows who) (acts s rows who Go) row may) in
         let t = timely_by (Once (GoLine who)) Go is may (allows_calm s rows (Once (GoLine who)) row tt may) clear in
-        let low = measure.lowers rows row t in
-        let none : cond (is_told row.event) raise 0 ≡ 0 = subst (λ (e : Event O). cond (is_told e) raise 0 ≡ 0) is refl in
-        let b : owed (rows ++ row ∷ []) ≤ still + raise = omega (arith, low, none, bound) in
         let untold : is_told row.event ≡ false = subst (λ (e : Event O). is_told e ≡ false) is refl in
-        record { timely = t; bound = b; fine = passes (rows ++ row ∷ []) t b Goes tasks skipped apart (clear_row s rows row untold clear) }
+        let same = count_push (λ (r : Row M O). is_told r.event) rows row false untold in
+        let now_few : orders (rows ++ row ∷ []) + tasks_told tasks ≤ told = omega (arith, same, few) in
+        let low = measure.lowers rows row t (omega (arith, now_few)) in
+        let none : cond (is_told row.event) raise 0 ≡ 0 = ap (λ b. cond b raise 0) untold in
+        let b : owed (rows ++ row ∷ []) ≤ still + raise = omega (arith, low, none, bound) in
+        record { timely = t; few = now_few; bound = b; fine = passes (rows ++ row ∷ []) t (omega (arith, now_few)) b Goes tasks skipped apart (clear_row s rows row untold clear) }
 
-    told_step : (who : ℕ) (order : O) (tasks : List (Task O)) (skipped : ℕ) → Allows s rows (Once (ToldLine who order)) row → is_quiet s rows ≡ true → AreTasksSpaced (still + raise) AnOrder tasks → IsStep rows row (Once (ToldLine who order) ∷ tasks) skipped
-    told_step who order tasks skipped may quiet apart =
+    told_step : (who : ℕ) (order : O) (tasks : List (Task O)) (skipped : ℕ) → Allows s rows (Once (ToldLine who order)) row → is_quiet s rows ≡ true → AreTasksSpaced (still + raise) AnOrder tasks → orders rows + tasks_told (Once (ToldLine who order) ∷ tasks) ≤ told → IsStep rows row (Once (ToldLine who order) ∷ tasks) skipped
+    told_step who order tasks skipped may quiet apart few =
         let is : Told order ≡ row.event = acts-event s rows who (Told order) row (unless-some (has_crashed rows who) (acts s rows who (Told order)) row may) in
         let t = timely_by (Once (ToldLine who order)) (Told order) is may (allows_calm s rows (Once (ToldLine who order)) row tt may) quiet in
-        let low = measure.lowers rows row t in
+        let one_more = count_push (λ (r : Row M O). is_told r.event) rows row true (subst (λ (e : Event O). is_told e ≡ true) is refl) in
+        let now_few : orders (rows ++ row ∷ []) + tasks_told tasks ≤ told = omega (arith, one_more, few) in
+        let low = measure.lowers rows row t (omega (arith, now_few)) in
         let raised : cond (is_told row.event) raise 0 ≡ raise = subst (λ (e : Event O). cond (is_told e) raise 0 ≡ raise) is refl in
-        let now = measure.quiet rows timely quiet in
+        let now = measure.quiet rows timely (omega (arith, few)) quiet in
         let b : owed (rows ++ row ∷ []) ≤ still + raise = omega (arith, low, raised, now) in
-        record { timely = t; bound = b; fine = passes (rows ++ row ∷ []) t b AnOrder tasks skipped apart tt }
+        record { timely = t; few = now_few; bound = b; fine = passes (rows ++ row ∷ []) t (omega (arith, now_few)) b AnOrder tasks skipped apart tt }
 
     -- a delivery lowers what is owed
-    delivery_lowers : is_delivery row.event ≡ true → AreInTime s (rows ++ row ∷ []) → owed (rows ++ row ∷ []) + 1 ≤ owed rows
-    delivery_lowers d t =
-        let low = measure.lowers rows row t in
+    delivery_lowers : is_delivery row.event ≡ true → AreInTime s (rows ++ row ∷ []) → orders rows ≤ told → owed (rows ++ row ∷ []) + 1 ≤ owed rows
+    delivery_lowers d t few =
+        let same = delivery_orders s rows row d in
+        let low = measure.lowers rows row t (omega (arith, same, few)) in
         let none : cond (is_told row.event) raise 0 ≡ 0 = ap (λ b. cond b raise 0) (delivery_untold s row.event d) in
         let one = ap one_if d in
         omega (arith, low, none, one)
 
-    settles_step : (left : ℕ) (tasks : List (Task O)) (skipped : ℕ) → Allows s rows (Settles left) row → owed rows ≤ left → AreTasksSpaced (still + raise) Nothing tasks → IsStep rows row (Settles left ∷ tasks) skipped
-    settles_step left tasks skipped may room apart =
+    settles_step : (left : ℕ) (tasks : List (Task O)) (skipped : ℕ) → Allows s rows (Settles left) row → owed rows ≤ left → AreTasksSpaced (still + raise) Nothing tasks → orders rows + tasks_told (Settles left ∷ tasks) ≤ told → IsStep rows row (Settles left ∷ tasks) skipped
+    settles_step left tasks skipped may room apart few =
         let d = delivery-event s rows left row may in
         let t = in_time_row s rows row timely (allows_calm s rows (Settles left) row tt may) (delivery_in_time s rows row.event d) in
-        let low = delivery_lowers d t in
+        let same = delivery_orders s rows row d in
+        let low = delivery_lowers d t (omega (arith, few)) in
         let b : owed (rows ++ row ∷ []) ≤ still + raise = omega (arith, low, bound) in
         let less : owed (rows ++ row ∷ []) ≤ left - 1 = omega (arith, low, room) in
-        record { timely = t; bound = b; fine = settles_on (rows ++ row ∷ []) t b (left - 1) tasks skipped less apart }
+        record { timely = t; few = omega (arith, same, few); bound = b; fine = settles_on (rows ++ row ∷ []) t (omega (arith, same, few)) b (left - 1) tasks skipped less apart }
 
-    frees_step : (left : ℕ) (tasks : List (Task O)) (skipped : ℕ) → Allows s rows (Frees left) row → owed rows ≤ left → AreTasksSpaced (still + raise) Nothing tasks → IsStep rows row (Frees left ∷ tasks) skipped
-    frees_step left tasks skipped may room apart =
+    frees_step : (left : ℕ) (tasks : List (Task O)) (skipped : ℕ) → Allows s rows (Frees left) row → owed rows ≤ left → AreTasksSpaced (still + raise) Nothing tasks → orders rows + tasks_told (Frees left ∷ tasks) ≤ told → IsStep rows row (Frees left ∷ tasks) skipped
+    frees_step left tasks skipped may room apart few =
         let d = free-event s rows left row may in
         let t = in_time_row s rows row timely (allows_calm s rows (Frees left) row tt may) (delivery_in_time s rows row.event d) in
-        let low = delivery_lowers d t in
+        let same = delivery_orders s rows row d in
+        let low = delivery_lowers d t (omega (arith, few)) in
         let b : owed (rows ++ row ∷ []) ≤ still + raise = omega (arith, low, bound) in
         let less : owed (rows ++ row ∷ []) ≤ left - 1 = omega (arith, low, room) in
-        record { timely = t; bound = b; fine = frees_on (rows ++ row ∷ []) t b (left - 1) tasks skipped less apart }
+        record { timely = t; few = omega (arith, same, few); bound = b; fine = frees_on (rows ++ row ∷ []) t (omega (arith, same, few)) b (left - 1) tasks skipped less apart }
 
     -- whatever task is next
-    step : (tasks : List (Task O)) (skipped : ℕ) → MayAdd s rows tasks row → Stands rows tasks → IsStep rows row tasks skipped
-    step [] skipped may stands = absurd may
-    step (Once (GoLine who) ∷ tasks) skipped may stands = go_step who tasks skipped may stands.0 stands.1
-    step (Once (ToldLine who order) ∷ tasks) skipped may stands = told_step who order tasks skipped may stands.0 stands.1
-    step (Settles left ∷ tasks) skipped may stands = settles_step left tasks skipped may stands.0 stands.1
-    step (Frees left ∷ tasks) skipped may stands = frees_step left tasks skipped may stands.0 stands.1
-    step (Once (Settle most) ∷ tasks) skipped may stands = absurd stands
-    step (Once (Free most workers) ∷ tasks) skipped may stands = absurd stands
-    step (Once (DeliverLine who k) ∷ tasks) skipped may stands = absurd stands
-    step (Once (DropLine who k) ∷ tasks) skipped may stands = absurd stands
-    step (Once (AgainLine mail) ∷ tasks) skipped may stands = absurd stands
-    step (Once (TickLine who) ∷ tasks) skipped may stands = absurd stands
-    step (Once (CrashLine who) ∷ tasks) skipped may stands = absurd stands
-    step (Once (Storm number most) ∷ tasks) skipped may stands = absurd stands
-    step (Storms words ∷ tasks) skipped may stands = absurd stands
+    step : (tasks : List (Task O)) (skipped : ℕ) → MayAdd s rows tasks row → Stands rows tasks → orders rows + tasks_told tasks ≤ told → IsStep rows row tasks skipped
+    step [] skipped may stands few = absurd may
+    step (Once (GoLine who) ∷ tasks) skipped may stands few = go_step who tasks skipped may stands.0 stands.1 few
+    step (Once (ToldLine who order) ∷ tasks) skipped may stands few = told_step who order tasks skipped may stands.0 stands.1 few
+    step (Settles left ∷ tasks) skipped may stands few = settles_step left tasks skipped may stands.0 stands.1 few
+    step (Frees left ∷ tasks) skipped may stands few = frees_step left tasks skipped may stands.0 stands.1 few
+    step (Once (Settle most) ∷ tasks) skipped may stands few = absurd stands
+    step (Once (Free most workers) ∷ tasks) skipped may stands few = absurd stands
+    step (Once (DeliverLine who k) ∷ tasks) skipped may stands few = absurd stands
+    step (Once (DropLine who k) ∷ tasks) skipped may stands few = absurd stands
+    step (Once (AgainLine mail) ∷ tasks) skipped may stands few = absurd stands
+    step (Once (TickLine who) ∷ tasks) skipped may stands few = absurd stands
+    step (Once (CrashLine who) ∷ tasks) skipped may stands few = absurd stands
+    step (Once (Storm number most) ∷ tasks) skipped may stands few = absurd stands
+    step (Storms words ∷ tasks) skipped may stands few = absurd stands
 
   -- ---- lawful journals
 
-  module _ (lines : List (Line O)) (apart : AreSpaced Nothing lines) (room : Each (HasRoom (still + raise)) lines) where
-    -- the rows are in time, no more is owed than may be, and the walk stands so
+  module _ (lines : List (Line O)) (apart : AreSpaced Nothing lines) (room : Each (HasRoom (still + raise)) lines) (given : orders_given lines ≤ told) where
+    -- the rows are in time, so many orders are to come, no more is owed than may be, and the walk stands so
     abbrev Stage : List (Row M O) → Type 0
-    Stage rows = AreInTime s rows × (owed rows ≤ still + raise) × IsFine rows (place_after s lines rows)
+    Stage rows = AreInTime s rows × (orders rows + tasks_told (place_after s lines rows).tasks ≤ told) × (owed rows ≤ still + raise) × IsFine rows (place_after s lines rows)
 
     stage_row : (rows : List (Row M O)) (row : Row M O) → IsLawful s lines (rows ++ row ∷ []) → Stage rows → Stage (rows ++ row ∷ [])
     stage_row rows row lawful now =
         let place = place_after s lines rows in
-        let next = step rows row now.0 now.1 place.tasks place.skipped (lawful-last s lines rows row lawful) now.2.0 in
+        let next = step rows row now.0 now.2 place.tasks place.skipped (lawful-last s lines rows row lawful) now.3.0 now.1 in
         let whole : place_after s lines (rows ++ row ∷ []) ≡ after_row s place row = fold-append (after_row s) _ rows (row ∷ []) in
         let there : place.rows ≡ rows = place_after-rows s lines rows in
         let same : after_row s place row ≡ onward s (rows ++ row ∷ []) (rest_of_all place.tasks) place.skipped false =
-        ap (λ xs. onward s (xs ++ row ∷ []) (rest_of_all place.tasks) place.skipped place.unsettled) there ∙ ap (λ c. onward s (rows ++ row ∷ []) (rest_of_all place.tasks) place.skipped c) now.2.1 in
-        (next.timely, next.bound, subst (λ p. IsFine (rows ++ row ∷ []) p) (sym (whole ∙ same)) next.fine)
+        ap (λ xs. onward s (xs ++ row ∷ []) (rest_of_all place.tasks) place.skipped place.unsettled) there ∙ ap (λ c. onward s (rows ++ row ∷ []) (rest_of_all place.tasks) place.skipped c) now.3.1 in
+        let left = ap (λ (p : WalkPlace M O). tasks_told p.tasks) (whole ∙ same) in
+        let passed = onward_told (rows ++ row ∷ []) (rest_of_all place.tasks) place.skipped false in
+        let few = next.few in
+        (next.timely, omega (arith, left, passed, few), next.bound, subst (λ p. IsFine (rows ++ row ∷ []) p) (sym (whole ∙ same)) next.fine)
 
     stage : (journal : List (Row M O)) → IsLawful s lines journal → Stage journal
     stage journal lawful =
         let none : AreInTime s [] = λ before row after e. absurd (never before row after e) in
-        let bound : owed [] ≤ still + raise = let q = measure.quiet [] none refl in omega (arith, q) in
-        by_rows s lines Stage (none, bound, passes [] none bound Nothing (flat_map (tasks_of s.words) lines) 0 (lines_spaced s.words (still + raise) Nothing lines apart room) refl) stage_row journal lawful
+        let bound : owed [] ≤ still + raise = let q = measure.quiet [] none (omega arith) refl in omega (arith, q) in
+        let passed = onward_told [] (flat_map (tasks_of s.words) lines) 0 false in
+        let same = lines_told s.words Nothing lines apart in
+        by_rows s lines Stage
+        (none, omega (arith, passed, same, given), bound, passes [] none (omega arith) bound Nothing (flat_map (tasks_of s.words) lines) 0 (lines_spaced s.words (still + raise) Nothing lines apart room) refl) stage_row journal lawful
       where
         never : (before : List (Row M O)) (row : Row M O) (after : List (Row M O)) → [] ≡ before ++ row ∷ after → ⊥
         never [] row after e = cc
@@ -270,4 +323,4 @@ module _ {A M O : Type 0} (s : System A M O) (owed : List (Row M O) → ℕ) (st
     rows_in_time journal lawful = (stage journal lawful).0
 
     pub ends_quiet : (journal : List (Row M O)) → IsLawful s lines journal → unsettled s lines journal ≡ false
-    ends_quiet journal lawful = (stage journal lawful).2.1
+    ends_quiet journal lawful = (stage journal lawful).3.1

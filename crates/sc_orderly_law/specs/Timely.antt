@@ -1,5 +1,5 @@
 -- Orders that begin where nothing is under way, and what is owed between them.
-use Rattle.std.specs.Prelude.{◌≡◌, ℕ, ◌+◌, ◌≤◌, ◌++◌, List, [], ◌∷◌, true, false, if◌then◌else◌}
+use Rattle.std.specs.Prelude.{◌≡◌, ℕ, ◌+◌, ◌≤◌, ◌++◌, List, [], ◌∷◌, Bool, true, false, count_by, if◌then◌else◌}
 use Rattle.sc_base.specs.Among.{Each}
 use Rattle.sc_actor.specs.declared.rows.Event.{Event}
 use Rattle.sc_actor.specs.declared.rows.Event.TheVariants.{Deliver, Tick, Go, Told, Crash, Drop, Again}
@@ -9,7 +9,7 @@ use Rattle.sc_actor.specs.declared.schedules.Line.TheVariants.{Go as GoLine, Del
 use Rattle.sc_actor.specs.Mail.{is_delivery}
 use Rattle.sc_actor.specs.System.{System}
 use Rattle.sc_actor.specs.Walk.{is_quiet}
-use Rattle.sc_orderly_law.specs.Orderly.{IsCalmRow, is_told}
+use Rattle.sc_orderly_law.specs.Orderly.{IsCalmRow, is_told, orders}
 
 -- What lines said since the last line of deliveries: nothing, that actors go, or an order.
 pub data Said : Type 0 where
@@ -67,8 +67,25 @@ AreInTime {A} {M} {O} s rows =
     (before : List (Row M O)) (row : Row M O) (after : List (Row M O)) → rows ≡ before ++ row ∷ after
     → IsCalmRow s before row × ComesInTime s before row.event
 
--- What is owed after some rows: each delivery lowers it by one at least, an order raises it by so much at most, no other row raises it, and in quiet journals no more than so much is owed.
-pub record IsMeasure {A M O : Type 0} (s : System A M O) (owed : List (Row M O) → ℕ) (still raise : ℕ) : Type 0 where
-  pub lowers : (rows : List (Row M O)) (row : Row M O) → AreInTime s (rows ++ row ∷ []) →
+-- whether a line gives an order
+abbrev pub gives_order : {O : Type 0} → Line O → Bool
+gives_order (ToldLine who order) = true
+gives_order (GoLine who) = false
+gives_order (Settle most) = false
+gives_order (Free most workers) = false
+gives_order (DeliverLine who k) = false
+gives_order (DropLine who k) = false
+gives_order (AgainLine mail) = false
+gives_order (TickLine who) = false
+gives_order (CrashLine who) = false
+gives_order (Storm number most) = false
+
+-- how many lines give an order
+abbrev pub orders_given : {O : Type 0} → List (Line O) → ℕ
+orders_given lines = count_by gives_order lines
+
+-- What is owed after some rows that tell so many orders at most: each delivery lowers it by one at least, an order raises it by so much at most, no other row raises it, and in quiet journals no more than so much is owed.
+pub record IsMeasure {A M O : Type 0} (s : System A M O) (told : ℕ) (owed : List (Row M O) → ℕ) (still raise : ℕ) : Type 0 where
+  pub lowers : (rows : List (Row M O)) (row : Row M O) → AreInTime s (rows ++ row ∷ []) → orders (rows ++ row ∷ []) ≤ told →
       owed (rows ++ row ∷ []) + (if is_delivery row.event then 1 else 0) ≤ owed rows + (if is_told row.event then raise else 0)
-  pub quiet : (rows : List (Row M O)) → AreInTime s rows → is_quiet s rows ≡ true → owed rows ≤ still
+  pub quiet : (rows : List (Row M O)) → AreInTime s rows → orders rows ≤ told → is_quiet s rows ≡ true → owed rows ≤ still

@@ -1,4 +1,6 @@
+use Rattle.std.proofs.Common.{arith}
 use Rattle.sc_actor.specs.System.{system}
+use Rattle.sc_orderly_law.specs.Timely.{orders_given}
 use Rattle.sc_orderly_law.proofs.Counting.{rows_of_all, goes_in_time}
 use Rattle.sc_orderly_law.proofs.InTime.{deliveries_and_orders}
 use Rattle.sc_orderly_law.proofs.Timing.{rows_in_time, ends_quiet}
@@ -6,15 +8,15 @@ use Rattle.sc_orderly_law.proofs.orders_begin_in_quiet.Goals as goal
 
 pub returns-clause-timely : goal.returns-clause-timely
 returns-clause-timely g c = λ words births lines owed_after still raise journal measure apart room lawful.
-    rows_in_time (system g.A.Actor.table g.A.Mail.Parcel.receiver words births) owed_after still raise measure lines apart room journal lawful
+    rows_in_time (system g.A.Actor.table g.A.Mail.Parcel.receiver words births) (orders_given lines) owed_after still raise measure lines apart room (omega arith) journal lawful
 
 pub returns-clause-settled : goal.returns-clause-settled
 returns-clause-settled g c = λ words births lines owed_after still raise journal measure apart room lawful.
-    ends_quiet (system g.A.Actor.table g.A.Mail.Parcel.receiver words births) owed_after still raise measure lines apart room journal lawful
+    ends_quiet (system g.A.Actor.table g.A.Mail.Parcel.receiver words births) (orders_given lines) owed_after still raise measure lines apart room (omega arith) journal lawful
 
 pub returns-clause-deliveries : goal.returns-clause-deliveries
-returns-clause-deliveries g c = λ words births owed_after still raise journal measure timely.
-    deliveries_and_orders (system g.A.Actor.table g.A.Mail.Parcel.receiver words births) owed_after still raise measure journal timely
+returns-clause-deliveries g c = λ words births told owed_after still raise journal measure timely few.
+    deliveries_and_orders (system g.A.Actor.table g.A.Mail.Parcel.receiver words births) told owed_after still raise measure journal timely few
 
 pub returns-clause-rows : goal.returns-clause-rows
 returns-clause-rows g c = λ words births journal apart timely.

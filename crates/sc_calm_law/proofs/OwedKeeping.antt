@@ -1,0 +1,229 @@
+-- A row that finds what it needs lowers what is owed, where it delivers, and raises it little, where it tells an order.
+use Rattle.std.proofs.Common.{◌≡◌, ℕ, ◌+◌, ◌*◌, ◌≤◌, eqb, true, true≢false, cond, List, [], ◌∷◌, ◌++◌, sum_by, find, Some, None, inl, inr, refl, sym, ◌∙◌, ap, subst, arith}
+use Rattle.std.specs.List.{filter}
+use Rattle.std.specs.Option.{option_map}
+use Rattle.std.proofs.lemmas.List.Sums.{sum_by-append}
+use Rattle.sc_base.specs.declared.names.Draw.{Draw}
+use Rattle.sc_cmd.specs.declared.orders.OrderLine.{OrderLine}
+use Rattle.sc_mail.specs.declared.bodies.Mail.{Mail}
+use Rattle.sc_mail.specs.declared.bodies.MailBody.{MailBody}
+use Rattle.sc_mail.specs.declared.bodies.MailBody.TheVariants.{Request, Answer, Prepare, Promise, Accept, Accepted, Nack, Learn, Ask, Install, TxPrepare, TxVote, TxOutcome, TxElsewhere, TxWatch, TxWatched, Told as ToldMail}
+use Rattle.sc_mail.specs.declared.roles.Role.TheVariants.{Node, Client}
+use Rattle.sc_actor.specs.declared.actors.Seat.{Seat}
+use Rattle.sc_actor.specs.declared.rows.Event.{Event}
+use Rattle.sc_actor.specs.declared.rows.Event.TheVariants.{Deliver, Tick, Go, Told, Crash, Drop, Again}
+use Rattle.sc_actor.specs.declared.rows.Input.{Input}
+use Rattle.sc_actor.specs.declared.rows.Input.TheVariants.{Got, Go as GoInput, Told as ToldInput}
+use Rattle.sc_actor.specs.declared.rows.Row.{Row}
+use Rattle.sc_actor.specs.Mail.{mails, copies, counts_at, is_delivery}
+use Rattle.sc_actor.specs.Replay.{value, acted, input_of}
+use Rattle.sc_actor.specs.System.{are_apart, row_of}
+use Rattle.sc_actor.proofs.PendingLemmas.{waiting_one}
+use Rattle.sc_orderly_law.specs.Orderly.{IsCalmEvent, mail_with, is_born, is_told, orders}
+use Rattle.sc_orderly_law.specs.Owing.{under_way}
+use Rattle.sc_orderly_law.specs.Timely.{AreInTime}
+use Rattle.sc_orderly_law.proofs.InTime.{by_time, in_time_before, last_in_time}
+use Rattle.sc_orderly_law.proofs.Paying.{count_push, delivered}
+use Rattle.sc_orderly_law.proofs.Rests.{filter_sum}
+use Rattle.sc_orderly_law.proofs.Resting.{after-row, is_born-from}
+use Rattle.sc_node_table.specs.Node.{NodeState, on_mail, ordered_of, on_order}
+use Rattle.sc_client_table.specs.Client.{Client as ClientState}
+use Rattle.sc_client_table.specs.Table.{started, got}
+use Rattle.sc_sound.specs.Players.{Player, player_table, receiver_of}
+use Rattle.sc_calm_law.specs.Charts.{players, Chart, player_owes, run_owes}
+use Rattle.sc_calm_law.specs.Executing.{AreBounded}
+use Rattle.sc_calm_law.specs.Keeping.{TakenMailLowers, IsCalmMailAt, Takes, Learns, Makes, Misses, Strays, IsBarred, IsCalmFor, MayGoNow, MayBeTold, FindsCalm, KeepCalm, KeptCalmIsMeasured}
+use Rattle.sc_calm_law.specs.Laws.{Lowers, Points}
+use Rattle.sc_calm_law.specs.Led.{LowersLed}
+use Rattle.sc_calm_law.specs.Owed.{Ways, body_owes, mail_owes}
+use Rattle.sc_calm_law.specs.Parties.{Elsewhere, groups_owe}
+use Rattle.sc_calm_law.specs.Reach.{client_owes, client_turn_owes}
+use Rattle.sc_calm_law.specs.Strangers.{PartyLowers}
+use Rattle.sc_calm_law.specs.Totals.{Rows, led_elsewhere}
+use Rattle.sc_calm_law.proofs.OwedCharts.{charts_may_change}
+use Rattle.sc_calm_law.proofs.OwedLed.{led_learns}
+use Rattle.sc_calm_law.proofs.OwedLone.{lone_decides}
+use Rattle.sc_calm_law.proofs.OwedMailed.{answers, votes, learns, asks, moves, counts, old_learns}
+use Rattle.sc_calm_law.proofs.OwedNodes.{raise_little}
+use Rattle.sc_calm_law.proofs.OwedParties.{parties_lower, led_parties_lower, parties_raise_little}
+use Rattle.sc_calm_law.proofs.OwedReach.{clients_pay}
+use Rattle.sc_calm_law.proofs.OwedServed.{serving_decides}
+use Rattle.sc_calm_law.proofs.OwedStrangers.{strangers_lower}
+use Rattle.sc_calm_law.proofs.OwedTotals.{idle_part, node_idles, turns, players_change}
+
+-- ---- a mail that a replica takes
+
+pub taken_mail : TakenMailLowers
+taken_mail ways from (Request group client seq op) r bounded may =
+    subst (λ (g : Draw). Lowers ways from (Request g client seq op) (r, [])) may.0
+    (asks.request ways from client seq op (r, []) may.1 (subst (λ (g : Draw). Points ways g r) (sym may.0) may.2))
+taken_mail ways from (Prepare group ballot from_slot) r bounded may = answers.prepare ways from group ballot from_slot (r, []) may
+taken_mail ways from (Promise group ballot reports) r bounded may = subst (λ reported. Lowers ways from (Promise group ballot reported) (r, [])) (sym may.0) (asks.promise ways from group ballot (r, []) may.1)
+taken_mail ways from (Accept group ballot slot command) r bounded may = answers.accept ways from group ballot slot command (r, []) may
+taken_mail ways from (Accepted group ballot slot) r bounded (inl off) = counts ways from group ballot slot (r, []) (λ flight runs room at e. absurd (true≢false (sym runs ∙ off)))
+taken_mail ways from (Accepted group ballot slot) r bounded (inr (inl serves)) = counts ways from group ballot slot (r, []) (serving_decides ways slot (r, []) bounded serves)
+taken_mail ways from (Accepted group ballot slot) r bounded (inr (inr flies)) = counts ways from group ballot slot (r, []) (lone_decides ways slot flies.0 (r, []) bounded flies.1)
+taken_mail ways from (Nack group promised) r bounded may = answers.nack ways from group promised (r, []) may
+taken_mail ways from (Learn group slot command) r bounded (inl old) = old_learns ways from group slot command (r, []) old
+taken_mail ways from (Learn group slot command) r bounded (inr follows) = learns ways from group slot command (r, []) follows.0 follows.1
+taken_mail ways from (Install group slot base sets) r bounded may = moves.install ways from group slot base sets (r, []) may.0 may.1
+taken_mail ways from (TxPrepare tx offer) r bounded may = asks.offer ways from tx offer (r, []) may.0 may.1 may.2
+taken_mail ways from (TxVote tx coord part vote) r bounded may = votes.vote ways from tx coord part vote (r, []) may
+taken_mail ways from (TxOutcome tx part outcome) r bounded may = votes.outcome ways from tx part outcome (r, []) may
+taken_mail ways from (TxElsewhere tx coord None) r bounded may = absurd may
+taken_mail ways from (TxElsewhere tx coord (Some node)) r bounded may = moves.elsewhere ways from tx coord node (r, []) may
+taken_mail ways from (TxWatch tx watch) r bounded may = asks.watch ways from tx watch (r, []) may.0 may.1 may.2
+taken_mail ways from (TxWatched tx coord part vote) r bounded may = votes.watched ways from tx coord part vote (r, []) may
+taken_mail ways from (Answer group seq answer) r bounded may = absurd may
+taken_mail ways from (Ask group from_slot) r bounded may = absurd may
+taken_mail ways from (ToldMail order result) r bounded may = absurd may
+
+-- ---- a mail that a node is delivered
+
+mail_pays : (ways : Ways) (groups : List Draw) (elsewhere : Elsewhere) (from : ℕ) (body : MailBody) (node : NodeState) → AreBounded ways → IsCalmMailAt ways groups elsewhere from body node → PartyLowers ways groups elsewhere from body node
+mail_pays ways groups elsewhere from body node bounded (Takes group r once is) =
+    parties_lower ways groups elsewhere from group body r node once
+    (record { taken = is.stays.taken; here = is.stays.here; lowers = taken_mail ways from body r bounded is.may; same = is.stays.same; alone = is.alone })
+mail_pays ways groups elsewhere from body node bounded (Learns group r is) =
+    led_parties_lower ways groups elsewhere from group body r node
+    (record { taken = is.stays.taken; here = is.stays.here; led = is.led; lowers = subst (λ (b : MailBody). LowersLed ways from b (r, [])) (sym is.body_is) (led_learns ways from group is.slot is.command r is.learns); same = is.stays.same })
+mail_pays ways groups elsewhere from body node bounded (Makes group is) =
+    subst (λ (b : MailBody). PartyLowers ways groups elsewhere from b node) (sym is.body_is) (strangers_lower.made ways groups elsewhere from group is.slot is.base is.sets node is.once is.none is.behind)
+mail_pays ways groups elsewhere from body node bounded (Misses group is) = strangers_lower.missed ways groups elsewhere from group body node is.may is.named is.none
+mail_pays ways groups elsewhere from body node bounded (Strays delivered none) = strangers_lower.stray ways groups elsewhere from body node delivered none
+mail_pays ways groups elsewhere from body node bounded (IsBarred delivered barred) = strangers_lower.barred ways groups elsewhere from body node delivered barred
+
+-- ---- an input of a player
+
+module _ (chart : Chart) (elsewhere : Elsewhere) (bounded : AreBounded chart.ways) where
+  -- what a player owes, with what groups owe where it is among others
+  abbrev part : Player → ℕ
+  part player = player_owes chart player + idle_part elsewhere chart.groups player
+
+  -- .. after an input, with what it sends
+  abbrev turn_part : Player → Input Mail OrderLine → ℕ
+  turn_part player input = part (player_table player input).0 + sum_by (mail_owes chart.ways) (player_table player input).1
+
+  -- no group is led at a client
+  client_idles : (one other : ClientState) → idle_part elsewhere chart.groups (Client one) ≡ idle_part elsewhere chart.groups (Client other)
+  client_idles one other = refl
+
+  got_pays : (mail : Mail) (player : Player) → IsCalmFor chart elsewhere mail player → turn_part player (Got mail) + 1 ≤ part player + mail_owes chart.ways mail
+  got_pays mail (Node node) is =
+      let le = mail_pays chart.ways chart.groups elsewhere mail.from mail.body node bounded is.1 in
+      let at = ap (λ n. body_owes chart.ways n mail.body) is.0 in
+      let before = node_idles elsewhere chart.groups node in
+      let after = node_idles elsewhere chart.groups (on_mail mail.from mail.body node).0 in
+      omega (arith, le, at, before, after)
+  got_pays mail (Client client) is =
+      let pays = clients_pay.answer chart.ways chart.reach mail.from is.seq is.group is.answer client bounded is.may in
+      let le = subst (λ (b : MailBody). client_turn_owes chart.ways chart.reach (got mail.from b client) + 1 ≤ client_owes chart.ways chart.reach client + body_owes chart.ways mail.to b) (sym is.body_is) pays in
+      let same = client_idles (got mail.from mail.body client).0 client in
+      omega (arith, le, same)
+
+  go_pays : (player : Player) → MayGoNow chart player → turn_part player GoInput ≤ part player
+  go_pays (Node node) is = omega arith
+  go_pays (Client client) is =
+      let le = clients_pay.go chart.ways chart.reach client bounded is in
+      let same = client_idles (started 1 client).0 client in
+      omega (arith, le, same)
+
+  told_pays : (line : OrderLine) (player : Player) → MayBeTold chart elsewhere line player → turn_part player (ToldInput line) ≤ part player + (242 + 4 * chart.ways.most)
+  told_pays line (Node node) (inl none) =
+      let le = raise_little.refused chart.ways line node none in
+      let same = ap (λ o. groups_owe chart.groups elsewhere (ordered_of o line node).0) none in
+      let before = node_idles elsewhere chart.groups node in
+      let after = node_idles elsewhere chart.groups (on_order line node).0 in
+      omega (arith, le, same, before, after)
+  told_pays line (Node node) (inr is) =
+      let le = parties_raise_little chart.ways chart.groups elsewhere line is.0 node is.1 is.2 in
+      let before = node_idles elsewhere chart.groups node in
+      let after = node_idles elsewhere chart.groups (on_order line node).0 in
+      omega (arith, le, before, after)
+  told_pays line (Client client) is = omega arith
+
+-- ---- a row
+
+module _ (words : ℕ → ℕ → ℕ × ℕ) (births : List (Seat Player)) (apart : are_apart births ≡ true) where
+  -- what the mail under way owes after one more row
+  mail_row : (owes : Mail → ℕ) (rows : Rows) (row : Row Mail OrderLine) → sum_by owes (under_way (players words births) (rows ++ row ∷ [])) ≤ sum_by owes (mail_with (λ (mail : Mail). is_born (players words births) (receiver_of mail)) (mails rows) (counts_at (copies rows) row.event)) + sum_by owes row.sent
+  mail_row owes rows row =
+      let test = λ (mail : Mail). is_born (players words births) (receiver_of mail) in
+      let left = mail_with test (mails rows) (counts_at (copies rows) row.event) in
+      let is = ap (sum_by owes) (after-row (players words births) test rows row) in
+      let split = sum_by-append owes left (filter test row.sent) in
+      let le = filter_sum test owes row.sent in
+      omega (arith, is, split, le)
+
+  module _ (chart : Chart) (bounded : AreBounded chart.ways) (rows : Rows) (seat : Seat Player) (born : find (λ other. eqb other.who seat.who) births ≡ Some seat) where
+    abbrev after : Event OrderLine → Rows
+    after event = rows ++ row_of player_table seat rows event ∷ []
+
+    abbrev Pays : Event OrderLine → Type 0
+    Pays event = run_owes chart (players words births) (after event) + cond (is_delivery event) 1 0 ≤ run_owes chart (players words births) rows + cond (is_told event) (242 + 4 * chart.ways.most) 0
+
+    row_pays : (event : Event OrderLine) → IsCalmEvent (players words births) rows seat.who event → FindsCalm chart births rows seat event → Pays event
+    row_pays (Deliver number) fine finds =
+        let now = value player_table seat rows in
+        let elsewhere = led_elsewhere births rows seat.who in
+        let w = waiting_one (players words births) rows seat.who 1 number fine in
+        let input : input_of {O = OrderLine} (mails rows) (Deliver number) ≡ Some (Got w.0) = ap (λ o. option_map Got o) w.1.sent in
+        let lower = got_pays chart elsewhere bounded w.0 now (finds w.0 w.1.sent) in
+        let change = players_change births apart rows seat (Deliver number) born (player_owes chart) chart.groups in
+        let turned = ap (part chart elsewhere bounded) (turns births apart rows seat (Deliver number) born ∙ ap (λ i. (acted player_table now i).0) input) in
+        let sent = ap (λ i. sum_by (mail_owes chart.ways) (acted player_table now i).1) input in
+        let mail = mail_row (mail_owes chart.ways) rows (row_of player_table seat rows (Deliver number)) in
+        let took = delivered (players words births) (mail_owes chart.ways) rows number w.0 (ap (is_born (players words births)) w.2 ∙ is_born-from (players words births) seat.who seat born) w.1 in
+        omega (arith, lower, change, turned, sent, mail, took)
+    row_pays Go fine finds =
+        let now = value player_table seat rows in
+        let elsewhere = led_elsewhere births rows seat.who in
+        let lower = go_pays chart elsewhere bounded now finds in
+        let change = players_change births apart rows seat Go born (player_owes chart) chart.groups in
+        let turned = ap (part chart elsewhere bounded) (turns births apart rows seat Go born) in
+        let mail = mail_row (mail_owes chart.ways) rows (row_of player_table seat rows Go) in
+        omega (arith, lower, change, turned, mail)
+    row_pays (Told line) fine finds =
+        let now = value player_table seat rows in
+        let elsewhere = led_elsewhere births rows seat.who in
+        let lower = told_pays chart elsewhere bounded line now finds in
+        let change = players_change births apart rows seat (Told line) born (player_owes chart) chart.groups in
+        let turned = ap (part chart elsewhere bounded) (turns births apart rows seat (Told line) born) in
+        let mail = mail_row (mail_owes chart.ways) rows (row_of player_table seat rows (Told line)) in
+        omega (arith, lower, change, turned, mail)
+    row_pays Tick fine finds = absurd fine
+    row_pays Crash fine finds = absurd fine
+    row_pays (Drop mail) fine finds = absurd fine
+    row_pays (Again mail) fine finds = absurd fine
+
+  -- ---- rows that come in time
+
+  module _ (charts : Rows → Chart) (told : ℕ) (keeps : KeepCalm (players words births) charts told) where
+    fewer : (rows : Rows) (row : Row Mail OrderLine) → orders (rows ++ row ∷ []) ≤ told → orders rows ≤ told
+    fewer rows row few = (let o = count_push (λ (r : Row Mail OrderLine). is_told r.event) rows row (is_told row.event) refl in omega (arith, o, few))
+
+    -- the longest way stays what it is
+    most_stays : (rows : Rows) → AreInTime (players words births) rows → orders rows ≤ told → (charts rows).ways.most ≡ (charts []).ways.most
+    most_stays rows timely =
+        by_time (players words births) (λ r. orders r ≤ told → (charts r).ways.most ≡ (charts []).ways.most) (λ few. refl)
+        (λ r row t same few. (keeps r row t few).follows.most ∙ same (fewer r row few))
+        rows timely
+
+    abbrev RowPays : Rows → Row Mail OrderLine → Type 0
+    RowPays rows row = run_owes (charts rows) (players words births) (rows ++ row ∷ []) + cond (is_delivery row.event) 1 0 ≤ run_owes (charts rows) (players words births) rows + cond (is_told row.event) (242 + 4 * (charts rows).ways.most) 0
+
+    row_lowers : (rows : Rows) (row : Row Mail OrderLine) → AreInTime (players words births) (rows ++ row ∷ []) → orders (rows ++ row ∷ []) ≤ told
+        → run_owes (charts (rows ++ row ∷ [])) (players words births) (rows ++ row ∷ []) + cond (is_delivery row.event) 1 0 ≤ run_owes (charts rows) (players words births) rows + cond (is_told row.event) (242 + 4 * (charts []).ways.most) 0
+    row_lowers rows row timely few =
+        let kept = keeps rows row timely few in
+        let calm = (last_in_time (players words births) rows row timely).0 in
+        let pays = subst (RowPays rows) (sym calm.row_is) (row_pays (charts rows) kept.bounded rows calm.seat calm.born calm.event calm.calm (kept.finds calm.seat calm.event calm.born calm.row_is)) in
+        let next = charts_may_change words births (rows ++ row ∷ []) (charts rows) (charts (rows ++ row ∷ [])) kept.follows in
+        let same = ap (λ far. cond (is_told row.event) (242 + 4 * far) 0) (most_stays rows (in_time_before (players words births) rows row timely) (fewer rows row few)) in
+        omega (arith, pays, next, same)
+
+pub kept_calm : KeptCalmIsMeasured
+kept_calm words births charts told still apart keeps quiet = record {
+  lowers = row_lowers words births apart charts told keeps;
+  quiet = quiet;
+}

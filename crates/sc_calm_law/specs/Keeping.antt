@@ -1,0 +1,160 @@
+-- What rows of a calm journal have to find, so that each delivery lowers what is owed, and an order raises it little.
+use Rattle.std.specs.Prelude.{◌≡◌, ℕ, ◌+◌, ◌*◌, ◌≤◌, ◌==◌, true, false, List, [], ◌∷◌, ◌++◌, find, Option, Some, None, ◌⊎◌}
+use Rattle.sc_base.specs.declared.names.Draw.{Draw}
+use Rattle.sc_cmd.specs.declared.commands.Command.{Command}
+use Rattle.sc_cmd.specs.declared.cores.Base.{Base}
+use Rattle.sc_cmd.specs.declared.orders.OrderLine.{OrderLine}
+use Rattle.sc_mail.specs.declared.bodies.Mail.{Mail}
+use Rattle.sc_mail.specs.declared.bodies.MailBody.{MailBody}
+use Rattle.sc_mail.specs.declared.bodies.MailBody.TheVariants.{Request, Answer, Prepare, Promise, Accept, Accepted, Nack, Learn, Ask, Install, TxPrepare, TxVote, TxOutcome, TxElsewhere, TxWatch, TxWatched, Told as ToldMail}
+use Rattle.sc_mail.specs.declared.roles.Role.TheVariants.{Node, Client}
+use Rattle.sc_actor.specs.declared.actors.Seat.{Seat}
+use Rattle.sc_actor.specs.declared.rows.Event.{Event}
+use Rattle.sc_actor.specs.declared.rows.Event.TheVariants.{Deliver, Tick, Go, Told, Crash, Drop, Again}
+use Rattle.sc_actor.specs.declared.rows.Row.{Row}
+use Rattle.sc_actor.specs.Mail.{mails, numbered}
+use Rattle.sc_actor.specs.Replay.{value}
+use Rattle.sc_actor.specs.System.{System, are_apart, row_of}
+use Rattle.sc_actor.specs.Walk.{is_quiet}
+use Rattle.sc_orderly_law.specs.Orderly.{orders}
+use Rattle.sc_orderly_law.specs.Timely.{AreInTime, IsMeasure}
+use Rattle.sc_paxos_words.specs.declared.flights.Flight.{Flight}
+use Rattle.sc_node_table.specs.Node.{NodeState, replica_of, group_of_mail, may_come, group_of_order}
+use Rattle.sc_node_table.specs.Replica.{ReplicaState, name_of, next}
+use Rattle.sc_sound.specs.Players.{Player, player_table}
+use Rattle.sc_calm_law.specs.Charts.{players, Chart, run_owes, MayFollow}
+use Rattle.sc_calm_law.specs.Executing.{AreBounded, ServesAll, FliesAlone}
+use Rattle.sc_calm_law.specs.Laws.{Lowers, MayPump, GoesOn, Follows, Points, AsksAs}
+use Rattle.sc_calm_law.specs.Led.{LearnsLed}
+use Rattle.sc_calm_law.specs.Nodes.{group_owes, IsTaken, after_mail, IsDelivered, MayMiss}
+use Rattle.sc_calm_law.specs.Owed.{Ways}
+use Rattle.sc_calm_law.specs.Parties.{Elsewhere, StandsOnce, IsCalmOrder}
+use Rattle.sc_calm_law.specs.Reach.{IsUnbegun, HearsCalmly}
+use Rattle.sc_calm_law.specs.Strangers.{IsMadeBehind}
+use Rattle.sc_calm_law.specs.Totals.{Rows, led_elsewhere}
+
+-- a replica that counts a vote does not run, or calls alone are under way at it, or one entry alone
+abbrev pub MayCount : ℕ → ReplicaState → Type 0
+MayCount slot r = (r.running ≡ false) ⊎ (ServesAll r ⊎ ((flight : Flight Command) × FliesAlone slot flight r))
+
+-- one that learns an entry learns an earlier one, or follows and learns the next
+abbrev pub MayLearn : ℕ → Command → ReplicaState → Type 0
+MayLearn slot command r = (slot + 1 ≤ next r) ⊎ (Follows command r × (slot ≤ next r))
+
+-- one that is sent elsewhere is told where
+abbrev pub MayAskThere : Ways → Draw → ReplicaState → Option ℕ → Type 0
+MayAskThere ways tx r None = ⊥
+MayAskThere ways tx r (Some node) = AsksAs ways tx node r
+
+-- what has to hold of a replica that takes a mail, by what it says
+abbrev pub MayTake : Ways → ReplicaState → MailBody → Type 0
+MayTake ways r (Request group client seq op) = (name_of r ≡ group) × MayPump r × Points ways group r
+MayTake ways r (Prepare group ballot from_slot) = GoesOn ballot r
+MayTake ways r (Promise group ballot reports) = (reports ≡ []) × MayPump r
+MayTake ways r (Accept group ballot slot command) = GoesOn ballot r
+MayTake ways r (Accepted group ballot slot) = MayCount slot r
+MayTake ways r (Nack group promised) = GoesOn promised r
+MayTake ways r (Learn group slot command) = MayLearn slot command r
+MayTake ways r (Install group slot base sets) = (r.running ≡ false) × (r.group.core.gone ≡ None)
+MayTake ways r (TxPrepare tx offer) = MayPump r × Points ways offer.part r × (ways.asks tx ≡ Some (offer.part, false))
+MayTake ways r (TxVote tx coord part vote) = MayPump r
+MayTake ways r (TxOutcome tx part outcome) = MayPump r
+MayTake ways r (TxElsewhere tx coord hint) = MayAskThere ways tx r hint
+MayTake ways r (TxWatch tx watch) = MayPump r × Points ways watch.part r × (ways.asks tx ≡ Some (watch.part, true))
+MayTake ways r (TxWatched tx coord part vote) = MayPump r
+MayTake ways r (Answer group seq answer) = ⊥
+MayTake ways r (Ask group from_slot) = ⊥
+MayTake ways r (ToldMail order result) = ⊥
+
+-- such a mail lowers what is owed at the replica
+abbrev pub TakenMailLowers : Type 0
+TakenMailLowers = (ways : Ways) (from : ℕ) (body : MailBody) (r : ReplicaState) → AreBounded ways → MayTake ways r body → Lowers ways from body (r, [])
+
+-- a replica of this node that stays its group's by a mail
+pub record StaysIn (from : ℕ) (group : Draw) (body : MailBody) (r : ReplicaState) (node : NodeState) : Type 0 where
+  pub taken : IsTaken from group body r node
+  pub here : r.me ≡ node.me
+  pub same : name_of (after_mail from body r).0 ≡ group
+
+-- .. and, where another of its group leads or is gone, neither begins to lead nor goes
+pub record TakesCalmly (ways : Ways) (elsewhere : Elsewhere) (from : ℕ) (group : Draw) (body : MailBody) (r : ReplicaState) (node : NodeState) : Type 0 where
+  pub stays : StaysIn from group body r node
+  pub may : MayTake ways r body
+  pub alone : elsewhere group ≡ true → group_owes r ≤ group_owes (after_mail from body r).0
+
+-- .. or, where another leads or is gone, learns an entry by which it does not lead, also that by which its group is gone
+pub record LearnsCalmly (elsewhere : Elsewhere) (from : ℕ) (group : Draw) (body : MailBody) (r : ReplicaState) (node : NodeState) : Type 0 where
+  pub stays : StaysIn from group body r node
+  pub led : elsewhere group ≡ true
+  pub slot : ℕ
+  pub command : Command
+  pub body_is : body ≡ Learn group slot command
+  pub learns : LearnsLed slot command r
+
+-- one that is made of a state of a group that has begun
+pub record MakesCalmly (groups : List Draw) (elsewhere : Elsewhere) (from : ℕ) (group : Draw) (body : MailBody) (node : NodeState) : Type 0 where
+  pub once : StandsOnce group groups
+  pub none : replica_of group node.replicas ≡ None
+  pub slot : ℕ
+  pub base : Base
+  pub sets : List (List ℕ)
+  pub body_is : body ≡ Install group slot base sets
+  pub behind : IsMadeBehind elsewhere from group slot base sets node
+
+-- a node without replica of the group, and mail after which less is owed at such a one
+pub record MissesCalmly (group : Draw) (body : MailBody) (node : NodeState) : Type 0 where
+  pub named : group_of_mail body ≡ Some group
+  pub none : replica_of group node.replicas ≡ None
+  pub may : MayMiss body
+
+-- A mail that a node may be delivered: its replica takes it, or learns by it; or it makes one of it, or misses one; or it is for none.
+pub data IsCalmMailAt (ways : Ways) (groups : List Draw) (elsewhere : Elsewhere) (from : ℕ) (body : MailBody) (node : NodeState) : Type 0 where
+  Takes : (group : Draw) (r : ReplicaState) (once : StandsOnce group groups) (is : TakesCalmly ways elsewhere from group body r node) → IsCalmMailAt ways groups elsewhere from body node
+  Learns : (group : Draw) (r : ReplicaState) (is : LearnsCalmly elsewhere from group body r node) → IsCalmMailAt ways groups elsewhere from body node
+  Makes : (group : Draw) (is : MakesCalmly groups elsewhere from group body node) → IsCalmMailAt ways groups elsewhere from body node
+  Misses : (group : Draw) (is : MissesCalmly group body node) → IsCalmMailAt ways groups elsewhere from body node
+  Strays : (delivered : IsDelivered body) (none : group_of_mail body ≡ None) → IsCalmMailAt ways groups elsewhere from body node
+  IsBarred : (delivered : IsDelivered body) (barred : may_come from body ≡ false) → IsCalmMailAt ways groups elsewhere from body node
+
+-- a mail for a player
+abbrev pub IsCalmFor : Chart → Elsewhere → Mail → Player → Type 0
+IsCalmFor chart elsewhere mail (Node node) = (mail.to ≡ node.me) × IsCalmMailAt chart.ways chart.groups elsewhere mail.from mail.body node
+IsCalmFor chart elsewhere mail (Client client) = HearsCalmly chart.ways chart.reach mail.from mail.body client
+
+-- a player that is told to go: a node, or a client that has not gone
+abbrev pub MayGoNow : Chart → Player → Type 0
+MayGoNow chart (Node node) = Unit {0}
+MayGoNow chart (Client client) = IsUnbegun chart.reach client
+
+-- a node that is told an order: without replica of its group, or with one of a group that has begun, which may pump
+abbrev pub MayBeTold : Chart → Elsewhere → OrderLine → Player → Type 0
+MayBeTold chart elsewhere line (Node node) =
+    (replica_of (group_of_order line.order) node.replicas ≡ None) ⊎ ((r : ReplicaState) × StandsOnce (group_of_order line.order) chart.groups × IsCalmOrder elsewhere line r node)
+MayBeTold chart elsewhere line (Client client) = Unit {0}
+
+-- what an event of a player finds; no other comes
+abbrev pub FindsCalm : Chart → List (Seat Player) → Rows → Seat Player → Event OrderLine → Type 0
+FindsCalm chart births rows seat (Deliver number) = (mail : Mail) → numbered (mails rows) number ≡ Some mail → IsCalmFor chart (led_elsewhere births rows seat.who) mail (value player_table seat rows)
+FindsCalm chart births rows seat Go = MayGoNow chart (value player_table seat rows)
+FindsCalm chart births rows seat (Told line) = MayBeTold chart (led_elsewhere births rows seat.who) line (value player_table seat rows)
+FindsCalm chart births rows seat Tick = Unit {0}
+FindsCalm chart births rows seat Crash = Unit {0}
+FindsCalm chart births rows seat (Drop mail) = Unit {0}
+FindsCalm chart births rows seat (Again mail) = Unit {0}
+
+-- A row of a calm journal finds what it needs, by the chart of the rows before it; and the chart after it follows that.
+pub record KeepsCalm (s : System Player Mail OrderLine) (charts : Rows → Chart) (rows : Rows) (row : Row Mail OrderLine) : Type 0 where
+  pub bounded : AreBounded (charts rows).ways
+  pub finds : (seat : Seat Player) (event : Event OrderLine) → find (λ other. other.who == seat.who) s.births ≡ Some seat → row ≡ row_of player_table seat rows event → FindsCalm (charts rows) s.births rows seat event
+  pub follows : MayFollow s (rows ++ row ∷ []) (charts rows) (charts (rows ++ row ∷ []))
+
+-- Each row that comes in time, where no more than so many orders are told, finds what it needs.
+abbrev pub KeepCalm : System Player Mail OrderLine → (Rows → Chart) → ℕ → Type 0
+KeepCalm s charts told = (rows : Rows) (row : Row Mail OrderLine) → AreInTime s (rows ++ row ∷ []) → orders (rows ++ row ∷ []) ≤ told → KeepsCalm s charts rows row
+
+-- Then what is owed is a measure, if no more than so much is owed in quiet journals.
+abbrev pub KeptCalmIsMeasured : Type 0
+KeptCalmIsMeasured =
+    (words : ℕ → ℕ → ℕ × ℕ) (births : List (Seat Player)) (charts : Rows → Chart) (told still : ℕ) → are_apart births ≡ true → KeepCalm (players words births) charts told
+    → ((rows : Rows) → AreInTime (players words births) rows → orders rows ≤ told → is_quiet (players words births) rows ≡ true → run_owes (charts rows) (players words births) rows ≤ still)
+    → IsMeasure (players words births) told (λ rows. run_owes (charts rows) (players words births) rows) still (242 + 4 * (charts []).ways.most)

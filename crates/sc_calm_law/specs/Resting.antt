@@ -1,0 +1,57 @@
+-- What is owed in quiet journals that rest, and that calm journals which keep what they need end quiet.
+use Rattle.std.specs.Prelude.{◌≡◌, ℕ, ◌+◌, ◌*◌, ◌≤◌, nat_lt, true, false, List, [], length, sum_by, None, if◌then◌else◌}
+use Rattle.sc_base.specs.Among.{Each}
+use Rattle.sc_cmd.specs.declared.orders.OrderLine.{OrderLine}
+use Rattle.sc_mail.specs.declared.roles.Role.TheVariants.{Node, Client}
+use Rattle.sc_actor.specs.declared.actors.Seat.{Seat}
+use Rattle.sc_actor.specs.declared.schedules.Line.{Line}
+use Rattle.sc_actor.specs.Replay.{value}
+use Rattle.sc_actor.specs.System.{are_apart}
+use Rattle.sc_actor.specs.Walk.{IsLawful, is_quiet, unsettled}
+use Rattle.sc_orderly_law.specs.Owing.{HasRoom}
+use Rattle.sc_orderly_law.specs.Orderly.{orders}
+use Rattle.sc_orderly_law.specs.Timely.{AreSpaced, Nothing, AreInTime, orders_given}
+use Rattle.sc_sound.specs.Players.{Player, player_table}
+use Rattle.sc_calm_law.specs.Charts.{players, Chart, run_owes}
+use Rattle.sc_calm_law.specs.Keeping.{KeepCalm}
+use Rattle.sc_calm_law.specs.Quiet.{IsAtRest}
+use Rattle.sc_calm_law.specs.Totals.{Rows, is_led}
+
+-- a node at which each replica has nothing to do, or a client of which no request waits
+abbrev pub IsResting : Player → Type 0
+IsResting (Node node) = Each IsAtRest node.replicas
+IsResting (Client client) = client.waiting ≡ None
+
+-- All players rest, each group is led, and by the chart no way is longer, and no client is sent on more often, than by the first.
+pub record RestsCalm (births : List (Seat Player)) (first chart : Chart) (rows : Rows) : Type 0 where
+  pub players : Each (λ seat. IsResting (value player_table seat rows)) births
+  pub led : Each (λ group. is_led births rows group ≡ true) chart.groups
+  pub most : chart.ways.most ≡ first.ways.most
+  pub reach : chart.reach.most ≡ first.reach.most
+
+-- what a player owes at its birth: a client each of its requests, and the most for what it does not know
+abbrev pub birth_owes : Chart → Player → ℕ
+birth_owes chart (Node node) = 0
+birth_owes chart (Client client) = 28 * length client.requests + (if nat_lt 0 (length client.requests) then chart.reach.most * (2 + 2 * chart.ways.most) + 2 * chart.ways.most else 0)
+
+-- .. what all owe at their births
+abbrev pub births_owe : Chart → List (Seat Player) → ℕ
+births_owe chart births = sum_by (λ seat. birth_owes chart seat.actor) births
+
+-- in a quiet journal that rests no more is owed
+abbrev pub RestingOwesLittle : Type 0
+RestingOwesLittle =
+    (words : ℕ → ℕ → ℕ × ℕ) (births : List (Seat Player)) (first chart : Chart) (rows : Rows) → AreInTime (players words births) rows → is_quiet (players words births) rows ≡ true → RestsCalm births first chart rows
+    → run_owes chart (players words births) rows ≤ births_owe first births
+
+-- Each quiet journal of rows in time, where no more than so many orders are told, rests.
+abbrev pub RestCalm : (ℕ → ℕ → ℕ × ℕ) → List (Seat Player) → (Rows → Chart) → ℕ → Type 0
+RestCalm words births charts told = (rows : Rows) → AreInTime (players words births) rows → orders rows ≤ told → is_quiet (players words births) rows ≡ true → RestsCalm births (charts []) (charts rows) rows
+
+-- Where rows keep calm and quiet journals rest, no line of deliveries is cut off that has room for what is owed at birth and what one order raises, if orders stand alone between such lines.
+abbrev pub KeptCalmEndsQuiet : Type 0
+KeptCalmEndsQuiet =
+    (words : ℕ → ℕ → ℕ × ℕ) (births : List (Seat Player)) (charts : Rows → Chart) (lines : List (Line OrderLine)) (journal : Rows) → are_apart births ≡ true
+    → KeepCalm (players words births) charts (orders_given lines) → RestCalm words births charts (orders_given lines)
+    → AreSpaced Nothing lines → Each (HasRoom (births_owe (charts []) births + (242 + 4 * (charts []).ways.most))) lines → IsLawful (players words births) lines journal
+    → unsettled (players words births) lines journal ≡ false
