@@ -254,6 +254,8 @@ pub fn tables_elect()
 /// entry learn it, and each that it adds is sent the state, and asked to promise a later ballot.
 pub fn entries_tell()
     ensures { EntriesTell }
+{}
+
 /// An entry by which its group is gone makes none lead that learns it.
 pub fn ends_leave_none()
     ensures { EndsLeaveNone }
