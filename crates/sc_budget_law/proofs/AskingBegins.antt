@@ -24,6 +24,7 @@ use Rattle.sc_actor.specs.System.{has_gone}
 use Rattle.sc_calm_law.specs.Owed.{Ways}
 use Rattle.sc_calm_law.specs.Quiet.{View as Replicas, StandsQuiet, IsAnswered}
 use Rattle.sc_budget_law.specs.Asking.{IsAskingNode, IsAskingClient, IsAsking}
+use Rattle.sc_budget_law.specs.AskingLines.{NobodyWaits}
 use Rattle.sc_budget_law.specs.AskingQuiet.{replicas_after, setting_at, IsSurveyed, IsQuietJournal, QuietJournalsAsk}
 use Rattle.sc_budget_law.specs.AtRest.{frame_at_rest, StandsPlain}
 use Rattle.sc_budget_law.specs.Between.{Mark, Asks as AsksFor, Votes, Tells, Other, mark, AreInOrder, IsBelow, View, told, IsBetween}
@@ -38,6 +39,7 @@ use Rattle.sc_budget_law.specs.PlainNode.{IsPlainAt}
 use Rattle.sc_budget_law.proofs.BetweenStage.{IsStage, stage}
 use Rattle.sc_budget_law.proofs.BetweenSteps.{node_number}
 use Rattle.sc_budget_law.proofs.BetweenViews.{Journal, replica_is}
+use Rattle.sc_budget_law.proofs.QuietTurns.{client_is}
 use Rattle.sc_budget_law.proofs.RestingFrames.{quiet_stand_plain}
 
 -- ---- mail that is nothing to a group
@@ -194,6 +196,17 @@ module _ (words : ℕ → ℕ → ℕ × ℕ) (scenario : Scenario) (begins : Is
         let answered = Each-among (λ (c : Bool × ClientState). IsAnswered c.0 (route_of begins.first) c.1) q.clients (has_gone rows (client_actor asks.client), p.0) q.quiet.answered p.4 in
         record { client = p.0; is = p.1; calm = calm_by (has_gone rows (client_actor asks.client)) p.0 p.2 p.3 answered }
 
+  still : (gone : Bool) (client : ClientState) → IsAnswered gone (route_of begins.first) client → client.waiting ≡ None
+  still false client fresh = ap (λ (x : ClientState). x.waiting) fresh
+  still true client all = all.0
+
+  nobody : NobodyWaits scenario begins.first rows
+  nobody asks client a e =
+      let p = q.players asks a in
+      let same : p.0 ≡ client = client_is (sym p.1 ∙ e) in
+      let answered = Each-among (λ (c : Bool × ClientState). IsAnswered c.0 (route_of begins.first) c.1) q.clients (has_gone rows (client_actor asks.client), p.0) q.quiet.answered p.4 in
+      ap (λ (x : ClientState). x.waiting) (sym same) ∙ still (has_gone rows (client_actor asks.client)) p.0 answered
+
   -- ---- a group
 
   marks_other : (name : Draw) (who : ℕ) → Each IsOther (marks_at words scenario rows name who)
@@ -237,4 +250,8 @@ quiet_ask all_bounded words scenario first others rows frames ways valid groups 
     let begins = stage scenario (all_bounded scenario valid) in
     let same : first ≡ begins.first = (let e : first ∷ others ≡ begins.first ∷ begins.others = sym groups ∙ begins.groups_are in cc) in
     let q_ = subst (λ (f : Base). IsQuietJournal words scenario f rows) same q in
-    (is_setting words scenario begins rows q_ frames ways s, subst (λ (f : Base). IsAsking words scenario (setting_at (replicas_after scenario rows) frames ways) f rows) (sym same) (asking words scenario begins rows q_ frames ways s))
+    (
+      is_setting words scenario begins rows q_ frames ways s,
+      subst (λ (f : Base). IsAsking words scenario (setting_at (replicas_after scenario rows) frames ways) f rows) (sym same) (asking words scenario begins rows q_ frames ways s),
+      subst (λ (f : Base). NobodyWaits scenario f rows) (sym same) (nobody words scenario begins rows q_ frames ways s),
+    )

@@ -1,5 +1,5 @@
 -- Between two orders each row of a client leaves a journal in which clients ask alone; and so each row.
-use Rattle.std.proofs.Common.{◌≡◌, ℕ, ◌-◌, ◌≤◌, eqb, ◌&&◌, ◌||◌, Bool, true, false, cond, List, [], ◌∷◌, ◌++◌, length, map, drop, find, Some, inl, inr, refl, sym, ◌∙◌, ap, subst, arith}
+use Rattle.std.proofs.Common.{◌≡◌, ℕ, ◌-◌, ◌≤◌, eqb, ◌&&◌, ◌||◌, Bool, true, false, cond, List, [], ◌∷◌, ◌++◌, length, map, drop, find, Some, ◌⊎◌, inl, inr, refl, sym, ◌∙◌, ap, subst, arith}
 use Rattle.std.specs.Prelude.{slice_get}
 use Rattle.std.specs.Option.{option_map}
 use Rattle.std.proofs.lemmas.Bool.{cases_eq, both_ways, eq-eqb, or_right}
@@ -47,7 +47,7 @@ use Rattle.sc_budget_law.proofs.BetweenStage.{IsStage, stage}
 use Rattle.sc_budget_law.proofs.BetweenSteps.{node_number, client_number, value_others, gone_still, begun_more}
 use Rattle.sc_budget_law.proofs.BetweenViews.{Journal, replica_others, replica_none}
 use Rattle.sc_budget_law.proofs.BetweenWhole.{of_player}
-use Rattle.sc_budget_law.proofs.CalmClients.{clients_calm, unasked}
+use Rattle.sc_budget_law.proofs.CalmClients.{clients_calm, unasked, Seeks, Ignores, takes_calm, go_calm}
 
 module _ (words : ℕ → ℕ → ℕ × ℕ) (scenario : Scenario) (begins : IsStage scenario) (set : Setting) (is : IsSetting set) (linked : IsLinkedSetting set) (rows : Journal) (t : IsTidy rows) (j : IsAsking words scenario set begins.first rows) where
   abbrev sys : System Player Mail OrderLine
@@ -57,14 +57,14 @@ module _ (words : ℕ → ℕ → ℕ × ℕ) (scenario : Scenario) (begins : Is
   cseat other = client_seat (route_of begins.first) other
 
   module _ (asks : Asks) (a : Among asks scenario.clients) (born : find (λ (other : Seat Player). eqb other.who (client_actor asks.client)) (births as_nodes scenario) ≡ Some (client_seat (route_of begins.first) asks)) where
-    c : IsAskingClient scenario set begins.first rows asks
+    pub c : IsAskingClient scenario set begins.first rows asks
     c = j.clients asks a
 
-    no_node : is_node (client_actor asks.client) ≡ false
+    pub no_node : is_node (client_actor asks.client) ≡ false
     no_node = client_number words scenario begins asks a
 
     -- clients of one number are one
-    one_client : (other : Asks) → Among other scenario.clients → client_actor other.client ≡ client_actor asks.client → other ≡ asks
+    pub one_client : (other : Asks) → Among other scenario.clients → client_actor other.client ≡ client_actor asks.client → other ≡ asks
     one_client other b e = begins.once other asks b a (omega (arith, e))
 
     node_away : (node : ℕ) → 1 ≤ node → node ≤ scenario.nodes → node ≡ client_actor asks.client → ⊥
@@ -73,10 +73,10 @@ module _ (words : ℕ → ℕ → ℕ × ℕ) (scenario : Scenario) (begins : Is
     -- the client's row and what it makes of it
     module _ (event : Event OrderLine) (fine : IsInOrder (system_of as_nodes words scenario) rows (client_actor asks.client) event) (after : ClientStep)
         (acted_is : acted player_table (value player_table (client_seat (route_of begins.first) asks) rows) (input_of (mails rows) event) ≡ (Client after.0, after.1)) (grows : begun_ones c.client ≤ begun_ones after.0) where
-      became : value player_table (client_seat (route_of begins.first) asks) (rows ++ row_of player_table (client_seat (route_of begins.first) asks) rows event ∷ []) ≡ Client after.0
+      pub became : value player_table (client_seat (route_of begins.first) asks) (rows ++ row_of player_table (client_seat (route_of begins.first) asks) rows event ∷ []) ≡ Client after.0
       became = turns_of.value_own words scenario begins set is rows t j (cseat asks) event ∙ ap (λ (p : Player × List Mail). p.0) acted_is
 
-      more : IsMore (IsBegun scenario rows) (IsBegun scenario (rows ++ row_of player_table (client_seat (route_of begins.first) asks) rows event ∷ []))
+      pub more : IsMore (IsBegun scenario rows) (IsBegun scenario (rows ++ row_of player_table (client_seat (route_of begins.first) asks) rows event ∷ []))
       more = begun_more words scenario begins rows (row_of player_table (cseat asks) rows event) (λ other b. elim (cases_eq (client_actor other.client) (client_actor asks.client)) [
         | inl here ↦ (let same : other ≡ asks = one_client other b here in
             subst (λ (x : Asks). begun_of (value player_table (cseat x) rows) ≤ begun_of (value player_table (cseat x) (rows ++ row_of player_table (cseat asks) rows event ∷ []))) (sym same)
@@ -85,7 +85,7 @@ module _ (words : ℕ → ℕ → ℕ × ℕ) (scenario : Scenario) (begins : Is
       ])
 
       -- what is begun after it
-      now : BeginsBy (IsBegun scenario (rows ++ row_of player_table (client_seat (route_of begins.first) asks) rows event ∷ [])) c.client after
+      pub now : BeginsBy (IsBegun scenario (rows ++ row_of player_table (client_seat (route_of begins.first) asks) rows event ∷ [])) c.client after
       now n op one at low = record {
         first = begins.first;
         others = begins.others;
@@ -129,25 +129,31 @@ module _ (words : ℕ → ℕ → ℕ × ℕ) (scenario : Scenario) (begins : Is
     -- ---- a client takes a mail
 
     module _ (number : ℕ) (fine : kth (waiting (system_of as_nodes words scenario) rows (Some (client_actor asks.client))) 1 ≡ Some number) where
-      first : TakesFirst (system_of as_nodes words scenario) rows (client_actor asks.client) number
+      pub first : TakesFirst (system_of as_nodes words scenario) rows (client_actor asks.client) number
       first = takes_first sys rows (client_actor asks.client) number t (is_born-from sys (client_actor asks.client) (cseat asks) born) fine
 
-      is_calm : IsCalmMail (IsBegun scenario rows) set first.mail
+      pub is_calm : IsCalmMail (IsBegun scenario rows) set first.mail
       is_calm = (subst (Each (IsCalmMail (IsBegun scenario rows) set)) first.first (j.left (client_actor asks.client) (is_born-from sys (client_actor asks.client) (cseat asks) born))).0
 
-      got_is : acted player_table (value player_table (client_seat (route_of begins.first) asks) rows) (input_of {O = OrderLine} (mails rows) (Deliver number)) ≡ (Client (table c.client (Got first.mail)).0, (table c.client (Got first.mail)).1)
+      pub got_is : acted player_table (value player_table (client_seat (route_of begins.first) asks) rows) (input_of {O = OrderLine} (mails rows) (Deliver number)) ≡ (Client (table c.client (Got first.mail)).0, (table c.client (Got first.mail)).1)
       got_is =
           ap (λ o. acted player_table (value player_table (cseat asks) rows) (option_map Got o)) first.sent
           ∙ ap (λ p. acted player_table p (Some (Got first.mail))) c.is
 
-      got_more : begun_ones c.client ≤ begun_ones (table c.client (Got first.mail)).0
+      pub got_more : begun_ones c.client ≤ begun_ones (table c.client (Got first.mail)).0
       got_more = got_grows first.mail.from first.mail.body c.client
 
       -- what is begun of a client is its request
-      asked_right : (seq : ℕ) (op : Op) → IsBegun scenario rows c.client.me seq op → slice_get c.client.requests (seq - 1) ≡ Some op
+      pub asked_right : (seq : ℕ) (op : Op) → IsBegun scenario rows c.client.me seq op → slice_get c.client.requests (seq - 1) ≡ Some op
       asked_right seq op b =
           let same : b.asks ≡ asks = begins.once b.asks asks b.is_asks a (b.client_is ∙ c.calm.me_is) in
           ap (λ (ops : List Op). slice_get ops (seq - 1)) (c.calm.requests_are ∙ sym (ap (λ (x : Asks). x.ops) same)) ∙ b.op_is
+
+      -- what becomes of the request that waits
+      pub does : Seeks (table c.client (Got first.mail)) ⊎ Ignores c.client first.mail (table c.client (Got first.mail))
+      does =
+          (takes_calm set asks (IsBegun scenario rows) (IsBegun scenario (rows ++ row_of player_table (client_seat (route_of begins.first) asks) rows (Deliver number) ∷ [])) (has_gone rows (client_actor asks.client)) c.client first.mail is linked c.calm is_calm
+          (first.receiver ∙ ap client_actor (sym c.calm.me_is)) asked_right (more (Deliver number) fine (table c.client (Got first.mail)) got_is got_more) (now (Deliver number) fine (table c.client (Got first.mail)) got_is got_more)).1
 
       mark_none : (name : Draw) → IsCalmMail (IsBegun scenario rows) set first.mail → mark name first.mail ≡ Other
       mark_none name (inl p) = client_mark (IsBegun scenario rows) p.frame name (is.are p.frame p.is_frame) first.mail.from first.mail.to first.mail.body (ap is_node first.receiver ∙ no_node) p.says
@@ -168,18 +174,21 @@ module _ (words : ℕ → ℕ → ℕ × ℕ) (scenario : Scenario) (begins : Is
     -- ---- a client is told to go
 
     module _ (fine : has_gone rows (client_actor asks.client) ≡ false) where
-      go_is : acted player_table (value player_table (client_seat (route_of begins.first) asks) rows) (input_of {O = OrderLine} (mails rows) Go) ≡ (Client (table c.client GoInput).0, (table c.client GoInput).1)
+      pub go_is : acted player_table (value player_table (client_seat (route_of begins.first) asks) rows) (input_of {O = OrderLine} (mails rows) Go) ≡ (Client (table c.client GoInput).0, (table c.client GoInput).1)
       go_is = ap (λ p. acted player_table p (Some GoInput)) c.is
 
-      fresh : IsCalmClient set asks false c.client
+      pub fresh : IsCalmClient set asks false c.client
       fresh = subst (λ g. IsCalmClient set asks g c.client) fine c.calm
 
-      go_more : begun_ones c.client ≤ begun_ones (table c.client GoInput).0
+      pub go_more : begun_ones c.client ≤ begun_ones (table c.client GoInput).0
       go_more =
           let none = unasked set asks c.client fresh.state in
           let waits = ap waiting_ones none.0 in
           let replies = ap length none.1 in
           omega (arith, waits, replies)
+
+      pub seeks : Seeks (table c.client GoInput)
+      seeks = (go_calm set asks (IsBegun scenario (rows ++ row_of player_table (client_seat (route_of begins.first) asks) rows Go ∷ [])) c.client fresh (now Go fine (table c.client GoInput) go_is go_more)).1
 
       gone_now : has_gone (rows ++ row_of player_table (client_seat (route_of begins.first) asks) rows Go ∷ []) (client_actor asks.client) ≡ true
       gone_now =
@@ -208,7 +217,7 @@ module _ (words : ℕ → ℕ → ℕ × ℕ) (scenario : Scenario) (begins : Is
 
   -- ---- each row that comes in order
 
-  asking_row : AreFarFromLast scenario set rows → (row : Row Mail OrderLine) → IsOrderly (system_of as_nodes words scenario) rows row → IsAsking words scenario set begins.first (rows ++ row ∷ [])
+  pub asking_row : AreFarFromLast scenario set rows → (row : Row Mail OrderLine) → IsOrderly (system_of as_nodes words scenario) rows row → IsAsking words scenario set begins.first (rows ++ row ∷ [])
   asking_row room row o = elim (of_player words scenario begins rows row o) [
     | inl n ↦ (
         let row_is : row ≡ row_of player_table (node_seat as_nodes scenario.groups scenario.policy n.me) rows o.event = o.row_is ∙ ap (λ (seat : Seat Player). row_of player_table seat rows o.event) n.seat_is in

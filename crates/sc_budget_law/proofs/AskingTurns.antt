@@ -98,21 +98,21 @@ module _ (words : ℕ → ℕ → ℕ × ℕ) (scenario : Scenario) (stage : IsS
   -- ---- a node acts
 
   module _ (room : AreFarFromLast scenario set rows) (me : ℕ) (one : 1 ≤ me) (most : me ≤ scenario.nodes) (born : find (λ (other : Seat Player). eqb other.who me) (births as_nodes scenario) ≡ Some (node_seat as_nodes scenario.groups scenario.policy me)) where
-    n : IsAskingNode scenario set rows me
+    pub n : IsAskingNode scenario set rows me
     n = j.nodes me one most
 
-    number_is : is_node me ≡ true
+    pub number_is : is_node me ≡ true
     number_is = node_number words scenario stage me one most
 
     -- no client has the number of a node
-    no_client : (asks : Asks) → Among asks scenario.clients → client_actor asks.client ≡ me → ⊥
+    pub no_client : (asks : Asks) → Among asks scenario.clients → client_actor asks.client ≡ me → ⊥
     no_client asks a e = both_ways (is_node me) (ap is_node (sym e) ∙ client_number words scenario stage asks a) number_is
 
-    not_client : (client seq : ℕ) (op : Op) → IsBegun scenario rows client seq op → n.node.me ≡ client_actor client → ⊥
+    pub not_client : (client seq : ℕ) (op : Op) → IsBegun scenario rows client seq op → n.node.me ≡ client_actor client → ⊥
     not_client client seq op b e = no_client b.asks b.is_asks (ap client_actor b.client_is ∙ (sym e ∙ n.me_is))
 
     -- where the node is the same, so are all replicas
-    same_replicas : (event : Event OrderLine) → value player_table (node_seat as_nodes scenario.groups scenario.policy me) (rows ++ row_of player_table (node_seat as_nodes scenario.groups scenario.policy me) rows event ∷ []) ≡ Node n.node
+    pub same_replicas : (event : Event OrderLine) → value player_table (node_seat as_nodes scenario.groups scenario.policy me) (rows ++ row_of player_table (node_seat as_nodes scenario.groups scenario.policy me) rows event ∷ []) ≡ Node n.node
         → (frame : Frame) (node : ℕ) → replica_at scenario (rows ++ row_of player_table (node_seat as_nodes scenario.groups scenario.policy me) rows event ∷ []) frame.core.id node ≡ replica_at scenario rows frame.core.id node
     same_replicas event same frame node =
         let r = row_of player_table (nseat me) rows event in
@@ -124,13 +124,13 @@ module _ (words : ℕ → ℕ → ℕ × ℕ) (scenario : Scenario) (stage : IsS
         ]
 
     module _ (number : ℕ) (fine : kth (waiting (system_of as_nodes words scenario) rows (Some me)) 1 ≡ Some number) where
-      first : TakesFirst (system_of as_nodes words scenario) rows me number
+      pub first : TakesFirst (system_of as_nodes words scenario) rows me number
       first = takes_first sys rows me number t (is_born-from sys me (nseat me) born) fine
 
-      is_calm : IsCalmMail (IsBegun scenario rows) set first.mail
+      pub is_calm : IsCalmMail (IsBegun scenario rows) set first.mail
       is_calm = (subst (Each (IsCalmMail (IsBegun scenario rows) set)) first.first (j.left me (is_born-from sys me (nseat me) born))).0
 
-      in_time : ComesInTime (IsBegun scenario rows) set n.node first.mail
+      pub in_time : ComesInTime (IsBegun scenario rows) set n.node first.mail
       in_time frame r a says found =
           let here : replica_at scenario rows frame.core.id me ≡ Some r = replica_is words scenario rows frame.core.id me (Node n.node) number_is n.is ∙ found in
           let far = room frame me a in
@@ -139,30 +139,30 @@ module _ (words : ℕ → ℕ → ℕ × ℕ) (scenario : Scenario) (stage : IsS
             omega (arith, far, at),
           )
 
-      to_me : first.mail.to ≡ n.node.me
+      pub to_me : first.mail.to ≡ n.node.me
       to_me = first.receiver ∙ sym n.me_is
 
-      turn : Turns (IsBegun scenario rows) set is n.node n.calm first.mail to_me not_client in_time
+      pub turn : Turns (IsBegun scenario rows) set is n.node n.calm first.mail to_me not_client in_time
       turn = turns (IsBegun scenario rows) set is n.node n.calm first.mail to_me not_client in_time is_calm
 
       after_is : IsCalmNode (IsBegun scenario rows) set (node_table n.node (Got first.mail)).0 × Each (IsCalmMail (IsBegun scenario rows) set) (node_table n.node (Got first.mail)).1
       after_is = stays_by (IsBegun scenario rows) set is n.node n.calm first.mail to_me not_client in_time turn
 
       -- what the step makes of the node, and what it sends
-      acted_is : acted player_table (value player_table (node_seat as_nodes scenario.groups scenario.policy me) rows) (input_of {O = OrderLine} (mails rows) (Deliver number)) ≡ (Node (node_table n.node (Got first.mail)).0, (node_table n.node (Got first.mail)).1)
+      pub acted_is : acted player_table (value player_table (node_seat as_nodes scenario.groups scenario.policy me) rows) (input_of {O = OrderLine} (mails rows) (Deliver number)) ≡ (Node (node_table n.node (Got first.mail)).0, (node_table n.node (Got first.mail)).1)
       acted_is =
           ap (λ o. acted player_table (value player_table (nseat me) rows) (option_map Got o)) first.sent
           ∙ ap (λ p. acted player_table p (Some (Got first.mail))) n.is
 
 
-      rest_after : (who : ℕ) → rest (system_of as_nodes words scenario) (rows ++ row_of player_table (node_seat as_nodes scenario.groups scenario.policy me) rows (Deliver number) ∷ []) who
+      pub rest_after : (who : ℕ) → rest (system_of as_nodes words scenario) (rows ++ row_of player_table (node_seat as_nodes scenario.groups scenario.policy me) rows (Deliver number) ∷ []) who
           ≡ drop (taken who (row_of player_table (node_seat as_nodes scenario.groups scenario.policy me) rows (Deliver number))) (rest (system_of as_nodes words scenario) rows who) ++ mail_for (system_of as_nodes words scenario) who (row_of player_table (node_seat as_nodes scenario.groups scenario.policy me) rows (Deliver number)).sent
       rest_after who = rest-row sys rows (row_of player_table (nseat me) rows (Deliver number)) who t (record { seat = nseat me; born = born; event = Deliver number; row_is = refl; in_order = fine })
 
-      became : value player_table (node_seat as_nodes scenario.groups scenario.policy me) (rows ++ row_of player_table (node_seat as_nodes scenario.groups scenario.policy me) rows (Deliver number) ∷ []) ≡ Node (node_table n.node (Got first.mail)).0
+      pub became : value player_table (node_seat as_nodes scenario.groups scenario.policy me) (rows ++ row_of player_table (node_seat as_nodes scenario.groups scenario.policy me) rows (Deliver number) ∷ []) ≡ Node (node_table n.node (Got first.mail)).0
       became = value_own (nseat me) (Deliver number) ∙ ap (λ (p : Player × List Mail). p.0) acted_is
 
-      sends : (row_of player_table (node_seat as_nodes scenario.groups scenario.policy me) rows (Deliver number)).sent ≡ (node_table n.node (Got first.mail)).1
+      pub sends : (row_of player_table (node_seat as_nodes scenario.groups scenario.policy me) rows (Deliver number)).sent ≡ (node_table n.node (Got first.mail)).1
       sends = ap (λ (p : Player × List Mail). p.1) acted_is
 
       -- in each group, by what the node does

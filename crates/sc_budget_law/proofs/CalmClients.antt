@@ -3,7 +3,7 @@ use Rattle.std.proofs.Common.{◌≡◌, ℕ, ◌+◌, ◌-◌, ◌<◌, ◌≤�
 use Rattle.std.specs.Prelude.{nat_le, slice_get, get_or, is_some}
 use Rattle.std.specs.Option.{option_map}
 use Rattle.std.specs.Map.{set_value, remove_entry}
-use Rattle.std.proofs.lemmas.Bool.{cond_both, cond-true, cond-false, cases_Bool, eqb-true, leb-true, leb-false, le-leb, and_parts, eq-eqb, both_ways}
+use Rattle.std.proofs.lemmas.Bool.{cond_both, cond-true, cond-false, cases_Bool, eqb-true, leb-true, leb-false, le-leb, and_parts, and_from, eq-eqb, both_ways}
 use Rattle.std.proofs.lemmas.List.{length_push, length-map, length-take-le}
 use Rattle.std.proofs.lemmas.Option.{slice_get-get_or, slice_get_within}
 use Rattle.sc_base.specs.Among.{Among, Each}
@@ -44,6 +44,7 @@ use Rattle.sc_budget_law.proofs.CalmKnowing.{name_in, id_of, gap, one_of_one, pr
 use Rattle.sc_budget_law.proofs.Clients.{asking}
 use Rattle.sc_budget_law.proofs.Knowing.{chosen_is, one_chosen}
 use Rattle.sc_budget_law.proofs.Lists.{some_is, map_among}
+use Rattle.sc_budget_law.proofs.Sends.{mail_of}
 
 -- ---- what is known of a group
 
@@ -139,6 +140,25 @@ started_begun seq client le =
     ap (λ (x : ClientStep). begun_ones x.0) (cond-true (nat_le seq (length client.requests)) (request_sent (record client { waiting = Some seq })) (record client { waiting = None }, []) (le-leb seq (length client.requests) le))
     ∙ sent_begun (record client { waiting = Some seq })
 
+-- ---- what becomes of the request that waits
+
+-- an answer that ends a request, or sends its client on
+abbrev pub EndsWait : AnswerBody → Type 0
+EndsWait (Value reply) = Unit {0}
+EndsWait (NotMine arc succ) = Unit {0}
+EndsWait (NotLeader hint) = Unit {0}
+EndsWait (Gone into) = Unit {0}
+EndsWait (Stale last) = ⊥
+
+-- where a request waits after a step, the step sent it
+abbrev pub Seeks : ClientStep → Type 0
+Seeks step = (w : IsWaiting step.0) → (op : Op) × Among (asking step.0.me w.target w.group w.seq op) step.1
+
+-- a client ignores a mail that is no such answer to its request, from the node that was asked
+pub record Ignores (client : ClientState) (mail : Mail) (step : ClientStep) : Type 0 where
+  pub after_is : step ≡ (client, [])
+  pub no_end : (w : IsWaiting client) (answer : AnswerBody) → EndsWait answer → mail ≡ mail_of w.target (client_actor client.me) (Answer w.group w.seq answer) → ⊥
+
 module _ (set : Setting) where
   abbrev P : Draw × Way → Type 0
   P = CanBeAsked set
@@ -197,7 +217,7 @@ module _ (set : Setting) where
 
     module _ (begun : Requests) (gone : Bool) where
       abbrev Stays : ClientStep → Type 0
-      Stays step = StaysCalm begun set asks gone step
+      Stays step = StaysCalm begun set asks gone step × Seeks step
 
       -- .. to the group that is chosen
       asked_row : gone ≡ true → (seq : ℕ) (op : Op) (client : ClientState) → IsReady seq op client → (group : Draw) → chosen (pos_of (key_of op)) client.known ≡ Some group → begun client.me seq op → Stays (sent_to group client)
@@ -207,18 +227,27 @@ module _ (set : Setting) where
           let target_is : target_in group client.known ≡ Some target = ap (λ (o : Option Way). option_map target_of o) w.1 in
           let after_is : sent_to group client ≡ (record client { asked = Some (group, target) }, asking client.me target group seq op ∷ []) =
           ap (λ (o : Option ℕ). asked_of client group o (waiting_request client)) target_is ∙ ap (asked_of client group (Some target)) (request_is seq op client k) in
+          let seeks : Seeks (record client { asked = Some (group, target) }, asking client.me target group seq op ∷ []) = λ w_. (
+          let seq_ : seq ≡ w_.seq = some_is (sym k.waits ∙ w_.waits) in
+          let pair : (group, target) ≡ (w_.group, w_.target) = some_is w_.asked in
+          let group_ : group ≡ w_.group = ap (λ (x : Draw × ℕ). x.0) pair in
+          let target_ : target ≡ w_.target = ap (λ (x : Draw × ℕ). x.1) pair in
+          (op, inl (ap (λ x. asking client.me x group seq op) target_ ∙ (ap (λ x. asking client.me w_.target x seq op) group_ ∙ ap (λ x. asking client.me w_.target w_.group x op) seq_)))) in
           subst Stays (sym after_is) (
-            record {
-              me_is = k.me_is;
-              requests_are = k.requests_are;
-              knows = λ few. k.knows;
-              targets = λ few. k.targets;
-              state = inr (
-                g,
-                record { seq = seq; op = op; waits = k.waits; number = k.number; op_is = k.op_is; group = group; target = target; asked = refl; chosen_is = c; target_is = target_is },
-              );
-            },
-            (inr (refl, w.2, b), tt),
+            (
+              record {
+                me_is = k.me_is;
+                requests_are = k.requests_are;
+                knows = λ few. k.knows;
+                targets = λ few. k.targets;
+                state = inr (
+                  g,
+                  record { seq = seq; op = op; waits = k.waits; number = k.number; op_is = k.op_is; group = group; target = target; asked = refl; chosen_is = c; target_is = target_is },
+                );
+              },
+              (inr (refl, w.2, b), tt),
+            ),
+            seeks,
           )
 
       ready_row : gone ≡ true → (seq : ℕ) (op : Op) (client : ClientState) → IsReady seq op client → begun client.me seq op → Stays (request_sent client)
@@ -229,16 +258,19 @@ module _ (set : Setting) where
 
     -- the next request, or none where all are answered
     started_row : (begun : Requests) (client : ClientState) (seq : ℕ) → client.me ≡ asks.client → client.requests ≡ asks.ops → (length client.replies < length client.requests → Knows set client.known) → (length client.replies < length client.requests → Each (CanBeAsked set) client.known) → seq ≡ length client.replies + 1 → length client.replies ≤ length client.requests
-        → BeginsBy begun client (started seq client) → StaysCalm begun set asks true (started seq client)
+        → BeginsBy begun client (started seq client) → StaysCalm begun set asks true (started seq client) × Seeks (started seq client)
     started_row begun client seq me_is requests_are knows targets number few now =
-        cond_both (nat_le seq (length client.requests)) (request_sent (record client { waiting = Some seq })) (record client { waiting = None }, []) (λ (x : ClientStep). StaysCalm begun set asks true x)
+        cond_both (nat_le seq (length client.requests)) (request_sent (record client { waiting = Some seq })) (record client { waiting = None }, []) (λ (x : ClientStep). StaysCalm begun set asks true x × Seeks x)
         (λ t. (let le = leb-true seq (length client.requests) t in
         let op = get_or client.requests (seq - 1) (Get []) in
         let is = slice_get-get_or client.requests (seq - 1) (Get []) (omega (arith, le, number)) in
         ready_row begun true refl seq op (record client { waiting = Some seq }) (record { me_is = me_is; requests_are = requests_are; knows = knows (omega (arith, le, number)); targets = targets (omega (arith, le, number)); waits = refl; number = number; op_is = is }) (now seq op (omega (arith, number)) is (let begins = started_begun seq client le in omega (arith, begins, number)))))
         (λ f. (let past = leb-false seq (length client.requests) f in (
-          record { me_is = me_is; requests_are = requests_are; knows = knows; targets = targets; state = inl (record { waits = refl; replies = inr (refl, omega (arith, past, number, few)) }) },
-          tt,
+          (
+            record { me_is = me_is; requests_are = requests_are; knows = knows; targets = targets; state = inl (record { waits = refl; replies = inr (refl, omega (arith, past, number, few)) }) },
+            tt,
+          ),
+          (λ w. (let bad : None ≡ Some w.seq = w.waits in cc)),
         )))
 
     -- one that was not told yet has asked nothing
@@ -246,7 +278,7 @@ module _ (set : Setting) where
     unasked client (inl rests) = elim (rests.replies) [ inl is ↦ (rests.waits, is.1) | inr is ↦ (let bad : false ≡ true = is.0 in cc) ]
     unasked client (inr is) = (let bad : false ≡ true = is.0 in cc)
 
-    go_calm : (begun : Requests) (client : ClientState) → IsCalmClient set asks false client → BeginsBy begun client (table client Go) → StaysCalm begun set asks true (table client Go)
+    pub go_calm : (begun : Requests) (client : ClientState) → IsCalmClient set asks false client → BeginsBy begun client (table client Go) → StaysCalm begun set asks true (table client Go) × Seeks (table client Go)
     go_calm begun client k now =
         let none = unasked client k.state in
         let short = ap length none.1 in
@@ -257,11 +289,20 @@ module _ (set : Setting) where
     module _ (begun later : Requests) (gone : Bool) (client : ClientState) (mail : Mail) (is : IsSetting set) (linked : IsLinkedSetting set) (k : IsCalmClient set asks gone client) (m : IsCalmMail begun set mail) (to : mail.to ≡ client_actor client.me)
         (asked_right : (seq : ℕ) (op : Op) → begun client.me seq op → slice_get client.requests (seq - 1) ≡ Some op) (weaker : (c n : ℕ) (op : Op) → begun c n op → later c n op) (now : BeginsBy later client (table client (Got mail))) where
       abbrev Keeps : ClientStep → Type 0
-      Keeps step = StaysCalm later set asks gone step
+      Keeps step = StaysCalm later set asks gone step × (Seeks step ⊎ Ignores client mail step)
+
+      abbrev Sends : ClientStep → Type 0
+      Sends step = StaysCalm later set asks gone step × Seeks step
+
+      sends : (step : ClientStep) → Sends step → Keeps step
+      sends step x = (x.0, inl x.1)
 
       -- a mail that is ignored
-      ignored : Keeps (client, [])
-      ignored = (record { me_is = k.me_is; requests_are = k.requests_are; knows = k.knows; targets = k.targets; state = k.state }, tt)
+      ignored : ((w : IsWaiting client) (answer : AnswerBody) → EndsWait answer → mail.from ≡ w.target → mail.body ≡ Answer w.group w.seq answer → ⊥) → Keeps (client, [])
+      ignored no_end = (
+        (record { me_is = k.me_is; requests_are = k.requests_are; knows = k.knows; targets = k.targets; state = k.state }, tt),
+        inr (record { after_is = refl; no_end = λ w answer f e. no_end w answer f (ap (λ (m : Mail). m.from) e) (ap (λ (m : Mail). m.body) e) }),
+      )
 
       -- what a body says
       record SaysPlain (body : MailBody) : Type 0 where
@@ -310,7 +351,7 @@ module _ (set : Setting) where
             let waits_same : waits_for client.waiting w.seq ≡ true = ap (λ (o : Option ℕ). waits_for o w.seq) w.waits ∙ eq-eqb w.seq w.seq refl in
             let same : table client (Got mail) ≡ started (w.seq + 1) after = ap (λ (b : MailBody). got mail.from b client) e ∙ cond-true (waits_for client.waiting w.seq) (started (w.seq + 1) after) (client, []) waits_same in
             let begins : BeginsBy later after (started (w.seq + 1) after) = λ n op one at le. now n op one at (subst (λ (x : ClientStep). n ≤ begun_ones x.0) (sym same) le) in
-            subst (λ g. StaysCalm later set asks g (started (w.seq + 1) after)) (sym is_gone) (started_row later after (w.seq + 1) k.me_is k.requests_are (λ more. k.knows few) (λ more. k.targets few) (omega (arith, push, number)) (omega (arith, push, low, number)) begins)
+            sends (started (w.seq + 1) after) (subst (λ g. StaysCalm later set asks g (started (w.seq + 1) after) × Seeks (started (w.seq + 1) after)) (sym is_gone) (started_row later after (w.seq + 1) k.me_is k.requests_are (λ more. k.knows few) (λ more. k.targets few) (omega (arith, push, number)) (omega (arith, push, low, number)) begins))
 
         -- it names another node, which is asked
         hinted : (group : Draw) (node : ℕ) → w.group ≡ group → Says (Answer group w.seq (NotLeader (Some node))) → Keeps (sent_to group (record client { known = preferring group node client.known }))
@@ -318,7 +359,7 @@ module _ (set : Setting) where
         hinted group node name (inr s) =
             let known = preferring group node client.known in
             let chosen_is_ : chosen (pos_of (key_of w.op)) known ≡ Some group = chosen_same (pos_of (key_of w.op)) known client.known (preferring_starts group node client.known) ∙ (w.chosen_is ∙ ap Some name) in
-            asked_row later gone is_gone w.seq w.op (record client { known = known }) (ready known (preferring_knows group node client.known (k.knows few)) (preferring_each group node client.known s.says.has (k.targets few))) group chosen_is_ (begun_later s.client s.op s.to_is s.is_begun)
+            sends (sent_to group (record client { known = known })) (asked_row later gone is_gone w.seq w.op (record client { known = known }) (ready known (preferring_knows group node client.known (k.knows few)) (preferring_each group node client.known s.says.has (k.targets few))) group chosen_is_ (begun_later s.client s.op s.to_is s.is_begun))
 
         -- it says that the key is another group's: the next one is learnt, and asked
         next_known : (frame : Frame) → Among frame set.frames → w.group ≡ frame.core.id → holds_key frame.core.arc (key_of w.op) ≡ false → Knows set client.known → Knows set (told_not_mine frame.core.id frame.core.arc frame.core.succ client.known)
@@ -352,7 +393,7 @@ module _ (set : Setting) where
             let known : KnownGroups = told_not_mine frame.core.id frame.core.arc frame.core.succ client.known in
             let targets = learnt_each frame.core.succ.group (end_of frame.core.arc) frame.core.succ.members (starting frame.core.id frame.core.arc.lo client.known) (linked.links frame s.is_frame) (starting_each frame.core.id frame.core.arc.lo client.known (k.targets few)) in
             subst (λ l. Keeps (request_sent (record client { known = l }))) (sym known_is)
-            (ready_row later gone is_gone w.seq w.op (record client { known = known }) (ready known (next_known frame s.is_frame (name ∙ s.says.0) lacks (k.knows few)) targets) (begun_later reply.client reply.op reply.to_is reply.is_begun))
+            (sends (request_sent (record client { known = known })) (ready_row later gone is_gone w.seq w.op (record client { known = known }) (ready known (next_known frame s.is_frame (name ∙ s.says.0) lacks (k.knows few)) targets) (begun_later reply.client reply.op reply.to_is reply.is_begun)))
 
         -- it says where the group went, which is known alone
         alone : (group : Draw) (into : Route) → w.group ≡ group → HasGoneTo set group into → Knows set client.known → (way : Way) × (client.known ≡ (group, way) ∷ [])
@@ -374,64 +415,103 @@ module _ (set : Setting) where
             let removed : remove_entry (same_draw group) ((group, one.0) ∷ []) ≡ [] = cond-true (same_draw group group) [] ((group, one.0) ∷ []) (same_name group group refl) in
             let known_is : told_gone group into client.known ≡ known = ap (told_gone group into) one.1 ∙ ap (group_learnt into.group into.lo into.members) removed in
             subst (λ l. Keeps (request_sent (record client { known = l }))) (sym known_is)
-            (ready_row later gone is_gone w.seq w.op (record client { known = known }) (ready known (inl (into.group, new_way into.lo into.members, refl)) (linked.routes group into s.says, tt)) (begun_later s.client s.op s.to_is s.is_begun))
+            (sends (request_sent (record client { known = known })) (ready_row later gone is_gone w.seq w.op (record client { known = known }) (ready known (inl (into.group, new_way into.lo into.members, refl)) (linked.routes group into s.says, tt)) (begun_later s.client s.op s.to_is s.is_begun)))
 
         -- whatever it says, where it comes from the node that was asked
-        redirected_calm : (group : Draw) (answer : AnswerBody) → w.group ≡ group → Says (Answer group w.seq answer) → Keeps (redirected group answer client)
-        redirected_calm group (NotLeader (Some node)) name s = hinted group node name s
-        redirected_calm group (NotLeader None) name (inl s) = absurd (s.says.1.says)
-        redirected_calm group (NotLeader None) name (inr s) = absurd (s.says)
-        redirected_calm group (NotMine arc succ) name s = sent_on group arc succ name s
-        redirected_calm group (Gone into) name s = moved group into name s
-        redirected_calm group (Value reply) name s = ignored
-        redirected_calm group (Stale last) name s = ignored
+        redirected_calm : (group : Draw) (answer : AnswerBody) → mail.body ≡ Answer group w.seq answer → ((reply : Reply) → answer ≡ Value reply → ⊥) → w.group ≡ group → Says (Answer group w.seq answer) → Keeps (redirected group answer client)
+        redirected_calm group (NotLeader (Some node)) e no_ name s = hinted group node name s
+        redirected_calm group (NotLeader None) e no_ name (inl s) = absurd (s.says.1.says)
+        redirected_calm group (NotLeader None) e no_ name (inr s) = absurd (s.says)
+        redirected_calm group (NotMine arc succ) e no_ name s = sent_on group arc succ name s
+        redirected_calm group (Gone into) e no_ name s = moved group into name s
+        redirected_calm group (Value reply) e no_ name s = absurd (no_ reply refl)
+        redirected_calm group (Stale last) e no_ name s = ignored (λ w_ answer f from body. no_stale answer f (same_answer (sym e ∙ body)))
+          where
+            same_answer : {g h : Draw} {m n : ℕ} {x y : AnswerBody} → Answer g m x ≡ Answer h n y → x ≡ y
+            same_answer e = cc
 
-        by_asked : (group : Draw) (answer : AnswerBody) → Says (Answer group w.seq answer) → Keeps (cond (was_asked client.asked mail.from group) (redirected group answer client) (client, []))
-        by_asked group answer s =
+            no_stale : (answer : AnswerBody) → EndsWait answer → Stale last ≡ answer → ⊥
+            no_stale answer f e = subst EndsWait (sym e) f
+
+        by_asked : (group : Draw) (answer : AnswerBody) → mail.body ≡ Answer group w.seq answer → ((reply : Reply) → answer ≡ Value reply → ⊥) → Keeps (cond (was_asked client.asked mail.from group) (redirected group answer client) (client, []))
+        by_asked group answer e no_ =
             cond_both (was_asked client.asked mail.from group) (redirected group answer client) (client, []) Keeps
             (λ t. (let parts = and_parts (eqb w.target mail.from) (same_draw w.group group) (ap (λ (o : Option (Draw × ℕ)). was_asked o mail.from group) (sym w.asked) ∙ t) in
-            redirected_calm group answer (draw_is w.group group parts.1) s)) (λ f. ignored)
+            redirected_calm group answer e no_ (draw_is w.group group parts.1) (says_of (Answer group w.seq answer) e)))
+            (λ f. ignored (λ w_ answer_ ends from body. (
+            let name : group ≡ w_.group = same_group (sym e ∙ body) in
+            let asked : was_asked client.asked mail.from group ≡ true =
+            ap (λ (o : Option (Draw × ℕ)). was_asked o mail.from group) w_.asked ∙ and_from (eqb w_.target mail.from) (same_draw w_.group group) (eq-eqb w_.target mail.from (sym from)) (same_name w_.group group (sym name)) in
+            both_ways (was_asked client.asked mail.from group) f asked)))
+          where
+            same_group : {g h : Draw} {m n : ℕ} {x y : AnswerBody} → Answer g m x ≡ Answer h n y → g ≡ h
+            same_group e = cc
 
         waited : (group : Draw) (answer : AnswerBody) → mail.body ≡ Answer group w.seq answer → Keeps (answer_taken mail.from group w.seq answer client)
         waited group (Value reply) e = replied group reply e
-        waited group (NotLeader hint) e = by_asked group (NotLeader hint) (says_of (Answer group w.seq (NotLeader hint)) e)
-        waited group (NotMine arc succ) e = by_asked group (NotMine arc succ) (says_of (Answer group w.seq (NotMine arc succ)) e)
-        waited group (Gone into) e = by_asked group (Gone into) (says_of (Answer group w.seq (Gone into)) e)
-        waited group (Stale last) e = by_asked group (Stale last) (says_of (Answer group w.seq (Stale last)) e)
+        waited group (NotLeader hint) e = by_asked group (NotLeader hint) e (λ reply x. cc)
+        waited group (NotMine arc succ) e = by_asked group (NotMine arc succ) e (λ reply x. cc)
+        waited group (Gone into) e = by_asked group (Gone into) e (λ reply x. cc)
+        waited group (Stale last) e = by_asked group (Stale last) e (λ reply x. cc)
+
+      -- an answer to another request
+      not_waited : (group : Draw) (seq : ℕ) (answer : AnswerBody) → mail.body ≡ Answer group seq answer → waits_for client.waiting seq ≡ false → Keeps (client, [])
+      not_waited group seq answer e f =
+          ignored (λ w answer_ ends from body. (
+          let number : seq ≡ w.seq = same_number (sym e ∙ body) in
+          let waits : waits_for client.waiting seq ≡ true = ap (λ (o : Option ℕ). waits_for o seq) w.waits ∙ eq-eqb w.seq seq (sym number) in
+          both_ways (waits_for client.waiting seq) f waits))
+        where
+          same_number : {g h : Draw} {m n : ℕ} {x y : AnswerBody} → Answer g m x ≡ Answer h n y → m ≡ n
+          same_number e = cc
 
       answered_by : (group : Draw) (seq : ℕ) (answer : AnswerBody) → mail.body ≡ Answer group seq answer → IsResting gone client ⊎ ((gone ≡ true) × IsWaiting client) → Keeps (got mail.from (Answer group seq answer) client)
       answered_by group seq answer e (inl rests) =
           cond_both (waits_for client.waiting seq) (answer_taken mail.from group seq answer client) (client, []) Keeps
-          (λ t. absurd (both_ways (waits_for client.waiting seq) (ap (λ (o : Option ℕ). waits_for o seq) rests.waits) t)) (λ f. ignored)
+          (λ t. absurd (both_ways (waits_for client.waiting seq) (ap (λ (o : Option ℕ). waits_for o seq) rests.waits) t)) (λ f. not_waited group seq answer e f)
       answered_by group seq answer e (inr (g, w)) =
           cond_both (waits_for client.waiting seq) (answer_taken mail.from group seq answer client) (client, []) Keeps
           (λ t. (let same : w.seq ≡ seq = eqb-true w.seq seq (ap (λ (o : Option ℕ). waits_for o seq) (sym w.waits) ∙ t) in
-          subst (λ n. Keeps (answer_taken mail.from group n answer client)) same (waited g w group answer (e ∙ ap (λ n. Answer group n answer) (sym same))))) (λ f. ignored)
+          subst (λ n. Keeps (answer_taken mail.from group n answer client)) same (waited g w group answer (e ∙ ap (λ n. Answer group n answer) (sym same))))) (λ f. not_waited group seq answer e f)
+
+      no_answer : (body : MailBody) → mail.body ≡ body → ((group : Draw) (seq : ℕ) (answer : AnswerBody) → body ≡ Answer group seq answer → ⊥) → Keeps (client, [])
+      no_answer body e no_ = ignored (λ w answer f from is_. no_ w.group w.seq answer (sym e ∙ is_))
 
       takes_by : (body : MailBody) → mail.body ≡ body → Keeps (got mail.from body client)
       takes_by (Answer group seq answer) e = answered_by group seq answer e k.state
-      takes_by (Request group to_ seq op) e = ignored
-      takes_by (Prepare group ballot from_slot) e = ignored
-      takes_by (Promise group ballot reports) e = ignored
-      takes_by (Accept group ballot slot command) e = ignored
-      takes_by (Accepted group ballot slot) e = ignored
-      takes_by (Nack group promised) e = ignored
-      takes_by (Learn group slot command) e = ignored
-      takes_by (Ask group from_slot) e = ignored
-      takes_by (Install group slot base sets) e = ignored
-      takes_by (TxPrepare tx offer) e = ignored
-      takes_by (TxVote tx coord part vote) e = ignored
-      takes_by (TxOutcome tx part outcome) e = ignored
-      takes_by (TxElsewhere tx coord hint) e = ignored
-      takes_by (TxWatch tx watch) e = ignored
-      takes_by (TxWatched tx coord part vote) e = ignored
-      takes_by (Told order result) e = ignored
+      takes_by (Request group to_ seq op) e = no_answer (Request group to_ seq op) e (λ g n a x. cc)
+      takes_by (Prepare group ballot from_slot) e = no_answer (Prepare group ballot from_slot) e (λ g n a x. cc)
+      takes_by (Promise group ballot reports) e = no_answer (Promise group ballot reports) e (λ g n a x. cc)
+      takes_by (Accept group ballot slot command) e = no_answer (Accept group ballot slot command) e (λ g n a x. cc)
+      takes_by (Accepted group ballot slot) e = no_answer (Accepted group ballot slot) e (λ g n a x. cc)
+      takes_by (Nack group promised) e = no_answer (Nack group promised) e (λ g n a x. cc)
+      takes_by (Learn group slot command) e = no_answer (Learn group slot command) e (λ g n a x. cc)
+      takes_by (Ask group from_slot) e = no_answer (Ask group from_slot) e (λ g n a x. cc)
+      takes_by (Install group slot base sets) e = no_answer (Install group slot base sets) e (λ g n a x. cc)
+      takes_by (TxPrepare tx offer) e = no_answer (TxPrepare tx offer) e (λ g n a x. cc)
+      takes_by (TxVote tx coord part vote) e = no_answer (TxVote tx coord part vote) e (λ g n a x. cc)
+      takes_by (TxOutcome tx part outcome) e = no_answer (TxOutcome tx part outcome) e (λ g n a x. cc)
+      takes_by (TxElsewhere tx coord hint) e = no_answer (TxElsewhere tx coord hint) e (λ g n a x. cc)
+      takes_by (TxWatch tx watch) e = no_answer (TxWatch tx watch) e (λ g n a x. cc)
+      takes_by (TxWatched tx coord part vote) e = no_answer (TxWatched tx coord part vote) e (λ g n a x. cc)
+      takes_by (Told order result) e = no_answer (Told order result) e (λ g n a x. cc)
 
-      takes_calm : Keeps (table client (Got mail))
+      pub takes_calm : StaysCalm later set asks gone (table client (Got mail)) × (Seeks (table client (Got mail)) ⊎ Ignores client mail (table client (Got mail)))
       takes_calm = takes_by mail.body refl
+
+-- where a request waits, the node that was asked has a replica
+pub waiting_home : (set : Setting) (asks : Asks) (gone : Bool) (client : ClientState) → IsCalmClient set asks gone client → (w : IsWaiting client) → IsHome set w.group w.target
+waiting_home set asks gone client k w = by (way_to w.group client.known) refl w.target_is
+  where
+    few : length client.replies < length client.requests
+    few = (let low = slice_get_within client.requests (w.seq - 1) w.op w.op_is in let number = w.number in omega (arith, low, number))
+
+    by : (o : Option Way) → way_to w.group client.known ≡ o → option_map target_of o ≡ Some w.target → IsHome set w.group w.target
+    by None e t = cc
+    by (Some way) e t = subst (IsHome set w.group) (some_is t) (lookup_has (CanBeAsked set) client.known w.group way e (k.targets few))
 
 pub clients_calm : ClientsStayCalm
 clients_calm = record {
-  go = λ scenario rows set asks client k now. go_calm set asks (IsBegun scenario rows) client k now;
-  takes = λ scenario rows later set asks gone client mail is linked k m to asked_right weaker now. takes_calm set asks (IsBegun scenario rows) (IsBegun scenario later) gone client mail is linked k m to asked_right weaker now;
+  go = λ scenario rows set asks client k now. (go_calm set asks (IsBegun scenario rows) client k now).0;
+  takes = λ scenario rows later set asks gone client mail is linked k m to asked_right weaker now. (takes_calm set asks (IsBegun scenario rows) (IsBegun scenario later) gone client mail is linked k m to asked_right weaker now).0;
 }

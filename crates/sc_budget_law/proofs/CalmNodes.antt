@@ -46,7 +46,7 @@ put_same group r (x ∷ replicas) e =
     ]
 
 -- what one that does not run answers
-abbrev aside_answer : Option Route → Option ℕ → AnswerBody
+abbrev pub aside_answer : Option Route → Option ℕ → AnswerBody
 aside_answer (Some into) hint = Says.Gone into
 aside_answer None hint = Says.NotLeader hint
 
@@ -194,6 +194,10 @@ module _ (begun : Requests) (set : Setting) (is : IsSetting set) (node : NodeSta
 
     pub aside_mail : Mail
     aside_mail = mail_of a.r.me (client_actor a.client) (Answer (name_of a.r) a.seq (aside_answer a.r.group.core.gone a.r.hint))
+
+    pub aside_is : aside_mail ≡ mail_of a.r.me (client_actor a.client) (Answer (name_of a.r) a.seq (aside_answer a.r.group.core.gone a.r.hint))
+    unfolding aside_mail
+    aside_is = refl
 
     -- it is nothing to any group
     pub aside_mail_mark : (d : Draw) → mark d aside_mail ≡ Other

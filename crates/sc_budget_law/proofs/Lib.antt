@@ -53,3 +53,5 @@ mod AskingMore
 mod AskingTurns
 mod AskingClients
 mod AskingBegins
+mod AskingSought
+mod AskingLines

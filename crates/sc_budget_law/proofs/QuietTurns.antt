@@ -51,10 +51,10 @@ use Rattle.sc_budget_law.proofs.QuietSteps.{sought_stays, sought_node}
 use Rattle.sc_budget_law.proofs.Sends.{mail_of}
 use Rattle.sc_budget_law.proofs.Lists.{some_is}
 
-abbrev as_player : ClientState → Player
+abbrev pub as_player : ClientState → Player
 as_player client = Client client
 
-client_is : {x y : ClientState} → as_player x ≡ as_player y → x ≡ y
+pub client_is : {x y : ClientState} → as_player x ≡ as_player y → x ≡ y
 client_is e = cc
 
 module _ (words : ℕ → ℕ → ℕ × ℕ) (scenario : Scenario) (stage : IsStage scenario) where

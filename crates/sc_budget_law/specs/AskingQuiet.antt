@@ -22,6 +22,7 @@ use Rattle.sc_orderly_law.specs.Orderly.{rest, is_born}
 use Rattle.sc_calm_law.specs.Owed.{Ways}
 use Rattle.sc_calm_law.specs.Quiet.{View as Replicas, HasReplica, StandsQuiet, IsQuiet}
 use Rattle.sc_budget_law.specs.Asking.{IsAsking}
+use Rattle.sc_budget_law.specs.AskingLines.{NobodyWaits}
 use Rattle.sc_budget_law.specs.AtRest.{IsKept, frame_at_rest}
 use Rattle.sc_budget_law.specs.Between.{Other, mark}
 use Rattle.sc_budget_law.specs.BetweenJournal.{replica_at}
@@ -58,9 +59,9 @@ pub record IsQuietJournal (words : ℕ → ℕ → ℕ × ℕ) (scenario : Scena
   pub none : (who : ℕ) → is_born (system_of as_nodes words scenario) who ≡ true → rest (system_of as_nodes words scenario) rows who ≡ []
   pub desk : (who : ℕ) → is_born (system_of as_nodes words scenario) who ≡ false → Each (λ mail. (name : Draw) → mark name mail ≡ Other) (rest (system_of as_nodes words scenario) rows who)
 
--- so clients may ask from it on
+-- so clients may ask from it on, and no request waits
 abbrev pub QuietJournalsAsk : Type 0
 QuietJournalsAsk =
     (words : ℕ → ℕ → ℕ × ℕ) (scenario : Scenario) (first : Base) (others : List Base) (rows : List (Row Mail OrderLine)) (frames : List Frame) (ways : Ways)
     → IsValid scenario → scenario.groups ≡ first ∷ others → IsQuietJournal words scenario first rows → IsSurveyed (replicas_after scenario rows) frames ways
-    → IsSetting (setting_at (replicas_after scenario rows) frames ways) × IsAsking words scenario (setting_at (replicas_after scenario rows) frames ways) first rows
+    → IsSetting (setting_at (replicas_after scenario rows) frames ways) × IsAsking words scenario (setting_at (replicas_after scenario rows) frames ways) first rows × NobodyWaits scenario first rows

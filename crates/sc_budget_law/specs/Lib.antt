@@ -1,4 +1,5 @@
 pub mod Asking
+pub mod AskingLines
 pub mod AskingQuiet
 pub mod AtRest
 pub mod Between

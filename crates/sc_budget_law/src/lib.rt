@@ -6,6 +6,7 @@
 #![tactic(auto)]
 
 ghost use Rattle.sc_budget_law.specs.Asking.{RequestsGoOn};
+ghost use Rattle.sc_budget_law.specs.AskingLines.{LinesAreAnswered};
 ghost use Rattle.sc_budget_law.specs.AskingQuiet.{QuietJournalsAsk};
 ghost use Rattle.sc_budget_law.specs.AtRest.{QuietGroupsStandPlain};
 ghost use Rattle.sc_budget_law.specs.Calm.{CalmLinesAreSpaced};
@@ -105,6 +106,14 @@ pub fn requests_go_on()
 /// and all that holds while clients ask alone.
 pub fn quiet_journals_ask()
     ensures { QuietJournalsAsk }
+{
+    valid_scenarios_are_bounded();
+}
+
+/// Where clients ask alone, from a journal in which no request waits, and no mail is left at the
+/// end, no request waits then either: each client that was told to go has all replies.
+pub fn lines_are_answered()
+    ensures { LinesAreAnswered }
 {
     valid_scenarios_are_bounded();
 }
