@@ -249,8 +249,7 @@ pub quiet_ask : ValidScenariosAreBounded → QuietJournalsAsk
 quiet_ask all_bounded words scenario first others rows frames ways valid groups q s =
     let begins = stage scenario (all_bounded scenario valid) in
     let same : first ≡ begins.first = (let e : first ∷ others ≡ begins.first ∷ begins.others = sym groups ∙ begins.groups_are in cc) in
-    let q_ = subst (λ (f : Base). IsQuietJournal words scenario f rows) same q in
-    (
+    let q_ = subst (λ (f : Base). IsQuietJournal words scenario f rows) same q in (
       is_setting words scenario begins rows q_ frames ways s,
       subst (λ (f : Base). IsAsking words scenario (setting_at (replicas_after scenario rows) frames ways) f rows) (sym same) (asking words scenario begins rows q_ frames ways s),
       subst (λ (f : Base). NobodyWaits scenario f rows) (sym same) (nobody words scenario begins rows q_ frames ways s),

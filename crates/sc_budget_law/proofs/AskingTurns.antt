@@ -154,7 +154,6 @@ module _ (words : ℕ → ℕ → ℕ × ℕ) (scenario : Scenario) (stage : IsS
           ap (λ o. acted player_table (value player_table (nseat me) rows) (option_map Got o)) first.sent
           ∙ ap (λ p. acted player_table p (Some (Got first.mail))) n.is
 
-
       pub rest_after : (who : ℕ) → rest (system_of as_nodes words scenario) (rows ++ row_of player_table (node_seat as_nodes scenario.groups scenario.policy me) rows (Deliver number) ∷ []) who
           ≡ drop (taken who (row_of player_table (node_seat as_nodes scenario.groups scenario.policy me) rows (Deliver number))) (rest (system_of as_nodes words scenario) rows who) ++ mail_for (system_of as_nodes words scenario) who (row_of player_table (node_seat as_nodes scenario.groups scenario.policy me) rows (Deliver number)).sent
       rest_after who = rest-row sys rows (row_of player_table (nseat me) rows (Deliver number)) who t (record { seat = nseat me; born = born; event = Deliver number; row_is = refl; in_order = fine })

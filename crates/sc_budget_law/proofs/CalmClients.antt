@@ -322,7 +322,6 @@ module _ (set : Setting) where
       -- ---- an answer to the request that waits
 
       module _ (is_gone : gone ≡ true) (w : IsWaiting client) where
-
         -- the request of an answer to the client is the one that waits
         module _ (who : ℕ) (op : Op) (receiver : mail.to ≡ client_actor who) (b : begun who w.seq op) where
           mine : begun client.me w.seq op

@@ -2,7 +2,8 @@
 //! no line of deliveries ends with mail pending. Definitions and laws, no logic.
 //!
 //! A schedule is plain where clients go and mail is delivered, and nothing else happens. Its budget
-//! is so many deliveries in each line: for each request 32, and 4 for each group.
+//! is so many deliveries in each line: for each request 32, and 4 for each group. Between two orders
+//! of a calm schedule it is as in a plain one, from a quiet journal on.
 #![tactic(auto)]
 
 ghost use Rattle.sc_budget_law.specs.Asking.{RequestsGoOn};
