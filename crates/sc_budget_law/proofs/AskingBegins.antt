@@ -25,7 +25,7 @@ use Rattle.sc_calm_law.specs.Owed.{Ways}
 use Rattle.sc_calm_law.specs.Quiet.{View as Replicas, StandsQuiet, IsAnswered}
 use Rattle.sc_budget_law.specs.Asking.{IsAskingNode, IsAskingClient, IsAsking}
 use Rattle.sc_budget_law.specs.AskingLines.{NobodyWaits}
-use Rattle.sc_budget_law.specs.AskingQuiet.{replicas_after, setting_at, IsSurveyed, IsQuietJournal, QuietJournalsAsk}
+use Rattle.sc_budget_law.specs.AskingQuiet.{replicas_after, setting_at, AreFramesOf, DoHintsRise, IsQuietJournal, QuietJournalsAsk}
 use Rattle.sc_budget_law.specs.AtRest.{frame_at_rest, StandsPlain}
 use Rattle.sc_budget_law.specs.Between.{Mark, Asks as AsksFor, Votes, Tells, Other, mark, AreInOrder, IsBelow, View, told, IsBetween}
 use Rattle.sc_budget_law.specs.BetweenJournal.{replica_at, next_in, voters_in, votes_in, view_at, marks_at, IsGroupAt}
@@ -80,7 +80,7 @@ between_others frame view marks others b none = record {
   votes = λ slot voters e. absurd (none slot voters e);
 }
 
-module _ (words : ℕ → ℕ → ℕ × ℕ) (scenario : Scenario) (begins : IsStage scenario) (rows : Journal) (q : IsQuietJournal words scenario begins.first rows) (frames : List Frame) (ways : Ways) (s : IsSurveyed (replicas_after scenario rows) frames ways) where
+module _ (words : ℕ → ℕ → ℕ × ℕ) (scenario : Scenario) (begins : IsStage scenario) (rows : Journal) (q : IsQuietJournal words scenario begins.first rows) (frames : List Frame) (ways : Ways) (s : AreFramesOf (replicas_after scenario rows) frames) (up : DoHintsRise (replicas_after scenario rows) ways) where
   abbrev at : Replicas
   at = replicas_after scenario rows
 
@@ -115,7 +115,7 @@ module _ (words : ℕ → ℕ → ℕ × ℕ) (scenario : Scenario) (begins : Is
         subst (λ (x : Frame). IsHome (setting_at (replicas_after scenario rows) frames ways) x.core.id x.lead) f.2 (record { r = f.1.lead; is_there = ap (λ d. replica_at scenario rows d f.1.lead.me) (lead_name f.0 f.1) ∙ lead_there f.0 f.1 }));
     nearer = λ frame node a. (let f = s.are frame a in
         subst (λ (x : Frame). (node ≡ x.lead → ⊥) → ways.far x.core.id x.lead + 1 ≤ ways.far x.core.id node) f.2
-        (λ ne. subst (λ d. ways.far d f.1.lead.me + 1 ≤ ways.far d node) (sym (lead_name f.0 f.1)) (s.leads f.0 f.1 node ne)));
+        (λ ne. subst (λ d. ways.far d f.1.lead.me + 1 ≤ ways.far d node) (sym (lead_name f.0 f.1)) (up.leads f.0 f.1 node ne)));
   }
 
   -- ---- a node
@@ -139,9 +139,9 @@ module _ (words : ℕ → ℕ → ℕ × ℕ) (scenario : Scenario) (begins : Is
     better : (group : Draw) (r : ReplicaState) → replica_of group node.replicas ≡ Some r → r.running ≡ false → (gone : Option Route) → r.group.core.gone ≡ gone → KnowsBetter (setting_at (replicas_after scenario rows) frames ways) group r gone
     better group r e stops (Some into) w = record { node = me; r = r; is_there = found group r e; went = w }
     better group r e stops None w =
-        let up = q.quiet.rises group me r (found group r e) stops w in
+        let rises = q.quiet.rises group me r (found group r e) stops w in
         let k = q.kept group me r (found group r e) in
-        (r.top.node, up.hint_is, record { has = record { r = up.there; is_there = up.is_there }; near = subst (λ who. ways.far group r.top.node + 1 ≤ ways.far group who) (sym k.me_is) (s.hints group me r.top.node r (found group r e) stops w up.hint_is) })
+        (r.top.node, rises.hint_is, record { has = record { r = rises.there; is_there = rises.is_there }; near = subst (λ who. ways.far group r.top.node + 1 ≤ ways.far group who) (sym k.me_is) (up.hints group me r.top.node r (found group r e) stops w rises.hint_is) })
 
     runs : (group : Draw) (r : ReplicaState) → replica_of group node.replicas ≡ Some r → r.running ≡ true → (frame : Frame) × Among frame frames × (frame.core.id ≡ group) × (node.me ≡ frame.lead)
     runs group r e running = elim (q.quiet.groups group me (r, found group r e)) [
@@ -246,11 +246,11 @@ module _ (words : ℕ → ℕ → ℕ × ℕ) (scenario : Scenario) (begins : Is
   }
 
 pub quiet_ask : ValidScenariosAreBounded → QuietJournalsAsk
-quiet_ask all_bounded words scenario first others rows frames ways valid groups q s =
+quiet_ask all_bounded words scenario first others rows frames ways valid groups q s up =
     let begins = stage scenario (all_bounded scenario valid) in
     let same : first ≡ begins.first = (let e : first ∷ others ≡ begins.first ∷ begins.others = sym groups ∙ begins.groups_are in cc) in
     let q_ = subst (λ (f : Base). IsQuietJournal words scenario f rows) same q in (
-      is_setting words scenario begins rows q_ frames ways s,
-      subst (λ (f : Base). IsAsking words scenario (setting_at (replicas_after scenario rows) frames ways) f rows) (sym same) (asking words scenario begins rows q_ frames ways s),
-      subst (λ (f : Base). NobodyWaits scenario f rows) (sym same) (nobody words scenario begins rows q_ frames ways s),
+      is_setting words scenario begins rows q_ frames ways s up,
+      subst (λ (f : Base). IsAsking words scenario (setting_at (replicas_after scenario rows) frames ways) f rows) (sym same) (asking words scenario begins rows q_ frames ways s up),
+      subst (λ (f : Base). NobodyWaits scenario f rows) (sym same) (nobody words scenario begins rows q_ frames ways s up),
     )

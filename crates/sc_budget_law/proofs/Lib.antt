@@ -55,3 +55,4 @@ mod AskingClients
 mod AskingBegins
 mod AskingSought
 mod AskingLines
+mod HintsRise

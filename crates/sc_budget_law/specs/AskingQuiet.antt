@@ -1,9 +1,10 @@
 -- A quiet journal of a calm scenario, from which on clients may ask.
-use Rattle.std.specs.Prelude.{◌≡◌, ℕ, ◌+◌, ◌≤◌, Bool, true, false, List, [], ◌∷◌, Some, None}
+use Rattle.std.specs.Prelude.{◌≡◌, ℕ, ◌+◌, ◌-◌, ◌≤◌, ◌||◌, is_some, if◌then◌else◌, Bool, true, false, List, [], ◌∷◌, Option, Some, None}
 use Rattle.sc_base.specs.Among.{Among, Each}
 use Rattle.sc_base.specs.Limits.{client_actor}
 use Rattle.sc_base.specs.declared.names.Draw.{Draw}
 use Rattle.sc_cmd.specs.declared.cores.Base.{Base}
+use Rattle.sc_cmd.specs.declared.links.Route.{Route}
 use Rattle.sc_cmd.specs.declared.orders.OrderLine.{OrderLine}
 use Rattle.sc_mail.specs.declared.bodies.Mail.{Mail}
 use Rattle.sc_mail.specs.declared.roles.Role.TheVariants.{Node, Client}
@@ -39,12 +40,32 @@ replicas_after scenario rows group node = replica_at scenario rows group node
 abbrev pub setting_at : Replicas → List Frame → Ways → Setting
 setting_at at frames ways = record { frames = frames; at = at; ways = ways }
 
--- the frames of all groups that stand, and ways by which each hint leads nearer to the one that runs
-pub record IsSurveyed (at : Replicas) (frames : List Frame) (ways : Ways) : Type 0 where
-  pub stand : (group : Draw) (quiet : StandsQuiet at group) → Among (frame_at_rest quiet.lead) frames
-  pub are : (frame : Frame) → Among frame frames → (group : Draw) × (quiet : StandsQuiet at group) × (frame_at_rest quiet.lead ≡ frame)
+-- each hint leads nearer to one that runs, or knows where its group went; where a group stands, its leader is nearer than others
+pub record DoHintsRise (at : Replicas) (ways : Ways) : Type 0 where
   pub leads : (group : Draw) (quiet : StandsQuiet at group) (node : ℕ) → (node ≡ quiet.lead.me → ⊥) → ways.far group quiet.lead.me + 1 ≤ ways.far group node
   pub hints : (group : Draw) (node hint : ℕ) (r : ReplicaState) → at group node ≡ Some r → r.running ≡ false → r.group.core.gone ≡ None → r.hint ≡ Some hint → ways.far group hint + 1 ≤ ways.far group node
+
+-- the frames of all groups that stand
+pub record AreFramesOf (at : Replicas) (frames : List Frame) : Type 0 where
+  pub stand : (group : Draw) (quiet : StandsQuiet at group) → Among (frame_at_rest quiet.lead) frames
+  pub are : (frame : Frame) → Among frame frames → (group : Draw) × (quiet : StandsQuiet at group) × (frame_at_rest quiet.lead ≡ frame)
+
+-- how many hints lead at most from a replica to one that runs or is gone, where no ballot that was seen has a later round than this
+abbrev pub hints_left : ℕ → Option ReplicaState → ℕ
+hints_left latest None = 1 + latest
+hints_left latest (Some r) = if r.running || is_some r.group.core.gone then 0 else 1 + latest - r.top.round
+
+-- the ways by the latest round of each group
+abbrev pub ways_at : Replicas → (Draw → ℕ) → ℕ → (Draw → Option (Draw × Bool)) → Ways
+ways_at at latest most asks = record { far = λ group node. hints_left (latest group) (at group node); most = most; asks = asks }
+
+-- by these ways hints rise in a quiet journal, where none of a group that stands is gone
+abbrev pub QuietHintsRise : Type 0
+QuietHintsRise =
+    (at : Replicas) (first : Route) (clients : List (Bool × ClientState)) (latest : Draw → ℕ) (most : ℕ) (asks : Draw → Option (Draw × Bool)) → IsQuiet at first clients
+    → ((group : Draw) (node : ℕ) (r : ReplicaState) → at group node ≡ Some r → r.me ≡ node)
+    → ((group : Draw) (node : ℕ) (r : ReplicaState) → at group node ≡ Some r → r.top.round ≤ latest group)
+    → ((group : Draw) (quiet : StandsQuiet at group) (node : ℕ) (r : ReplicaState) → at group node ≡ Some r → r.group.core.gone ≡ None) → DoHintsRise at (ways_at at latest most asks)
 
 -- What a quiet journal is, by its players: each player and each replica as the journal made it, the requests that are noted begun, and no mail left but to the desk.
 pub record IsQuietJournal (words : ℕ → ℕ → ℕ × ℕ) (scenario : Scenario) (first : Base) (rows : List (Row Mail OrderLine)) : Type 0 where
@@ -63,5 +84,5 @@ pub record IsQuietJournal (words : ℕ → ℕ → ℕ × ℕ) (scenario : Scena
 abbrev pub QuietJournalsAsk : Type 0
 QuietJournalsAsk =
     (words : ℕ → ℕ → ℕ × ℕ) (scenario : Scenario) (first : Base) (others : List Base) (rows : List (Row Mail OrderLine)) (frames : List Frame) (ways : Ways)
-    → IsValid scenario → scenario.groups ≡ first ∷ others → IsQuietJournal words scenario first rows → IsSurveyed (replicas_after scenario rows) frames ways
+    → IsValid scenario → scenario.groups ≡ first ∷ others → IsQuietJournal words scenario first rows → AreFramesOf (replicas_after scenario rows) frames → DoHintsRise (replicas_after scenario rows) ways
     → IsSetting (setting_at (replicas_after scenario rows) frames ways) × IsAsking words scenario (setting_at (replicas_after scenario rows) frames ways) first rows × NobodyWaits scenario first rows

@@ -2,13 +2,13 @@
 //! no line of deliveries ends with mail pending. Definitions and laws, no logic.
 //!
 //! A schedule is plain where clients go and mail is delivered, and nothing else happens. Its budget
-//! is so many deliveries in each line: for each request 32, and 4 for each group. Between two orders
-//! of a calm schedule it is as in a plain one, from a quiet journal on.
+//! is so many deliveries in each line: for each request 32, and 4 for each group. Between two
+//! orders of a calm schedule it is as in a plain one, from a quiet journal on.
 #![tactic(auto)]
 
 ghost use Rattle.sc_budget_law.specs.Asking.{RequestsGoOn};
 ghost use Rattle.sc_budget_law.specs.AskingLines.{LinesAreAnswered};
-ghost use Rattle.sc_budget_law.specs.AskingQuiet.{QuietJournalsAsk};
+ghost use Rattle.sc_budget_law.specs.AskingQuiet.{QuietHintsRise, QuietJournalsAsk};
 ghost use Rattle.sc_budget_law.specs.AtRest.{QuietGroupsStandPlain};
 ghost use Rattle.sc_budget_law.specs.Calm.{CalmLinesAreSpaced};
 ghost use Rattle.sc_budget_law.specs.CalmAsking.{ClientsStayCalm};
@@ -89,8 +89,8 @@ pub fn nodes_stay_calm()
     ensures { NodesStayCalm }
 {}
 
-/// Between two orders, while clients ask alone, a client that goes or takes mail stays calm: it asks
-/// nodes that have a replica of the group, and its request goes where its answers send it.
+/// Between two orders, while clients ask alone, a client that goes or takes mail stays calm: it
+/// asks nodes that have a replica of the group, and its request goes where its answers send it.
 pub fn clients_stay_calm()
     ensures { ClientsStayCalm }
 {}
@@ -118,3 +118,9 @@ pub fn lines_are_answered()
 {
     valid_scenarios_are_bounded();
 }
+
+/// In a quiet journal each hint leads nearer to a replica that runs, or knows where its group went:
+/// by the rounds of the greatest ballots that were seen, where none of a group that stands is gone.
+pub fn quiet_hints_rise()
+    ensures { QuietHintsRise }
+{}
