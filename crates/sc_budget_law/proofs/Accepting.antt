@@ -2,8 +2,9 @@
 use Rattle.std.proofs.Common.{◌≡◌, ℕ, ◌+◌, ◌-◌, ◌≤◌, ◌&&◌, ◌||◌, not, eqb, true, false, cond, List, [], ◌∷◌, length, Some, None, refl, sym, ◌∙◌, ap, arith}
 use Rattle.std.specs.Prelude.{nat_le, nat_lt}
 use Rattle.std.specs.Option.{option_map}
-use Rattle.std.proofs.lemmas.Bool.{cond_both, cond-true, cond-false, eq-eqb, lt-leb, le-ltb, and_left}
+use Rattle.std.proofs.lemmas.Bool.{cond_both, cond-true, cond-false, eq-eqb, lt-leb, le-ltb, and_left, and_from, and_parts}
 use Rattle.sc_base.specs.declared.names.Ballot.{Ballot}
+use Rattle.sc_base.specs.declared.names.Draw.{Draw}
 use Rattle.sc_base.specs.declared.ops.Op.{Op}
 use Rattle.sc_cmd.specs.declared.commands.Command.{Command}
 use Rattle.sc_cmd.specs.declared.commands.Command.TheVariants.{Call}
@@ -18,7 +19,7 @@ use Rattle.sc_paxos_words.specs.declared.flights.Flight.{Flight}
 use Rattle.sc_paxos_words.specs.declared.reports.Report.{Report}
 use Rattle.sc_paxos_words.specs.Accepting.{accepted as accepted_by}
 use Rattle.sc_paxos_words.specs.Acceptors.{AcceptorState, may_accept, after_accept}
-use Rattle.sc_paxos_words.specs.Ballots.{below}
+use Rattle.sc_paxos_words.specs.Ballots.{below, IsAtLeast}
 use Rattle.sc_paxos_words.specs.Leaders.{flight_at, without_flight}
 use Rattle.sc_paxos_words.proofs.BallotLemmas.{at_least_itself}
 use Rattle.sc_machine_table.specs.Machine.{applied}
@@ -34,7 +35,7 @@ use Rattle.sc_law_lemmas.proofs.Places.{cleared}
 use Rattle.sc_budget_law.specs.Frames.{Frame, IsFrame}
 use Rattle.sc_budget_law.specs.Owed.{replica_owes}
 use Rattle.sc_budget_law.specs.PlainMail.{Requests, IsPlainCall}
-use Rattle.sc_budget_law.specs.PlainNode.{AreTaken, IsPlainLeader, IsPlainFollower, IsPlainReplica, HasOffered}
+use Rattle.sc_budget_law.specs.PlainNode.{AreTaken, IsPlainLeader, IsPlainFollower, IsPlainVoter, IsPlainReplica, HasOffered}
 use Rattle.sc_budget_law.proofs.Entry.{entered_next, entered_plain, learnt_call}
 use Rattle.sc_budget_law.proofs.Leading.{IsHeld}
 use Rattle.sc_budget_law.proofs.Sends.{mail_of}
@@ -42,87 +43,109 @@ use Rattle.sc_budget_law.proofs.Served.{IsServed, call_plain}
 
 -- ---- Accept
 
-module _ (begun : Requests) (frame : Frame) (is : IsFrame frame) (me : ℕ) (r : ReplicaState) (p : IsPlainReplica begun frame me r) where
-  -- a ballot that is not above the greatest seen, and that stops no leader
-  saw_same : (mails : List Mail) → (r.running && below r.leader.ballot frame.ballot) ≡ false → saw frame.ballot (r, mails) ≡ (r, mails)
+-- a replica that accepts: it has seen the ballot, and has promised it
+pub accepted_state : Frame → ReplicaState → ℕ → Command → ReplicaState
+accepted_state frame r slot command = record r {
+  hint = Some frame.lead;
+  top = cond (below r.top frame.ballot) frame.ballot r.top;
+  acceptor = after_accept (record { slot = slot; ballot = frame.ballot; value = command }) r.acceptor;
+}
+
+-- .. and the vote that it sends
+module _ (frame : Frame) (is : IsFrame frame) (me : ℕ) (r : ReplicaState) (v : IsPlainVoter frame me r) where
+  abbrev seen : ReplicaState
+  seen = record r { top = cond (below r.top frame.ballot) frame.ballot r.top }
+
+  -- the ballot is seen, and stops no leader
+  saw_is : (mails : List Mail) → (r.running && below r.leader.ballot frame.ballot) ≡ false → saw frame.ballot (r, mails) ≡ (seen, mails)
   unfolding saw
-  saw_same mails stays =
-      let same : below r.top frame.ballot ≡ false = ap (λ (b : Ballot). below b frame.ballot) p.top_is ∙ at_least_itself frame.ballot in
-      let seen : ReplicaState = cond (below r.top frame.ballot) (record r { top = frame.ballot }) r in
-      cond-false (r.running && below r.leader.ballot frame.ballot) (stopped (Some frame.ballot.node) (seen, mails)) (seen, mails) stays
-      ∙ ap (λ (x : ReplicaState). (x, mails)) (cond-false (below r.top frame.ballot) (record r { top = frame.ballot }) r same)
+  saw_is mails stays =
+      let raised : ReplicaState = cond (below r.top frame.ballot) (record r { top = frame.ballot }) r in
+      let same : raised ≡ seen =
+      cond_both (below r.top frame.ballot) (record r { top = frame.ballot }) r (λ (x : ReplicaState). x ≡ seen)
+      (λ t. ap (λ (b : Ballot). record r { top = b }) (sym (cond-true (below r.top frame.ballot) frame.ballot r.top t)))
+      (λ f. ap (λ (b : Ballot). record r { top = b }) (sym (cond-false (below r.top frame.ballot) frame.ballot r.top f))) in
+      cond-false (r.running && below r.leader.ballot frame.ballot) (stopped (Some frame.ballot.node) (raised, mails)) (raised, mails) stays ∙ ap (λ (x : ReplicaState). (x, mails)) same
 
-  -- what is accepted, and the vote for it
-  pub accepted_state : ℕ → Command → ReplicaState
-  accepted_state slot command = record r { hint = Some frame.lead; acceptor = after_accept (record { slot = slot; ballot = frame.ballot; value = command }) r.acceptor }
-
-  hinted_is : (slot : ℕ) (command : Command) → hinted frame.ballot (record r { acceptor = after_accept (record { slot = slot; ballot = frame.ballot; value = command }) r.acceptor }) ≡ accepted_state slot command
+  hinted_is : (slot : ℕ) (command : Command) → hinted frame.ballot (record seen { acceptor = after_accept (record { slot = slot; ballot = frame.ballot; value = command }) r.acceptor }) ≡ accepted_state frame r slot command
   unfolding accepted_state
   hinted_is slot command =
-      let acceptor : AcceptorState Command = after_accept (record { slot = slot; ballot = frame.ballot; value = command }) r.acceptor in
-      let after : ReplicaState = record r { acceptor = acceptor } in
-      cond_both r.running after (record after { hint = Some frame.ballot.node }) (λ x. x ≡ record r { hint = Some frame.lead; acceptor = acceptor })
-      (λ _. ap (λ hint. record after { hint = hint }) p.hint_is) (λ _. ap (λ node. record after { hint = Some node }) is.own)
+      let after : ReplicaState = record seen { acceptor = after_accept (record { slot = slot; ballot = frame.ballot; value = command }) r.acceptor } in
+      cond_both r.running after (record after { hint = Some frame.ballot.node }) (λ x. x ≡ record after { hint = Some frame.lead })
+      (λ _. ap (λ hint. record after { hint = hint }) v.hint_is) (λ _. ap (λ node. record after { hint = Some node }) is.own)
 
   pub accept_is : (from slot : ℕ) (command : Command) → next r ≤ slot → (r.running && below r.leader.ballot frame.ballot) ≡ false
-      → accept_row from frame.ballot slot command (r, []) ≡ (accepted_state slot command, mail_of me from (Accepted frame.core.id frame.ballot slot) ∷ [])
+      → accept_row from frame.ballot slot command (r, []) ≡ (accepted_state frame r slot command, mail_of me from (Accepted frame.core.id frame.ballot slot) ∷ [])
   unfolding accept_row took
   accept_is from slot command high stays =
       let report : Report Command = record { slot = slot; ballot = frame.ballot; value = command } in
-      let low = p.floor_low in
-      let may : may_accept r.acceptor frame.ballot ≡ true = ap (λ (b : Ballot). not (below frame.ballot b)) p.promised_is ∙ ap not (at_least_itself frame.ballot) in
-      ap (took from report) (saw_same [] stays)
-      ∙ cond-false (nat_le slot r.acceptor.floor) (install_to from (r, [])) (accepted_to from frame.ballot slot (accepted_by report r.acceptor) (r, [])) (lt-leb slot r.acceptor.floor (omega (arith, low, high)))
-      ∙ ap (λ (a : AcceptAnswer × AcceptorState Command). accepted_to from frame.ballot slot a (r, [])) (cond-true (may_accept r.acceptor frame.ballot) (Asked.Accepted, after_accept report r.acceptor) (Asked.Ignored r.acceptor.promised, r.acceptor) may)
+      let low = v.floor_low in
+      let may : may_accept r.acceptor frame.ballot ≡ true = ap not v.promised_low in
+      ap (took from report) (saw_is [] stays)
+      ∙ cond-false (nat_le slot r.acceptor.floor) (install_to from (seen, [])) (accepted_to from frame.ballot slot (accepted_by report r.acceptor) (seen, [])) (lt-leb slot r.acceptor.floor (omega (arith, low, high)))
+      ∙ ap (λ (a : AcceptAnswer × AcceptorState Command). accepted_to from frame.ballot slot a (seen, [])) (cond-true (may_accept r.acceptor frame.ballot) (Asked.Accepted, after_accept report r.acceptor) (Asked.Ignored r.acceptor.promised, r.acceptor) may)
       ∙ ap (λ (x : ReplicaState). (x, mail_of r.me from (Accepted (name_of r) frame.ballot slot) ∷ [])) (hinted_is slot command)
-      ∙ ap (λ (core : Core). (accepted_state slot command, mail_of r.me from (Accepted core.id frame.ballot slot) ∷ [])) p.group.core_is
-      ∙ ap (λ who. (accepted_state slot command, mail_of who from (Accepted frame.core.id frame.ballot slot) ∷ [])) p.me_is
+      ∙ ap (λ (name : Draw). (accepted_state frame r slot command, mail_of r.me from (Accepted name frame.ballot slot) ∷ [])) v.name_is
+      ∙ ap (λ who. (accepted_state frame r slot command, mail_of who from (Accepted frame.core.id frame.ballot slot) ∷ [])) v.me_is
 
-  pub accepted_plain : (slot : ℕ) (command : Command) → IsPlainReplica begun frame me (accepted_state slot command)
+  pub accepted_voter : (slot : ℕ) (command : Command) → IsPlainVoter frame me (accepted_state frame r slot command)
   unfolding accepted_state
-  accepted_plain slot command = record {
-    me_is = p.me_is;
-    group = p.group;
+  accepted_voter slot command = record {
+    me_is = v.me_is;
+    name_is = v.name_is;
     hint_is = refl;
-    top_is = p.top_is;
-    promised_is = refl;
-    floor_low = p.floor_low;
-    begins = p.begins;
-    sets_are = p.sets_are;
-    acts = p.acts;
-    waits = p.waits;
+    top_low = cond_both (below r.top frame.ballot) frame.ballot r.top (λ b. IsAtLeast frame.ballot b) (λ _. at_least_itself frame.ballot) (λ _. v.top_low);
+    promised_low = at_least_itself frame.ballot;
+    floor_low = v.floor_low;
   }
 
-  pub accepted_owes : (slot : ℕ) (command : Command) → replica_owes (accepted_state slot command) ≡ replica_owes r
+-- what it has to do stays
+module _ (frame : Frame) (r : ReplicaState) (slot : ℕ) (command : Command) where
+  pub accepted_owes : replica_owes (accepted_state frame r slot command) ≡ replica_owes r
   unfolding accepted_state
-  accepted_owes slot command = refl
+  accepted_owes = refl
 
-  pub accepted_next : (slot : ℕ) (command : Command) → next (accepted_state slot command) ≡ next r
+  pub accepted_hint : (accepted_state frame r slot command).hint ≡ Some frame.lead
   unfolding accepted_state
-  accepted_next slot command = refl
+  accepted_hint = refl
 
-  pub accepted_flights : (slot : ℕ) (command : Command) → (accepted_state slot command).leader.flights ≡ r.leader.flights
+  pub accepted_me : (accepted_state frame r slot command).me ≡ r.me
   unfolding accepted_state
-  accepted_flights slot command = refl
+  accepted_me = refl
 
-  pub accepted_held : (slot : ℕ) (command : Command) (c n : ℕ) → IsHeld r c n → IsHeld (accepted_state slot command) c n
+  pub accepted_group : (accepted_state frame r slot command).group ≡ r.group
   unfolding accepted_state
-  accepted_held slot command c n h = record { number = h.number; op = h.op; later = h.later; where_ = h.where_ }
+  accepted_group = refl
 
-  pub accepted_slots : (slot : ℕ) (command : Command) (taken : ℕ) → AreTaken r taken → AreTaken (accepted_state slot command) taken
+  pub accepted_next : next (accepted_state frame r slot command) ≡ next r
   unfolding accepted_state
-  accepted_slots slot command taken a = record { most = a.most; once = a.once }
+  accepted_next = refl
 
-  pub accepted_follower : (slot : ℕ) (command : Command) → IsPlainFollower r → IsPlainFollower (accepted_state slot command)
+  pub accepted_flights : (accepted_state frame r slot command).leader.flights ≡ r.leader.flights
   unfolding accepted_state
-  accepted_follower slot command f = record { stopped = f.stopped; calls = f.calls; flights = f.flights; ready = f.ready }
+  accepted_flights = refl
 
-  pub accepted_leader : (slot taken : ℕ) (command : Command) → IsPlainLeader begun frame taken r → IsPlainLeader begun frame taken (accepted_state slot command)
+  pub accepted_held : (c n : ℕ) → IsHeld r c n → IsHeld (accepted_state frame r slot command) c n
   unfolding accepted_state
-  accepted_leader slot taken command l = record {
+  accepted_held c n h = record { number = h.number; op = h.op; later = h.later; where_ = h.where_ }
+
+  pub accepted_slots : (taken : ℕ) → AreTaken r taken → AreTaken (accepted_state frame r slot command) taken
+  unfolding accepted_state
+  accepted_slots taken a = record { most = a.most; once = a.once }
+
+  pub accepted_follower : IsPlainFollower r → IsPlainFollower (accepted_state frame r slot command)
+  unfolding accepted_state
+  accepted_follower f = record { stopped = f.stopped; calls = f.calls; flights = f.flights; ready = f.ready }
+
+  pub accepted_leader : (begun : Requests) (taken : ℕ) → IsPlainLeader begun frame taken r → IsPlainLeader begun frame taken (accepted_state frame r slot command)
+  unfolding accepted_state
+  accepted_leader begun taken l = record {
     running = l.running;
     ballot_is = l.ballot_is;
-    may = λ s. ap (λ (b : Ballot). not (below r.leader.ballot b) && (r.leader.is_first || is_majority (frame.at s) r.leader.promisers)) (sym p.promised_is) ∙ l.may s;
+    may = λ s.
+        and_from (not (below r.leader.ballot frame.ballot)) (r.leader.is_first || is_majority (frame.at s) r.leader.promisers)
+        (ap (λ (b : Ballot). not (below b frame.ballot)) l.ballot_is ∙ ap not (at_least_itself frame.ballot))
+        (and_parts (not (below r.leader.ballot r.acceptor.promised)) (r.leader.is_first || is_majority (frame.at s) r.leader.promisers) (l.may s)).1;
     open_ = l.open_;
     calls = l.calls;
     flights = l.flights;
@@ -130,9 +153,38 @@ module _ (begun : Requests) (frame : Frame) (is : IsFrame frame) (me : ℕ) (r :
     slots = record { most = l.slots.most; once = l.slots.once };
   }
 
-  pub accepted_done : (slot taken : ℕ) (command : Command) → HasOffered taken r → HasOffered taken (accepted_state slot command)
+  pub accepted_done : (taken : ℕ) → HasOffered taken r → HasOffered taken (accepted_state frame r slot command)
   unfolding accepted_state
-  accepted_done slot taken command d = record { executed = d.executed; offered = d.offered }
+  accepted_done taken d = record { executed = d.executed; offered = d.offered }
+
+-- ---- at a member
+
+module _ (begun : Requests) (frame : Frame) (is : IsFrame frame) (me : ℕ) (r : ReplicaState) (p : IsPlainReplica begun frame me r) where
+  -- it may vote
+  pub as_voter : IsPlainVoter frame me r
+  as_voter = record {
+    me_is = p.me_is;
+    name_is = ap (λ (core : Core). core.id) p.group.core_is;
+    hint_is = p.hint_is;
+    top_low = p.top_low;
+    promised_low = p.promised_low;
+    floor_low = p.floor_low;
+  }
+
+  pub accepted_plain : (slot : ℕ) (command : Command) → IsPlainReplica begun frame me (accepted_state frame r slot command)
+  unfolding accepted_state
+  accepted_plain slot command = (let v = accepted_voter frame is me r as_voter slot command in record {
+    me_is = p.me_is;
+    group = p.group;
+    hint_is = refl;
+    top_low = v.top_low;
+    promised_low = v.promised_low;
+    floor_low = p.floor_low;
+    begins = p.begins;
+    sets_are = p.sets_are;
+    acts = p.acts;
+    waits = p.waits;
+  })
 
   -- ---- Learn
 
@@ -204,8 +256,8 @@ module _ (begun : Requests) (frame : Frame) (is : IsFrame frame) (me : ℕ) (r :
       me_is = q.me_is;
       group = q.group;
       hint_is = q.hint_is;
-      top_is = q.top_is;
-      promised_is = q.promised_is;
+      top_low = q.top_low;
+      promised_low = q.promised_low;
       floor_low = q.floor_low;
       begins = q.begins;
       sets_are = q.sets_are;

@@ -1,5 +1,5 @@
 -- The induction over plain journals: how it begins, and what is owed at birth.
-use Rattle.std.proofs.Common.{◌≡◌, ℕ, zero, suc, ◌+◌, ◌-◌, ◌*◌, ◌<◌, ◌≤◌, ◌&&◌, not, ltb, eqb, true, false, cond, List, [], ◌∷◌, ◌++◌, length, map, filter, take, get_or, Option, Some, None, inl, inr, refl, sym, ◌∙◌, ap, arith}
+use Rattle.std.proofs.Common.{◌≡◌, ℕ, zero, suc, ◌+◌, ◌-◌, ◌*◌, ◌<◌, ◌≤◌, ◌&&◌, not, ltb, eqb, true, false, cond, List, [], ◌∷◌, ◌++◌, length, map, filter, take, get_or, Option, Some, None, inl, inr, refl, sym, ◌∙◌, ap, subst, arith}
 use Rattle.std.specs.List.{sum_by, All, AllPairs}
 use Rattle.std.specs.Ordering.{nat_cmp}
 use Rattle.std.specs.Cmp.Lexicographic.{slice_cmp}
@@ -12,15 +12,15 @@ use Rattle.sc_base.specs.Among.{Among, Each}
 use Rattle.sc_base.specs.Limits.{most_clients, most_requests}
 use Rattle.sc_base.specs.Same.{same_draw}
 use Rattle.sc_base.specs.declared.names.Draw.{Draw}
-use Rattle.sc_base.proofs.NameLemmas.{same_name}
+use Rattle.sc_base.proofs.NameLemmas.{draw_is, same_name}
 use Rattle.sc_cmd.specs.declared.cores.Base.{Base}
 use Rattle.sc_member.specs.Roster.{is_member}
 use Rattle.sc_actor.specs.declared.actors.Seat.{Seat}
 use Rattle.sc_paxos_words.proofs.BallotLemmas.{at_least_itself}
-use Rattle.sc_paxos_words.proofs.ListLemmas.{Each-among, Each-from_All}
+use Rattle.sc_paxos_words.proofs.ListLemmas.{Each-among, Each-from_All, find_found}
 use Rattle.sc_machine_table.specs.Group.{group_of}
 use Rattle.sc_node_table.specs.Node.{born_replicas, born_node, replica_of, is_node}
-use Rattle.sc_node_table.specs.Replica.{ReplicaState, born_replica}
+use Rattle.sc_node_table.specs.Replica.{ReplicaState, name_of, first_ballot, born_replica}
 use Rattle.sc_node_table.specs.Slots.{slots_ahead, numbers_from}
 use Rattle.sc_scenario.specs.Groups.{base_at, bases_up_to}
 use Rattle.sc_scenario.specs.Valid.{IsBounded, IsBoundedClient}
@@ -36,11 +36,10 @@ use Rattle.sc_budget_law.specs.Frames.{Frame, frame_of}
 use Rattle.sc_budget_law.specs.Owed.{replica_owes, player_owes}
 use Rattle.sc_budget_law.specs.PlainClient.{way_of, IsBegun, IsPlainClient}
 use Rattle.sc_budget_law.specs.PlainMail.{Requests}
-use Rattle.sc_budget_law.specs.PlainNode.{AreTaken, IsPlainReplica, IsSettled, IsPlainOf, IsPlainNode}
+use Rattle.sc_budget_law.specs.PlainNode.{AreTaken, IsPlainReplica, IsSettled, IsPlainAt, IsPlainNode}
 use Rattle.sc_budget_law.proofs.BetweenStage.{frames_of, stage, of_groups}
-use Rattle.sc_budget_law.specs.BetweenJournal.{replica_at, next_in, votes_in}
+use Rattle.sc_budget_law.specs.BetweenJournal.{replica_at, next_in, votes_in, IsGroupAt}
 use Rattle.sc_budget_law.proofs.BetweenAll.{owing_of, IsPlainJournal}
-use Rattle.sc_budget_law.proofs.BetweenGroups.{IsGroupAt}
 use Rattle.sc_budget_law.proofs.Leading.{in_range, range_before, range_behind}
 use Rattle.sc_budget_law.proofs.Counts.{one_if, one_no}
 use Rattle.sc_budget_law.proofs.Lists.{map_among}
@@ -71,8 +70,8 @@ born_plain begun me base no_pairs no_notes = record {
     stored = λ key value e. (let none : get (group_of base).pairs key ≡ None = ap (λ pairs. get (group_of (record base { pairs = pairs })).pairs key) no_pairs ∙ get-empty (slice_cmp nat_cmp) key in cc);
   };
   hint_is = refl;
-  top_is = refl;
-  promised_is = refl;
+  top_low = at_least_itself (first_ballot base.core);
+  promised_low = at_least_itself (first_ballot base.core);
   floor_low = omega arith;
   begins = omega arith;
   sets_are = refl;
@@ -208,19 +207,28 @@ few_requests (asks ∷ clients) few =
     omega (arith, a, here, rest, product)
 
 module _ (scenario : Scenario) (bounded : IsBounded scenario) where
+  -- a replica of one of the groups, as it was born
+  abbrev IsBornOf : ℕ → ReplicaState → Type 0
+  IsBornOf me r = (base : Base) × Among base scenario.groups × (born_replica slots_ahead me base ≡ r)
+
   -- each group begins with no pairs and no notes
   fresh : (base : Base) → Among base scenario.groups → (base.pairs ≡ []) × (base.clients ≡ [])
   fresh base a = (let k = of_groups scenario bounded base a in (ap (λ (b : Base). b.pairs) (sym k.2) ∙ refl, ap (λ (b : Base). b.clients) (sym k.2) ∙ refl))
 
+  -- a replica that is found is one of its group, and plain
+  born_at : (begun : Requests) (me : ℕ) (frame : Frame) (r : ReplicaState) → Among frame (frames_of scenario) → replica_of frame.core.id (born_replicas slots_ahead me scenario.groups) ≡ Some r → IsPlainAt begun frame me r
+  born_at begun me frame r a e =
+      let there = find_found (λ (x : ReplicaState). same_draw (name_of x) frame.core.id) (born_replicas slots_ahead me scenario.groups) r e in
+      let born = Each-among (IsBornOf me) (born_replicas slots_ahead me scenario.groups) r (born_each (IsBornOf me) me scenario.groups (λ base b. (base, b, refl))) there.0 in
+      let f = fresh born.0 born.1 in
+      let name : born.0.core.id ≡ frame.core.id = ap name_of born.2 ∙ draw_is (name_of r) frame.core.id there.1 in
+      let same : frame_of born.0 ≡ frame = (stage scenario bounded).apart (frame_of born.0) frame (map_among frame_of scenario.groups born.0 born.1) a name in
+      subst (λ (x : ReplicaState). IsPlainAt begun frame me x) born.2 (subst (λ (g : Frame). IsPlainAt begun g me (born_replica slots_ahead me born.0)) same (inl (born_plain begun me born.0 f.0 f.1, born_settled begun me born.0)))
+
   -- a node is plain
   pub node_at_birth : (begun : Requests) (me : ℕ) → IsPlainNode begun (frames_of scenario) (born_node slots_ahead me scenario.groups scenario.policy)
   node_at_birth begun me = record {
-    replicas = born_each (IsPlainOf begun (frames_of scenario) me) me scenario.groups (λ base a. (let f = fresh base a in record {
-      frame = frame_of base;
-      is_frame = map_among frame_of scenario.groups base a;
-      plain = born_plain begun me base f.0 f.1;
-      settled = born_settled begun me base;
-    }));
+    replicas = λ frame r a e. born_at begun me frame r a e;
     has = λ frame slot a m. (let b = from_map frame_of scenario.groups frame a in
         let found = born_found me scenario.groups b.0 b.1 (ap (λ (f : Frame). is_member (f.at slot) me) b.2 ∙ m) in
         (born_replica slots_ahead me found.0, ap (λ (f : Frame). replica_of f.core.id (born_replicas slots_ahead me scenario.groups)) (sym b.2) ∙ found.1));

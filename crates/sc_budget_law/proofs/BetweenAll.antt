@@ -14,12 +14,12 @@ use Rattle.sc_sound.specs.Players.{Player, player_table, node_seat, client_seat,
 use Rattle.sc_mail.specs.declared.roles.Role.TheVariants.{Node, Client}
 use Rattle.sc_orderly_law.specs.Orderly.{deliveries}
 use Rattle.sc_orderly_law.specs.Owing.{Owing, owed, owed_at_birth}
+use Rattle.sc_budget_law.specs.BetweenJournal.{IsGroupAt}
 use Rattle.sc_budget_law.specs.Frames.{Frame}
 use Rattle.sc_budget_law.specs.Owed.{player_owes, mail_owes}
 use Rattle.sc_budget_law.specs.PlainClient.{IsBegun, IsPlainClient}
 use Rattle.sc_budget_law.specs.PlainMail.{IsPlainMail}
 use Rattle.sc_budget_law.specs.PlainNode.{IsPlainNode}
-use Rattle.sc_budget_law.proofs.BetweenGroups.{IsGroupAt}
 use Rattle.sc_budget_law.proofs.BetweenStage.{frames_of, IsStage}
 use Rattle.sc_budget_law.proofs.BetweenViews.{Journal}
 

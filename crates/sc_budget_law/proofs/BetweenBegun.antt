@@ -15,7 +15,7 @@ use Rattle.sc_node_table.specs.Node.{NodeState}
 use Rattle.sc_node_table.specs.Replica.{ReplicaState}
 use Rattle.sc_budget_law.specs.Frames.{Frame}
 use Rattle.sc_budget_law.specs.PlainMail.{Requests, IsWrittenValue, IsPlainCall, IsPlainCommand, IsPlainAnswer, IsPlainBody, IsPlainMail}
-use Rattle.sc_budget_law.specs.PlainNode.{IsPlainGroup, IsPlainFlight, IsPlainLeader, IsPlainReplica, IsSettled, IsPlainOf, IsPlainNode}
+use Rattle.sc_budget_law.specs.PlainNode.{IsPlainGroup, IsPlainFlight, IsPlainLeader, IsPlainReplica, IsSettled, IsPlainAt, IsPlainNode}
 
 -- whatever was begun is begun
 abbrev pub IsMore : Requests → Requests → Type 0
@@ -101,8 +101,8 @@ module _ (one two : Requests) (more : IsMore one two) where
     me_is = p.me_is;
     group = group_more frame r.group p.group;
     hint_is = p.hint_is;
-    top_is = p.top_is;
-    promised_is = p.promised_is;
+    top_low = p.top_low;
+    promised_low = p.promised_low;
     floor_low = p.floor_low;
     begins = p.begins;
     sets_are = p.sets_are;
@@ -114,10 +114,10 @@ module _ (one two : Requests) (more : IsMore one two) where
   settled_more frame me r (inl s) = inl (s.0, record { taken = s.1.taken; leader = leader_more frame s.1.taken r s.1.leader; done = s.1.done })
   settled_more frame me r (inr s) = inr s
 
+  at_more : (frame : Frame) (me : ℕ) (r : ReplicaState) → IsPlainAt one frame me r → IsPlainAt two frame me r
+  at_more frame me r (inl k) = inl (replica_more frame me r k.0, settled_more frame me r k.1)
+  at_more frame me r (inr k) = inr k
+
   -- nodes stay plain
   pub node_more : (frames : List Frame) (node : NodeState) → IsPlainNode one frames node → IsPlainNode two frames node
-  node_more frames node p = record {
-    replicas = Each-weaker (IsPlainOf one frames node.me) (IsPlainOf two frames node.me)
-        (λ r o. record { frame = o.frame; is_frame = o.is_frame; plain = replica_more o.frame node.me r o.plain; settled = settled_more o.frame node.me r o.settled }) node.replicas p.replicas;
-    has = p.has;
-  }
+  node_more frames node p = record { replicas = λ frame r a e. at_more frame node.me r (p.replicas frame r a e); has = p.has }

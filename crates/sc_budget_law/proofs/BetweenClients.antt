@@ -123,11 +123,11 @@ module _ (words : ℕ → ℕ → ℕ × ℕ) (scenario : Scenario) (stage : IsS
         ∙ ap (λ (p : Player × List Mail). p.0) acted_is)
 
     pub more : IsMore (IsBegun scenario rows) (IsBegun scenario (rows ++ row_of player_table (client_seat (route_of stage.first) asks) rows event ∷ []))
-    more = begun_more words scenario stage rows j (row_of player_table (cseat asks) rows event) (λ other b. elim (cases_eq (client_actor other.client) (client_actor asks.client)) [
+    more = begun_more words scenario stage rows (row_of player_table (cseat asks) rows event) (λ other b. elim (cases_eq (client_actor other.client) (client_actor asks.client)) [
       | inl is ↦ (let same : other ≡ asks = one_client other b is in
           subst (λ (x : Asks). begun_of (value player_table (cseat x) rows) ≤ begun_of (value player_table (cseat x) (rows ++ row_of player_table (cseat asks) rows event ∷ []))) (sym same)
           (let before = ap begun_of c.is in let now_ = ap begun_of became in omega (arith, before, now_, grows)))
-      | inr ne ↦ (let same = ap begun_of (value_others words scenario stage rows j (row_of player_table (cseat asks) rows event) (cseat other) ne) in omega (arith, same))
+      | inr ne ↦ (let same = ap begun_of (value_others words scenario stage rows (row_of player_table (cseat asks) rows event) (cseat other) ne) in omega (arith, same))
     ])
 
     -- what is begun after it
@@ -220,7 +220,7 @@ module _ (words : ℕ → ℕ → ℕ × ℕ) (scenario : Scenario) (stage : IsS
     client_turn : J (rows ++ row_of player_table (client_seat (route_of stage.first) asks) rows (Deliver number) ∷ [])
     client_turn =
         client_after (Deliver number) fine (table c.client (Got first.mail)) got_is got_more (has_gone rows (client_actor asks.client))
-        (gone_still words scenario stage rows j (row_of player_table (cseat asks) rows (Deliver number)) (client_actor asks.client) refl) takes.row marks_taken others_sent
+        (gone_still words scenario stage rows (row_of player_table (cseat asks) rows (Deliver number)) (client_actor asks.client) refl) takes.row marks_taken others_sent
         (λ mail sent. (
         let same : first.mail ≡ mail = (let e : Some first.mail ≡ Some mail = sym first.sent ∙ sent in cc) in
         subst (λ m. 1 + owed_by (owing_of scenario) (player_table (value player_table (cseat asks) rows) (Got m)) ≤ player_owes (length (frames_of scenario)) (value player_table (cseat asks) rows) + mail_owes m) same

@@ -20,18 +20,16 @@ use Rattle.sc_scenario.specs.declared.scenarios.Scenario.{Scenario}
 use Rattle.sc_sound.specs.Players.{player_table, node_seat, system_of, as_nodes}
 use Rattle.sc_mail.specs.declared.roles.Role.TheVariants.{Node}
 use Rattle.sc_orderly_law.specs.Orderly.{rest, mail_for, taken}
-use Rattle.sc_budget_law.specs.Frames.{Frame}
-use Rattle.sc_budget_law.specs.Between.{Mark, Asks, Votes, Tells, Other, mark_of, mark, told, AreInOrder, IsBetween}
-use Rattle.sc_budget_law.specs.BetweenJournal.{marks_for, replica_at, next_in, votes_in, view_at, marks_at}
+use Rattle.sc_budget_law.specs.Frames.{Frame, IsFrame, AreNamedApart}
+use Rattle.sc_budget_law.specs.Between.{Mark, Asks, Votes, Tells, Other, mark_of, mark, told, AreInOrder}
+use Rattle.sc_budget_law.specs.BetweenJournal.{marks_for, replica_at, next_in, votes_in, view_at, marks_at, IsGroupAt}
 use Rattle.sc_budget_law.specs.BetweenRows.{IsOther, How, IsTaken}
 use Rattle.sc_budget_law.specs.PlainMail.{Requests, IsPlainBody}
-use Rattle.sc_budget_law.specs.PlainNode.{AreTaken, IsPlainNode, IsSettled}
+use Rattle.sc_budget_law.specs.PlainNode.{AreTaken, IsPlainAt, IsPlainNode, IsDue}
 use Rattle.sc_budget_law.proofs.BetweenDoes.{does_moves}
 use Rattle.sc_budget_law.proofs.BetweenLeads.{each_mark}
-use Rattle.sc_budget_law.proofs.BetweenStage.{frames_of, IsStage}
 use Rattle.sc_budget_law.proofs.BetweenViews.{Journal, between_after, replica_others, replica_is}
 use Rattle.sc_budget_law.proofs.NodeRows.{NodeRow, found_after, others_after}
-use Rattle.sc_budget_law.proofs.ReplicaRows.{IsDue}
 
 -- a mail of one group is nothing to another
 pub other_mark : (begun : Requests) (frame : Frame) (name : Draw) (from to : ℕ) (body : MailBody) → (name ≡ frame.core.id → ⊥) → IsPlainBody begun frame from to body → mark_of name from body ≡ Other
@@ -63,17 +61,9 @@ other_mark begun frame name from to (TxWatched tx coord part vote) ne b = refl
 other_mark begun frame name from to (Told order result) ne b = refl
 
 module _ (words : ℕ → ℕ → ℕ × ℕ) (scenario : Scenario) where
-  -- what stands in a group after some rows
-  pub record IsGroupAt (rows : Journal) (frame : Frame) : Type 0 where
-    pub taken : ℕ
-    pub r : ReplicaState
-    pub there : replica_at scenario rows frame.core.id frame.lead ≡ Some r
-    pub slots : AreTaken r taken
-    pub between : IsBetween frame (view_at scenario rows frame taken) (marks_at words scenario rows frame.core.id)
-
   -- ---- when a mail comes
 
-  module _ (begun : Requests) (rows : Journal) (frame : Frame) (g : IsGroupAt rows frame) (me : ℕ) (r : ReplicaState) (here : replica_at scenario rows frame.core.id me ≡ Some r) (from : ℕ) (behind : List Mark) where
+  module _ (begun : Requests) (rows : Journal) (frame : Frame) (g : IsGroupAt words scenario rows frame) (me : ℕ) (r : ReplicaState) (here : replica_at scenario rows frame.core.id me ≡ Some r) (from : ℕ) (behind : List Mark) where
     at_me : (view_at scenario rows frame g.taken).next me ≡ next r
     at_me = ap next_in here
 
@@ -115,8 +105,8 @@ module _ (words : ℕ → ℕ → ℕ × ℕ) (scenario : Scenario) where
   module _ (rows : Journal) (row : Row Mail OrderLine)
       (after : (who : ℕ) → rest (system_of as_nodes words scenario) (rows ++ row ∷ []) who ≡ drop (taken who row) (rest (system_of as_nodes words scenario) rows who) ++ mail_for (system_of as_nodes words scenario) who row.sent) where
     -- the replicas of the group stay, nothing of it is sent, and nothing of it is taken
-    pub group_idle : (frame : Frame) → IsGroupAt rows frame → ((node : ℕ) → replica_at scenario (rows ++ row ∷ []) frame.core.id node ≡ replica_at scenario rows frame.core.id node)
-        → IsTaken Other (marks_at words scenario rows frame.core.id row.who) (drop (cond (is_delivery row.event) 1 0) (marks_at words scenario rows frame.core.id row.who)) → ((who : ℕ) → Each IsOther (marks_for frame.core.id who row.sent)) → IsGroupAt (rows ++ row ∷ []) frame
+    pub group_idle : (frame : Frame) → IsGroupAt words scenario rows frame → ((node : ℕ) → replica_at scenario (rows ++ row ∷ []) frame.core.id node ≡ replica_at scenario rows frame.core.id node)
+        → IsTaken Other (marks_at words scenario rows frame.core.id row.who) (drop (cond (is_delivery row.event) 1 0) (marks_at words scenario rows frame.core.id row.who)) → ((who : ℕ) → Each IsOther (marks_for frame.core.id who row.sent)) → IsGroupAt words scenario (rows ++ row ∷ []) frame
     group_idle frame g same takes sends = record {
       taken = g.taken;
       r = g.r;
@@ -136,7 +126,7 @@ module _ (words : ℕ → ℕ → ℕ × ℕ) (scenario : Scenario) where
 
     -- ---- a row of a node
 
-    module _ (begun : Requests) (stage : IsStage scenario) (node : NodeState) (mail : Mail) (step : NodeState × List Mail) (n : IsPlainNode begun (frames_of scenario) node) (k : NodeRow begun (frames_of scenario) stage.are stage.apart node mail step)
+    module _ (begun : Requests) (frames : List Frame) (are : (frame : Frame) → Among frame frames → IsFrame frame) (apart : AreNamedApart frames) (node : NodeState) (mail : Mail) (step : NodeState × List Mail) (n : IsPlainNode begun frames node) (k : NodeRow begun frames are apart node mail step)
         (acts : row.who ≡ node.me) (delivers : is_delivery row.event ≡ true) (sends : row.sent ≡ step.1) (to : mail.to ≡ node.me) (behind : List Mail) (first : rest (system_of as_nodes words scenario) rows node.me ≡ mail ∷ behind)
         (is : is_node node.me ≡ true) (was : value player_table (node_seat as_nodes scenario.groups scenario.policy node.me) rows ≡ Node node)
         (became : value player_table (node_seat as_nodes scenario.groups scenario.policy node.me) (rows ++ row ∷ []) ≡ Node step.0) where
@@ -157,13 +147,13 @@ module _ (words : ℕ → ℕ → ℕ × ℕ) (scenario : Scenario) where
       takes_first name = inl (first_mark name ∙ ap (λ l. mark name mail ∷ l) (sym (ap (λ b. drop (cond b 1 0) (marks_at words scenario rows name row.who)) delivers ∙ ap (drop 1) (first_mark name))))
 
       -- in another group
-      other_group : (frame : Frame) → (frame.core.id ≡ k.frame.core.id → ⊥) → IsGroupAt rows frame → IsGroupAt (rows ++ row ∷ []) frame
+      other_group : (frame : Frame) → (frame.core.id ≡ k.frame.core.id → ⊥) → IsGroupAt words scenario rows frame → IsGroupAt words scenario (rows ++ row ∷ []) frame
       other_group frame ne g =
           group_idle frame g
           (λ who. elim (cases_eq who node.me) [
             | inl e ↦ ap (replica_at scenario (rows ++ row ∷ []) frame.core.id) e
                 ∙ (replica_after frame.core.id
-                ∙ (others_after begun (frames_of scenario) stage.are stage.apart node mail step n k frame.core.id ne ∙ (sym (replica_before frame.core.id) ∙ ap (replica_at scenario rows frame.core.id) (sym e))))
+                ∙ (others_after begun frames are apart node mail step n k frame.core.id ne ∙ (sym (replica_before frame.core.id) ∙ ap (replica_at scenario rows frame.core.id) (sym e))))
             | inr away ↦ others_stay frame.core.id who away
           ])
           (subst (λ m. IsTaken m (marks_at words scenario rows frame.core.id row.who) (drop (cond (is_delivery row.event) 1 0) (marks_at words scenario rows frame.core.id row.who))) (other_mark begun k.frame frame.core.id mail.from mail.to mail.body ne k.says) (takes_first frame.core.id))
@@ -171,7 +161,7 @@ module _ (words : ℕ → ℕ → ℕ × ℕ) (scenario : Scenario) where
           (each_mark IsOther (λ (m : Mail). IsPlainBody begun k.frame m.from m.to m.body) frame.core.id who (λ m b. other_mark begun k.frame frame.core.id m.from m.to m.body ne b) k.place.1 k.row.said))
 
       -- in its group: how many slots are taken after it
-      record IsAfter (g : IsGroupAt rows k.frame) : Type 0 where
+      record IsAfter (g : IsGroupAt words scenario rows k.frame) : Type 0 where
         taken : ℕ
         r : ReplicaState
         there : replica_at scenario (rows ++ row ∷ []) k.frame.core.id k.frame.lead ≡ Some r
@@ -180,10 +170,20 @@ module _ (words : ℕ → ℕ → ℕ × ℕ) (scenario : Scenario) where
         same : (node.me ≡ k.frame.lead → ⊥) → taken ≡ g.taken
 
       found_now : replica_at scenario (rows ++ row ∷ []) k.frame.core.id node.me ≡ Some k.place.0
-      found_now = replica_after k.frame.core.id ∙ found_after begun (frames_of scenario) stage.are stage.apart node mail step n k
+      found_now = replica_after k.frame.core.id ∙ found_after begun frames are apart node mail step n k
 
-      after_of : (g : IsGroupAt rows k.frame) → IsSettled begun k.frame node.me k.place.0 → IsAfter g
-      after_of g (inl l) = record {
+      other_leads : (g : IsGroupAt words scenario rows k.frame) → (node.me ≡ k.frame.lead → ⊥) → IsAfter g
+      other_leads g ne = record {
+        taken = g.taken;
+        r = g.r;
+        there = others_stay k.frame.core.id k.frame.lead (λ e. ne (sym e)) ∙ g.there;
+        slots = g.slots;
+        own = λ e. absurd (ne e);
+        same = λ ne_. refl;
+      }
+
+      after_of : (g : IsGroupAt words scenario rows k.frame) → IsPlainAt begun k.frame node.me k.place.0 → IsAfter g
+      after_of g (inl (p, inl l)) = record {
         taken = l.1.taken;
         r = k.place.0;
         there = ap (replica_at scenario (rows ++ row ∷ []) k.frame.core.id) (sym l.0) ∙ found_now;
@@ -191,25 +191,19 @@ module _ (words : ℕ → ℕ → ℕ × ℕ) (scenario : Scenario) where
         own = λ e. l.1.leader.slots;
         same = λ ne. absurd (ne l.0);
       }
-      after_of g (inr f) = record {
-        taken = g.taken;
-        r = g.r;
-        there = others_stay k.frame.core.id k.frame.lead (λ e. f.0 (sym e)) ∙ g.there;
-        slots = g.slots;
-        own = λ e. absurd (f.0 e);
-        same = λ ne. refl;
-      }
+      after_of g (inl (p, inr f)) = other_leads g f.0
+      after_of g (inr left) = other_leads g (λ e. both_ways (is_member k.frame.core.members node.me) left.left (ap (is_member k.frame.core.members) e ∙ (are k.frame k.is_frame).leads))
 
-      own_group : IsGroupAt rows k.frame → IsGroupAt (rows ++ row ∷ []) k.frame
+      own_group : IsGroupAt words scenario rows k.frame → IsGroupAt words scenario (rows ++ row ∷ []) k.frame
       own_group g =
-          let a = after_of g k.row.settled in
+          let a = after_of g k.row.after in
           let now = view_at scenario rows k.frame g.taken in
           let then_ = view_at scenario (rows ++ row ∷ []) k.frame a.taken in
           let here : replica_at scenario rows k.frame.core.id node.me ≡ Some k.r = replica_before k.frame.core.id ∙ k.found in
           let lead_now : node.me ≡ k.frame.lead → replica_at scenario rows k.frame.core.id k.frame.lead ≡ Some k.r = λ e. ap (replica_at scenario rows k.frame.core.id) (sym e) ∙ here in
           let lead_then : node.me ≡ k.frame.lead → replica_at scenario (rows ++ row ∷ []) k.frame.core.id k.frame.lead ≡ Some k.place.0 = λ e. ap (replica_at scenario (rows ++ row ∷ []) k.frame.core.id) (sym e) ∙ found_now in
           let slots_now : node.me ≡ k.frame.lead → AreTaken k.r g.taken = λ e. (let same : g.r ≡ k.r = (let some : Some g.r ≡ Some k.r = sym g.there ∙ lead_now e in cc) in subst (λ x. AreTaken x g.taken) same g.slots) in
-          let moves = does_moves begun k.frame (stage.are k.frame k.is_frame) node.me k.r g.taken mail.from mail.body k.place a.taken (subst (λ t. IsPlainBody begun k.frame mail.from t mail.body) to k.says) k.row.does slots_now a.own in
+          let moves = does_moves begun k.frame (are k.frame k.is_frame) node.me k.r g.taken mail.from mail.body k.place a.taken (subst (λ t. IsPlainBody begun k.frame mail.from t mail.body) to k.says) k.row.does slots_now a.own in
           let how : How k.frame now then_ node.me (mark k.frame.core.id mail) (λ who. marks_for k.frame.core.id who k.place.1) =
           moves now then_
           (record { bound = λ e. ap (λ o. next_in o + g.taken) (lead_now e); voters = λ e slot. ap (λ o. votes_in o slot) (lead_now e); next = ap next_in here })
@@ -232,9 +226,9 @@ module _ (words : ℕ → ℕ → ℕ × ℕ) (scenario : Scenario) where
           }
 
       -- in each group
-      pub group_after : (frame : Frame) → Among frame (frames_of scenario) → IsGroupAt rows frame → IsGroupAt (rows ++ row ∷ []) frame
+      pub group_after : (frame : Frame) → Among frame frames → IsGroupAt words scenario rows frame → IsGroupAt words scenario (rows ++ row ∷ []) frame
       group_after frame a g = elim (cases_Bool (same_draw frame.core.id k.frame.core.id)) [
-        | inl t ↦ (let same : k.frame ≡ frame = stage.apart k.frame frame k.is_frame a (sym (draw_is frame.core.id k.frame.core.id t)) in
-            subst (IsGroupAt (rows ++ row ∷ [])) same (own_group (subst (IsGroupAt rows) (sym same) g)))
+        | inl t ↦ (let same : k.frame ≡ frame = apart k.frame frame k.is_frame a (sym (draw_is frame.core.id k.frame.core.id t)) in
+            subst (IsGroupAt words scenario (rows ++ row ∷ [])) same (own_group (subst (IsGroupAt words scenario rows) (sym same) g)))
         | inr f ↦ other_group frame (λ e. both_ways (same_draw frame.core.id k.frame.core.id) f (same_name frame.core.id k.frame.core.id e)) g
       ]

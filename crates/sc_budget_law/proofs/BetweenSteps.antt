@@ -33,12 +33,11 @@ use Rattle.sc_budget_law.specs.Frames.{Frame}
 use Rattle.sc_budget_law.specs.Owed.{replica_owes, player_owes}
 use Rattle.sc_budget_law.specs.PlainClient.{begun_of, IsBegun, IsPlainClient}
 use Rattle.sc_budget_law.specs.PlainMail.{IsPlainMail}
-use Rattle.sc_budget_law.specs.PlainNode.{IsSettled}
 use Rattle.sc_budget_law.proofs.BetweenAll.{owing_of, IsNodeAt, IsClientAt, IsPlainJournal}
 use Rattle.sc_budget_law.proofs.BetweenBegun.{IsMore, mail_more, node_more}
 use Rattle.sc_budget_law.proofs.BetweenStage.{frames_of, IsStage}
 use Rattle.sc_budget_law.proofs.BetweenViews.{Journal, replica_is}
-use Rattle.sc_budget_law.proofs.NodeRows.{of_frame}
+use Rattle.sc_budget_law.proofs.ReplicaRows.{leading_at}
 use Rattle.sc_budget_law.proofs.Lists.{map_among}
 
 -- ---- lists
@@ -93,6 +92,39 @@ module _ (words : ℕ → ℕ → ℕ × ℕ) (scenario : Scenario) (stage : IsS
   pub client_number : (asks : Asks) → Among asks scenario.clients → is_node (client_actor asks.client) ≡ false
   client_number asks a = (let one = stage.numbered asks a in and_right (leb 1 (client_actor asks.client)) (leb (client_actor asks.client) most_nodes) (lt-leb (client_actor asks.client) most_nodes (omega (arith, one))))
 
+  -- ---- what a row leaves as it is
+
+  module _ (rows : Journal) (row : Row Mail OrderLine) where
+    pub value_others : (seat : Seat Player) → (seat.who ≡ row.who → ⊥) → value player_table seat (rows ++ row ∷ []) ≡ value player_table seat rows
+    value_others seat ne =
+        value-snoc player_table seat rows row
+        ∙ ap (λ b. cond b (acted player_table (value player_table seat rows) (input_of (mails rows) row.event)).0 (value player_table seat rows)) (ne_eqb row.who seat.who (λ e. ne (sym e)))
+
+    pub gone_others : (who : ℕ) → (who ≡ row.who → ⊥) → has_gone (rows ++ row ∷ []) who ≡ has_gone rows who
+    gone_others who ne =
+        list_any-append (λ (r : Row Mail OrderLine). eqb r.who who && is_go r.event) rows (row ∷ [])
+        ∙ (ap (λ b. has_gone rows who || ((b && is_go row.event) || false)) (ne_eqb row.who who (λ e. ne (sym e))) ∙ or-false (has_gone rows who))
+
+    -- a row that is no Go leaves who has gone
+    pub gone_still : (who : ℕ) → is_go row.event ≡ false → has_gone (rows ++ row ∷ []) who ≡ has_gone rows who
+    gone_still who none =
+        list_any-append (λ (r : Row Mail OrderLine). eqb r.who who && is_go r.event) rows (row ∷ [])
+        ∙ (ap (λ b. has_gone rows who || (b || false)) (and_right (eqb row.who who) (is_go row.event) none) ∙ or-false (has_gone rows who))
+
+    -- where no client has fewer begun, whatever was begun is begun
+    pub begun_more : ((asks : Asks) → Among asks scenario.clients → begun_of (value player_table (cseat asks) rows) ≤ begun_of (value player_table (cseat asks) (rows ++ row ∷ []))) → IsMore (IsBegun scenario rows) (IsBegun scenario (rows ++ row ∷ []))
+    begun_more grows client seq op b =
+        let first : b.first ≡ stage.first = (let e : b.first ∷ b.others ≡ stage.first ∷ stage.others = sym b.groups_are ∙ stage.groups_are in cc) in
+        let low = b.low in
+        let up = grows b.asks b.is_asks in
+        let was = ap (λ (f : Base). begun_of (value player_table (client_seat (route_of f) b.asks) rows)) first in
+        let now = ap (λ (f : Base). begun_of (value player_table (client_seat (route_of f) b.asks) (rows ++ row ∷ []))) first in
+        record { first = b.first; others = b.others; groups_are = b.groups_are; asks = b.asks; is_asks = b.is_asks; client_is = b.client_is; from_one = b.from_one; op_is = b.op_is; low = omega (arith, low, up, was, now) }
+
+    -- .. as where none of them acts
+    pub begun_still : ((asks : Asks) → Among asks scenario.clients → client_actor asks.client ≡ row.who → ⊥) → IsMore (IsBegun scenario rows) (IsBegun scenario (rows ++ row ∷ []))
+    begun_still away = begun_more (λ asks a. (let same = ap begun_of (value_others (cseat asks) (away asks a)) in omega (arith, same)))
+
   module _ (rows : Journal) (j : IsPlainJournal words scenario stage rows) where
     lead_fits : (frame : Frame) → Among frame (frames_of scenario) → (1 ≤ frame.lead) × (frame.lead ≤ scenario.nodes)
     lead_fits frame a =
@@ -106,18 +138,14 @@ module _ (words : ℕ → ℕ → ℕ × ℕ) (scenario : Scenario) (stage : IsS
         let fits = lead_fits frame a in
         let n = j.nodes frame.lead fits.0 fits.1 in
         let here : replica_of frame.core.id n.node.replicas ≡ Some g.r = sym (replica_is words scenario rows frame.core.id frame.lead (Node n.node) (node_number frame.lead fits.0 fits.1) n.is) ∙ g.there in
-        let k = of_frame (IsBegun scenario rows) (frames_of scenario) stage.are stage.apart n.node frame g.r n.plain a here in
-        let runs = leading n.node.me g.r frame n.me_is k.1 in
+        let leads = leading_at (IsBegun scenario rows) frame (stage.are frame a) n.node.me g.r n.me_is (n.plain.replicas frame g.r a here) in
+        let runs = leads.1.leader.running in
         let found = find_found (λ (r : ReplicaState). same_draw (name_of r) frame.core.id) n.node.replicas g.r here in
         let one = one_of_sum replica_owes n.node.replicas g.r found.0 in
         let all = one_of_sum (λ (seat : Seat Player). player_owes (length (frames_of scenario)) (value player_table seat rows)) (births as_nodes scenario) (nseat frame.lead) (node_born frame.lead fits.0 fits.1) in
         let is = ap (player_owes (length (frames_of scenario))) n.is in
         let mine = cond-true g.r.running (next g.r - 1) 0 runs in
         omega (arith, one, all, is, mine)
-      where
-        leading : (me : ℕ) (r : ReplicaState) (frame : Frame) → me ≡ frame.lead → IsSettled (IsBegun scenario rows) frame me r → r.running ≡ true
-        leading me r frame e (inl l) = l.1.leader.running
-        leading me r frame e (inr f) = absurd (f.0 e)
 
     -- .. and so no replica is near the last slot
     pub has_room_at : owed_at_birth sys (owing_of scenario) + 16 ≤ last_slot → (frame : Frame) → Among frame (frames_of scenario) → (me : ℕ) → next_in (replica_at scenario rows frame.core.id me) + slots_ahead ≤ last_slot
@@ -130,29 +158,13 @@ module _ (words : ℕ → ℕ → ℕ × ℕ) (scenario : Scenario) (stage : IsS
         let there = ap next_in g.there in
         omega (arith, few, low, lead, most, owes, there)
 
-    -- ---- what a row leaves as it is
+    -- ---- of a plain journal
 
     module _ (row : Row Mail OrderLine) where
-      pub value_others : (seat : Seat Player) → (seat.who ≡ row.who → ⊥) → value player_table seat (rows ++ row ∷ []) ≡ value player_table seat rows
-      value_others seat ne =
-          value-snoc player_table seat rows row
-          ∙ ap (λ b. cond b (acted player_table (value player_table seat rows) (input_of (mails rows) row.event)).0 (value player_table seat rows)) (ne_eqb row.who seat.who (λ e. ne (sym e)))
-
-      pub gone_others : (who : ℕ) → (who ≡ row.who → ⊥) → has_gone (rows ++ row ∷ []) who ≡ has_gone rows who
-      gone_others who ne =
-          list_any-append (λ (r : Row Mail OrderLine). eqb r.who who && is_go r.event) rows (row ∷ [])
-          ∙ (ap (λ b. has_gone rows who || ((b && is_go row.event) || false)) (ne_eqb row.who who (λ e. ne (sym e))) ∙ or-false (has_gone rows who))
-
-      -- a row that is no Go leaves who has gone
-      pub gone_still : (who : ℕ) → is_go row.event ≡ false → has_gone (rows ++ row ∷ []) who ≡ has_gone rows who
-      gone_still who none =
-          list_any-append (λ (r : Row Mail OrderLine). eqb r.who who && is_go r.event) rows (row ∷ [])
-          ∙ (ap (λ b. has_gone rows who || (b || false)) (and_right (eqb row.who who) (is_go row.event) none) ∙ or-false (has_gone rows who))
-
       pub node_stays : IsMore (IsBegun scenario rows) (IsBegun scenario (rows ++ row ∷ [])) → (me : ℕ) → (me ≡ row.who → ⊥) → IsNodeAt words scenario stage rows me → IsNodeAt words scenario stage (rows ++ row ∷ []) me
       node_stays more me ne n = record {
         node = n.node;
-        is = value_others (nseat me) ne ∙ n.is;
+        is = value_others rows row (nseat me) ne ∙ n.is;
         me_is = n.me_is;
         plain = node_more (IsBegun scenario rows) (IsBegun scenario (rows ++ row ∷ [])) more (frames_of scenario) n.node n.plain;
       }
@@ -160,8 +172,8 @@ module _ (words : ℕ → ℕ → ℕ × ℕ) (scenario : Scenario) (stage : IsS
       pub client_stays : (asks : Asks) → (client_actor asks.client ≡ row.who → ⊥) → IsClientAt words scenario stage rows asks → IsClientAt words scenario stage (rows ++ row ∷ []) asks
       client_stays asks ne c = record {
         client = c.client;
-        is = value_others (cseat asks) ne ∙ c.is;
-        plain = subst (λ b. IsPlainClient (frames_of scenario) asks b c.client) (sym (gone_others (client_actor asks.client) ne)) c.plain;
+        is = value_others rows row (cseat asks) ne ∙ c.is;
+        plain = subst (λ b. IsPlainClient (frames_of scenario) asks b c.client) (sym (gone_others rows row (client_actor asks.client) ne)) c.plain;
       }
 
       -- the mail of a row comes behind that of all
@@ -171,17 +183,3 @@ module _ (words : ℕ → ℕ → ℕ × ℕ) (scenario : Scenario) (stage : IsS
           (Each-append (IsPlainMail (IsBegun scenario (rows ++ row ∷ [])) (frames_of scenario)) (mails rows) row.sent
           (Each-weaker (IsPlainMail (IsBegun scenario rows) (frames_of scenario)) (IsPlainMail (IsBegun scenario (rows ++ row ∷ [])) (frames_of scenario))
           (mail_more (IsBegun scenario rows) (IsBegun scenario (rows ++ row ∷ [])) more (frames_of scenario)) (mails rows) j.sent) new)
-
-      -- where no client has fewer begun, whatever was begun is begun
-      pub begun_more : ((asks : Asks) → Among asks scenario.clients → begun_of (value player_table (cseat asks) rows) ≤ begun_of (value player_table (cseat asks) (rows ++ row ∷ []))) → IsMore (IsBegun scenario rows) (IsBegun scenario (rows ++ row ∷ []))
-      begun_more grows client seq op b =
-          let first : b.first ≡ stage.first = (let e : b.first ∷ b.others ≡ stage.first ∷ stage.others = sym b.groups_are ∙ stage.groups_are in cc) in
-          let low = b.low in
-          let up = grows b.asks b.is_asks in
-          let was = ap (λ (f : Base). begun_of (value player_table (client_seat (route_of f) b.asks) rows)) first in
-          let now = ap (λ (f : Base). begun_of (value player_table (client_seat (route_of f) b.asks) (rows ++ row ∷ []))) first in
-          record { first = b.first; others = b.others; groups_are = b.groups_are; asks = b.asks; is_asks = b.is_asks; client_is = b.client_is; from_one = b.from_one; op_is = b.op_is; low = omega (arith, low, up, was, now) }
-
-      -- .. as where none of them acts
-      pub begun_still : ((asks : Asks) → Among asks scenario.clients → client_actor asks.client ≡ row.who → ⊥) → IsMore (IsBegun scenario rows) (IsBegun scenario (rows ++ row ∷ []))
-      begun_still away = begun_more (λ asks a. (let same = ap begun_of (value_others (cseat asks) (away asks a)) in omega (arith, same)))

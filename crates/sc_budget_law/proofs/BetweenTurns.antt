@@ -119,7 +119,7 @@ module _ (words : ℕ → ℕ → ℕ × ℕ) (scenario : Scenario) (stage : IsS
           let after = node_table n.node (Got first.mail) in
           let orderly : IsOrderly sys rows r = record { seat = nseat me; born = born; event = Deliver number; row_is = refl; in_order = fine } in
           let rest_after : (who : ℕ) → rest sys (rows ++ r ∷ []) who ≡ drop (taken who r) (rest sys rows who) ++ mail_for sys who r.sent = λ who. rest-row sys rows r who t orderly in
-          let more = begun_still words scenario stage rows j r (λ asks a e. no_client asks a e) in
+          let more = begun_still words scenario stage rows r (λ asks a e. no_client asks a e) in
           let became : value player_table (nseat me) (rows ++ r ∷ []) ≡ Node after.0 = value_own rows (nseat me) (Deliver number) ∙ ap (λ (p : Player × List Mail). p.0) acted_is in
           let sends : r.sent ≡ after.1 = ap (λ (p : Player × List Mail). p.1) acted_is in
           let plain_after = node_plain (IsBegun scenario rows) (frames_of scenario) stage.are stage.apart n.node first.mail after n.plain k in
@@ -139,7 +139,7 @@ module _ (words : ℕ → ℕ → ℕ × ℕ) (scenario : Scenario) (stage : IsS
                 (Each-weaker (IsPlainMail (IsBegun scenario rows) (frames_of scenario)) (IsPlainMail (IsBegun scenario (rows ++ r ∷ [])) (frames_of scenario)) (mail_more (IsBegun scenario rows) (IsBegun scenario (rows ++ r ∷ [])) more (frames_of scenario)) after.1
                 (node_said (IsBegun scenario rows) (frames_of scenario) stage.are stage.apart n.node first.mail after n.plain k)));
             groups = λ frame a.
-                group_after words scenario rows r rest_after (IsBegun scenario rows) stage n.node first.mail after n.plain k (sym n.me_is) refl sends (first.receiver ∙ sym n.me_is) first.behind
+                group_after words scenario rows r rest_after (IsBegun scenario rows) (frames_of scenario) stage.are stage.apart n.node first.mail after n.plain k (sym n.me_is) refl sends (first.receiver ∙ sym n.me_is) first.behind
                 (ap (rest sys rows) n.me_is ∙ first.first) (ap is_node n.me_is ∙ node_number words scenario stage me one most)
                 (ap (λ m. value player_table (nseat m) rows) n.me_is ∙ n.is) (ap (λ m. value player_table (nseat m) (rows ++ r ∷ [])) n.me_is ∙ became) frame a (j.groups frame a);
             owes = owes_after rows (nseat me) (Deliver number) j born fine node_paid;
@@ -158,7 +158,7 @@ module _ (words : ℕ → ℕ → ℕ × ℕ) (scenario : Scenario) (stage : IsS
         let r = row_of player_table (nseat me) rows Go in
         let orderly : IsOrderly sys rows r = record { seat = nseat me; born = born; event = Go; row_is = refl; in_order = fine } in
         let rest_after : (who : ℕ) → rest sys (rows ++ r ∷ []) who ≡ drop (taken who r) (rest sys rows who) ++ mail_for sys who r.sent = λ who. rest-row sys rows r who t orderly in
-        let more = begun_still words scenario stage rows j r (λ asks a e. no_client asks a e) in
+        let more = begun_still words scenario stage rows r (λ asks a e. no_client asks a e) in
         let same : value player_table (nseat me) (rows ++ r ∷ []) ≡ value player_table (nseat me) rows = value_own rows (nseat me) Go ∙ (ap (λ (p : Player × List Mail). p.0) acted_go ∙ sym n.is) in
         let none : r.sent ≡ [] = ap (λ (p : Player × List Mail). p.1) acted_go in
         record {

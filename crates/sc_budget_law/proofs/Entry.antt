@@ -84,8 +84,8 @@ module _ (begun : Requests) (frame : Frame) (is : IsFrame frame) where
         me_is = p.me_is;
         group = g;
         hint_is = p.hint_is;
-        top_is = p.top_is;
-        promised_is = p.promised_is;
+        top_low = p.top_low;
+        promised_low = p.promised_low;
         floor_low = omega (arith, up, low, cut);
         begins = omega (arith, up, begins);
         sets_are = sets_next (next r) r.sets (applied r.group command).0.core.members p.begins p.sets_are (ap (λ (core : Core). core.members) g.core_is) ∙ ap (λ n. map frame.at (numbers_from n slots_ahead)) (sym up);

@@ -42,11 +42,11 @@ best_is p (x ∷ known) best e k =
     record { stands = elim (more.stands) [ inl same ↦ inl same | inr a ↦ inr (inr a) ]; low = low; each = (omega (arith, away, low), more.each) })) k
 
 -- the group that is chosen is known, and none is nearer
-record IsChosen (p : ℕ) (known : KnownGroups) (group : Draw) : Type 0 where
-  entry : Draw × Way
-  stands : Among entry known
-  name : entry.0 ≡ group
-  each : Each (λ (x : Draw × Way). far p entry.1 ≤ far p x.1) known
+pub record IsChosen (p : ℕ) (known : KnownGroups) (group : Draw) : Type 0 where
+  pub entry : Draw × Way
+  pub stands : Among entry known
+  pub name : entry.0 ≡ group
+  pub each : Each (λ (x : Draw × Way). far p entry.1 ≤ far p x.1) known
 
 chosen_best : (p : ℕ) (known : KnownGroups) (group : Draw) (o : Option (Draw × Way)) → fold (better p) None known ≡ o → option_map (λ (entry : Draw × Way). entry.0) o ≡ Some group → IsChosen p known group
 chosen_best p known group None e k = cc
@@ -55,7 +55,7 @@ chosen_best p (x ∷ known) group (Some entry) e k =
     let b = best_is p known x entry e in
     record { entry = entry; stands = elim (b.stands) [ inl same ↦ inl (sym same) | inr a ↦ inr a ]; name = (let n : entry.0 ≡ group = cc in n); each = (b.low, b.each) }
 
-chosen_is : (p : ℕ) (known : KnownGroups) (group : Draw) → chosen p known ≡ Some group → IsChosen p known group
+pub chosen_is : (p : ℕ) (known : KnownGroups) (group : Draw) → chosen p known ≡ Some group → IsChosen p known group
 chosen_is p known group e = chosen_best p known group (fold (better p) None known) refl e
 
 best_some : (p : ℕ) (known : KnownGroups) (best : Draw × Way) → (e : Draw × Way) × (fold (better p) (Some best) known ≡ Some e)
@@ -100,11 +100,11 @@ pub among_last : {X : Type 0} (xs ys : List X) (x : X) → Among x ys → Among 
 among_last [] ys x a = a
 among_last (y ∷ xs) ys x a = inr (among_last xs ys x a)
 
-map_push : {X Y : Type 0} (f : X → Y) (xs : List X) (x : X) → map f (xs ++ x ∷ []) ≡ map f xs ++ f x ∷ []
+pub map_push : {X Y : Type 0} (f : X → Y) (xs : List X) (x : X) → map f (xs ++ x ∷ []) ≡ map f xs ++ f x ∷ []
 map_push f [] x = refl
 map_push f (y ∷ xs) x = ap (λ l. f y ∷ l) (map_push f xs x)
 
-take_front : {X : Type 0} (front : List X) (x : X) (back : List X) → take (length front + 1) (front ++ x ∷ back) ≡ front ++ x ∷ []
+pub take_front : {X : Type 0} (front : List X) (x : X) (back : List X) → take (length front + 1) (front ++ x ∷ back) ≡ front ++ x ∷ []
 take_front [] x back = refl
 take_front {X} (y ∷ front) x back =
     let n : length (y ∷ front) + 1 ≡ suc (length front + 1) = omega arith in

@@ -44,3 +44,15 @@ mod Ends
 mod Bytes
 mod Light
 mod Worked
+mod RestingFrames
+mod CalmKnowing
+mod CalmRows
+mod CalmNodes
+mod CalmClients
+mod AskingMore
+mod AskingTurns
+mod AskingClients
+mod AskingBegins
+mod AskingSought
+mod AskingLines
+mod HintsRise

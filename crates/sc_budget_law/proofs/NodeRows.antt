@@ -9,12 +9,11 @@ use Rattle.sc_base.specs.declared.ops.Op.{Op}
 use Rattle.sc_base.proofs.NameLemmas.{draw_is, same_name}
 use Rattle.sc_actor.specs.declared.rows.Input.TheVariants.{Got}
 use Rattle.sc_cmd.specs.declared.cores.Base.{Base}
-use Rattle.sc_cmd.specs.declared.cores.Core.{Core}
 use Rattle.sc_mail.specs.declared.bodies.Mail.{Mail}
 use Rattle.sc_mail.specs.declared.bodies.MailBody.{MailBody}
 use Rattle.sc_mail.specs.declared.bodies.MailBody.TheVariants.{Request, Answer, Prepare, Promise, Accept, Accepted, Nack, Learn, Ask, Install, TxPrepare, TxVote, TxOutcome, TxElsewhere, TxWatch, TxWatched, Told}
 use Rattle.sc_member.specs.Roster.{is_member}
-use Rattle.sc_paxos_words.proofs.ListLemmas.{Each-among, Each-weaker, find_found}
+use Rattle.sc_paxos_words.proofs.ListLemmas.{Each-weaker}
 use Rattle.sc_node_table.specs.Node.{NodeState, replica_of, with_replica, group_of_mail, is_node, may_come, with_children, taken_by, routed, on_mail, node_table}
 use Rattle.sc_node_table.specs.Replica.{ReplicaState, Place, name_of, next, last_slot}
 use Rattle.sc_node_table.specs.Rows.{mailed}
@@ -22,21 +21,11 @@ use Rattle.sc_node_table.specs.Slots.{slots_ahead}
 use Rattle.sc_budget_law.specs.Frames.{Frame, IsFrame, AreNamedApart}
 use Rattle.sc_budget_law.specs.Owed.{mail_owes, node_owes}
 use Rattle.sc_budget_law.specs.PlainMail.{Requests, IsPlainBody, IsPlainMail}
-use Rattle.sc_budget_law.specs.PlainNode.{IsPlainReplica, IsSettled, IsPlainOf, IsPlainNode}
-use Rattle.sc_budget_law.proofs.Replicas.{put_each, put_owes, put_found, put_others}
-use Rattle.sc_budget_law.proofs.ReplicaRows.{IsDue, ReplicaRow, replica_row}
+use Rattle.sc_budget_law.specs.PlainNode.{IsPlainAt, IsPlainNode, IsDue}
+use Rattle.sc_budget_law.proofs.Replicas.{put_owes, put_found, put_others}
+use Rattle.sc_budget_law.proofs.ReplicaRows.{ReplicaRow, replica_row}
 
 module _ (begun : Requests) (frames : List Frame) (are : (frame : Frame) → Among frame frames → IsFrame frame) (apart : AreNamedApart frames) where
-  -- the replica that is found is one of the group that is named
-  pub of_frame : (node : NodeState) (frame : Frame) (r : ReplicaState) → IsPlainNode begun frames node → Among frame frames → replica_of frame.core.id node.replicas ≡ Some r
-      → IsPlainReplica begun frame node.me r × IsSettled begun frame node.me r
-  of_frame node frame r n a e =
-      let found = find_found (λ (x : ReplicaState). same_draw (name_of x) frame.core.id) node.replicas r e in
-      let k = Each-among (IsPlainOf begun frames node.me) node.replicas r n.replicas found.0 in
-      let name : k.frame.core.id ≡ frame.core.id = ap (λ (core : Core). core.id) (sym k.plain.group.core_is) ∙ draw_is (name_of r) frame.core.id found.1 in
-      let same : k.frame ≡ frame = apart k.frame frame k.is_frame a name in
-      (subst (λ (f : Frame). IsPlainReplica begun f node.me r) same k.plain, subst (λ (f : Frame). IsSettled begun f node.me r) same k.settled)
-
   -- ---- whom a plain mail is for
 
   to_member : (frame : Frame) (is : IsFrame frame) (to : ℕ) → is_member frame.core.members to ≡ true → (slot : ℕ) × (is_member (frame.at slot) to ≡ true)
@@ -85,7 +74,7 @@ module _ (begun : Requests) (frames : List Frame) (are : (frame : Frame) → Amo
       ap (λ (y : ReplicaState). taken_by (Some y) group from body node) same
       ∙ ap (λ (children : List Base). (with_children children (record node { replicas = with_replica group (mailed from body (r, [])).0.0 node.replicas }), (mailed from body (r, [])).0.1)) c
 
-  mail_is : (group : Draw) (from : ℕ) (body : MailBody) (node : NodeState) (r : ReplicaState) → may_come from body ≡ true → group_of_mail body ≡ Some group → replica_of group node.replicas ≡ Some r → (mailed from body (r, [])).1 ≡ []
+  pub mail_is : (group : Draw) (from : ℕ) (body : MailBody) (node : NodeState) (r : ReplicaState) → may_come from body ≡ true → group_of_mail body ≡ Some group → replica_of group node.replicas ≡ Some r → (mailed from body (r, [])).1 ≡ []
       → on_mail from body node ≡ (record node { replicas = with_replica group (mailed from body (r, [])).0.0 node.replicas }, (mailed from body (r, [])).0.1)
   mail_is group from body node r may g e c =
       cond-true (may_come from body) (routed (group_of_mail body) from body node) (node, []) may
@@ -100,6 +89,7 @@ module _ (begun : Requests) (frames : List Frame) (are : (frame : Frame) → Amo
     pub r : ReplicaState
     pub found : replica_of frame.core.id node.replicas ≡ Some r
     pub place : Place
+    pub name_is : name_of place.0 ≡ frame.core.id
     pub after_is : after ≡ (record node { replicas = with_replica frame.core.id place.0 node.replicas }, place.1)
     pub row : ReplicaRow begun frame (are frame is_frame) node.me r mail.from mail.body place
 
@@ -114,10 +104,9 @@ module _ (begun : Requests) (frames : List Frame) (are : (frame : Frame) → Amo
       let is = are m.frame m.is_frame in
       let for : IsFor m.frame mail.from mail.to mail.body = for_node m.frame is mail.from mail.to mail.body m.says (λ c s o b e. not_client c s o b (sym to ∙ e)) in
       let here = n.has m.frame for.slot m.is_frame (ap (is_member (m.frame.at for.slot)) (sym to) ∙ for.member) in
-      let k = of_frame node m.frame here.0 n m.is_frame here.1 in
       let d = due m.frame here.0 m.is_frame m.says here.1 in
       let says_me : IsPlainBody begun m.frame mail.from node.me mail.body = subst (λ who. IsPlainBody begun m.frame mail.from who mail.body) to m.says in
-      let row = replica_row begun m.frame is here.0 mail.from d.1 node.me mail.body k.0 k.1 says_me d.0 not_client in
+      let row = replica_row begun m.frame is here.0 mail.from d.1 node.me mail.body (n.replicas m.frame here.0 m.is_frame here.1) says_me d.0 not_client in
       record {
         frame = m.frame;
         is_frame = m.is_frame;
@@ -125,6 +114,7 @@ module _ (begun : Requests) (frames : List Frame) (are : (frame : Frame) → Amo
         r = here.0;
         found = here.1;
         place = (mailed mail.from mail.body (here.0, [])).0;
+        name_is = row.0.name_is;
         after_is = mail_is m.frame.core.id mail.from mail.body node here.0 for.may for.group here.1 row.1;
         row = row.0;
       }
@@ -134,7 +124,7 @@ module _ (begun : Requests) (frames : List Frame) (are : (frame : Frame) → Amo
   module _ (node : NodeState) (mail : Mail) (after : NodeState × List Mail) (n : IsPlainNode begun frames node) (k : NodeRow node mail after) where
     -- the changed replica is of its group
     pub name_after : name_of k.place.0 ≡ k.frame.core.id
-    name_after = ap (λ (core : Core). core.id) k.row.plain.group.core_is
+    name_after = k.name_is
 
     pub me_after : after.0.me ≡ node.me
     me_after = ap (λ (x : NodeState × List Mail). x.0.me) k.after_is
@@ -151,12 +141,22 @@ module _ (begun : Requests) (frames : List Frame) (are : (frame : Frame) → Amo
               (was.0, put_others k.frame.core.id frame.core.id k.place.0 node.replicas name_after other ∙ was.1))
         ]
 
+    plain_after : (frame : Frame) (r : ReplicaState) → Among frame frames → replica_of frame.core.id (with_replica k.frame.core.id k.place.0 node.replicas) ≡ Some r → IsPlainAt begun frame node.me r
+    plain_after frame r a e =
+        elim (cases_Bool (same_draw frame.core.id k.frame.core.id)) [
+          | inl t ↦ (
+              let name = draw_is frame.core.id k.frame.core.id t in
+              let there : Some k.place.0 ≡ Some r = sym (ap (λ (d : Draw). replica_of d (with_replica k.frame.core.id k.place.0 node.replicas)) name ∙ put_found k.frame.core.id k.place.0 k.r node.replicas name_after k.found) ∙ e in
+              let same : k.place.0 ≡ r = cc in
+              let group : k.frame ≡ frame = apart k.frame frame k.is_frame a (sym name) in
+              subst (λ (x : ReplicaState). IsPlainAt begun frame node.me x) same (subst (λ (f : Frame). IsPlainAt begun f node.me k.place.0) group k.row.after))
+          | inr f ↦ (
+              let other : frame.core.id ≡ k.frame.core.id → ⊥ = λ e. both_ways (same_draw frame.core.id k.frame.core.id) f (same_name frame.core.id k.frame.core.id e) in
+              n.replicas frame r a (sym (put_others k.frame.core.id frame.core.id k.place.0 node.replicas name_after other) ∙ e))
+        ]
+
     pub node_plain : IsPlainNode begun frames after.0
-    node_plain =
-        subst (λ (x : NodeState × List Mail). IsPlainNode begun frames x.0) (sym k.after_is) (record {
-          replicas = put_each (IsPlainOf begun frames node.me) k.frame.core.id k.place.0 node.replicas (record { frame = k.frame; is_frame = k.is_frame; plain = k.row.plain; settled = k.row.settled }) n.replicas;
-          has = has_after;
-        })
+    node_plain = subst (λ (x : NodeState × List Mail). IsPlainNode begun frames x.0) (sym k.after_is) (record { replicas = plain_after; has = has_after })
 
     pub node_said : Each (IsPlainMail begun frames) after.1
     node_said =

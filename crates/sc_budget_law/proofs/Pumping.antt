@@ -145,8 +145,8 @@ module _ (begun : Requests) (frame : Frame) (is : IsFrame frame) (first free : â
       me_is = p.me_is;
       group = p.group;
       hint_is = p.hint_is;
-      top_is = p.top_is;
-      promised_is = p.promised_is;
+      top_low = p.top_low;
+      promised_low = p.promised_low;
       floor_low = p.floor_low;
       begins = p.begins;
       sets_are = p.sets_are;

@@ -47,7 +47,6 @@ use Rattle.sc_budget_law.specs.Budget.{budget_of, delivers}
 use Rattle.sc_budget_law.specs.Frames.{Frame}
 use Rattle.sc_budget_law.specs.Laws.{PlainLinesEndQuiet, PlainRequestsAreAnswered}
 use Rattle.sc_budget_law.specs.PlainClient.{IsBegun, IsWaiting}
-use Rattle.sc_budget_law.specs.PlainNode.{IsLeading, IsSettled}
 use Rattle.sc_budget_law.proofs.AtBirth.{journal_at_birth}
 use Rattle.sc_budget_law.proofs.BetweenAll.{owing_of, IsPlainJournal}
 use Rattle.sc_budget_law.proofs.BetweenStage.{frames_of, IsStage, stage}
@@ -58,7 +57,7 @@ use Rattle.sc_budget_law.proofs.Clients.{asking}
 use Rattle.sc_budget_law.proofs.Ends.{lines_plain, far_from_last}
 use Rattle.sc_budget_law.proofs.Knowing.{IsRound}
 use Rattle.sc_budget_law.proofs.Leading.{IsHeld}
-use Rattle.sc_budget_law.proofs.NodeRows.{of_frame}
+use Rattle.sc_budget_law.proofs.ReplicaRows.{leading_at}
 use Rattle.sc_budget_law.proofs.QuietLeader.{leader_idle}
 use Rattle.sc_budget_law.proofs.QuietTurns.{AreSought, sought_row}
 use Rattle.sc_budget_law.proofs.Round.{round}
@@ -149,14 +148,10 @@ module _ (words : ℕ → ℕ → ℕ × ℕ) (scenario : Scenario) (stage_ : Is
           let fits = lead_fits frame a in
           let n = j.nodes frame.lead fits.0 fits.1 in
           let here : replica_of frame.core.id n.node.replicas ≡ Some r = sym (replica_is words scenario rows frame.core.id frame.lead (Node n.node) (node_number words scenario stage_ frame.lead fits.0 fits.1) n.is) ∙ there in
-          let k = of_frame (IsBegun scenario rows) (frames_of scenario) stage_.are stage_.apart n.node frame r n.plain a here in
-          leader_idle (IsBegun scenario rows) frame (stage_.are frame a) r (leading n.node.me r frame n.me_is k.1)
+          let leads = leading_at (IsBegun scenario rows) frame (stage_.are frame a) n.node.me r n.me_is (n.plain.replicas frame r a here) in
+          leader_idle (IsBegun scenario rows) frame (stage_.are frame a) r leads.1
           (λ slot voters e node m. counted slot voters node m (g.between.votes slot voters (ap (λ o. votes_in o slot) there ∙ e) node m)) client seq held
         where
-          leading : (me : ℕ) (r : ReplicaState) (frame : Frame) → me ≡ frame.lead → IsSettled (IsBegun scenario rows) frame me r → IsLeading (IsBegun scenario rows) frame r
-          leading me r frame e (inl l) = l.1
-          leading me r frame e (inr f) = absurd (f.0 e)
-
           node_fits : (slot node : ℕ) → is_member (frame.at slot) node ≡ true → (1 ≤ node) × (node ≤ scenario.nodes)
           node_fits slot node m = stage_.fit frame a slot node m
 

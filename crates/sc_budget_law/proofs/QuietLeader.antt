@@ -25,7 +25,7 @@ count_among p (y ∷ xs) x (inl same) t = (let c = count-cons p y xs in let one 
 count_among p (y ∷ xs) x (inr a) t = (let c = count-cons p y xs in let more = count_among p xs x a t in omega (arith, c, more))
 
 -- where all have voted, all votes are there
-all_voted : (members voters : List ℕ) → ((node : ℕ) → Among node members → is_member voters node ≡ true) → votes_of members voters ≡ length members
+pub all_voted : (members voters : List ℕ) → ((node : ℕ) → Among node members → is_member voters node ≡ true) → votes_of members voters ≡ length members
 all_voted [] voters f = refl
 all_voted (x ∷ members) voters f =
     let c = count-cons (λ member. is_member voters member) x members in

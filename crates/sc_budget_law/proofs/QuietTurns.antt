@@ -51,10 +51,10 @@ use Rattle.sc_budget_law.proofs.QuietSteps.{sought_stays, sought_node}
 use Rattle.sc_budget_law.proofs.Sends.{mail_of}
 use Rattle.sc_budget_law.proofs.Lists.{some_is}
 
-abbrev as_player : ClientState → Player
+abbrev pub as_player : ClientState → Player
 as_player client = Client client
 
-client_is : {x y : ClientState} → as_player x ≡ as_player y → x ≡ y
+pub client_is : {x y : ClientState} → as_player x ≡ as_player y → x ≡ y
 client_is e = cc
 
 module _ (words : ℕ → ℕ → ℕ × ℕ) (scenario : Scenario) (stage : IsStage scenario) where
@@ -95,7 +95,7 @@ module _ (words : ℕ → ℕ → ℕ × ℕ) (scenario : Scenario) (stage : IsS
 
       -- a client is what it was
       client_was : (event : Event OrderLine) (asks : Asks) → Among asks scenario.clients → value player_table (client_seat (route_of stage.first) asks) (rows ++ row_of player_table (node_seat as_nodes scenario.groups scenario.policy me) rows event ∷ []) ≡ value player_table (client_seat (route_of stage.first) asks) rows
-      client_was event asks a = value_others words scenario stage rows j (row_of player_table (nseat me) rows event) (cseat asks) (λ e. away asks a e)
+      client_was event asks a = value_others words scenario stage rows (row_of player_table (nseat me) rows event) (cseat asks) (λ e. away asks a e)
 
       node_turn : (number : ℕ) → kth (waiting (system_of as_nodes words scenario) rows (Some me)) 1 ≡ Some number → AreSought (rows ++ row_of player_table (node_seat as_nodes scenario.groups scenario.policy me) rows (Deliver number) ∷ [])
       unfolding n
@@ -196,7 +196,7 @@ module _ (words : ℕ → ℕ → ℕ × ℕ) (scenario : Scenario) (stage : IsS
             → (w : IsWaiting client) → IsSought words scenario (rows ++ row_of player_table (client_seat (route_of stage.first) mine) rows event ∷ []) client w
         other_sought asks a ne client is' w =
             let r = row_of player_table (cseat mine) rows event in
-            let is : value player_table (cseat asks) rows ≡ Client client = sym (value_others words scenario stage rows j r (cseat asks) ne) ∙ is' in
+            let is : value player_table (cseat asks) rows ≡ Client client = sym (value_others words scenario stage rows r (cseat asks) ne) ∙ is' in
             let who = me_of asks a client is in
             let s = sought asks a client is w in
             sought_stays words scenario stage rows r after asks a client is who w s (lead_away s.frame s.is_frame) (λ e. ne (ap client_actor (sym who) ∙ e)) (replica_same s.frame s.is_frame)

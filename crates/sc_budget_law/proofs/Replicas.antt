@@ -2,18 +2,12 @@
 use Rattle.std.proofs.Common.{◌≡◌, ◌+◌, false, cond, List, [], ◌∷◌, sum_by, Option, Some, inl, inr, refl, sym, ◌∙◌, ap, arith}
 use Rattle.std.proofs.lemmas.Bool.{cond_both, cond-true, cond-false, cases_Bool}
 use Rattle.std.proofs.lemmas.List.Sums.{sum_by-cons}
-use Rattle.sc_base.specs.Among.{Each}
 use Rattle.sc_base.specs.Same.{same_draw}
 use Rattle.sc_base.specs.declared.names.Draw.{Draw}
 use Rattle.sc_base.proofs.NameLemmas.{draw_is, same_name}
 use Rattle.sc_node_table.specs.Node.{replica_of, with_replica}
 use Rattle.sc_node_table.specs.Replica.{ReplicaState, name_of}
 use Rattle.sc_budget_law.specs.Owed.{replica_owes}
-
-pub put_each : (P : ReplicaState → Type 0) (group : Draw) (new : ReplicaState) (replicas : List ReplicaState) → P new → Each P replicas → Each P (with_replica group new replicas)
-put_each P group new [] n e = tt
-put_each P group new (r ∷ replicas) n e =
-    cond_both (same_draw (name_of r) group) (new ∷ replicas) (r ∷ with_replica group new replicas) (Each P) (λ _. (n, e.1)) (λ _. (e.0, put_each P group new replicas n e.1))
 
 -- the one that is found is the one that is changed
 pub put_owes : (group : Draw) (new r : ReplicaState) (replicas : List ReplicaState) → replica_of group replicas ≡ Some r → sum_by replica_owes (with_replica group new replicas) + replica_owes r ≡ sum_by replica_owes replicas + replica_owes new

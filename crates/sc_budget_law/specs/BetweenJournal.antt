@@ -1,5 +1,5 @@
 -- What stands between the leader of a group and its nodes after some rows.
-use Rattle.std.specs.Prelude.{ℕ, ◌+◌, ◌==◌, List, [], map, filter, Option, Some, None, if◌then◌else◌}
+use Rattle.std.specs.Prelude.{◌≡◌, ℕ, ◌+◌, ◌==◌, List, [], map, filter, Option, Some, None, if◌then◌else◌}
 use Rattle.std.specs.Option.{option_map}
 use Rattle.sc_base.specs.declared.names.Draw.{Draw}
 use Rattle.sc_cmd.specs.declared.commands.Command.{Command}
@@ -17,7 +17,8 @@ use Rattle.sc_sound.specs.Players.{Player, player_table, node_seat, system_of, a
 use Rattle.sc_mail.specs.declared.roles.Role.TheVariants.{Node, Client}
 use Rattle.sc_orderly_law.specs.Orderly.{rest}
 use Rattle.sc_budget_law.specs.Frames.{Frame}
-use Rattle.sc_budget_law.specs.Between.{Mark, mark, View}
+use Rattle.sc_budget_law.specs.Between.{Mark, mark, View, IsBetween}
+use Rattle.sc_budget_law.specs.PlainNode.{AreTaken}
 
 -- who voted for what is in flight at a slot
 abbrev pub voters_in : List (Flight Command) → ℕ → Option (List ℕ)
@@ -60,3 +61,11 @@ view_at scenario rows frame taken = record {
 -- the marks of the mail that an actor has not taken
 abbrev pub marks_at : (ℕ → ℕ → ℕ × ℕ) → Scenario → List (Row Mail OrderLine) → Draw → ℕ → List Mark
 marks_at words scenario rows name who = map (mark name) (rest (system_of as_nodes words scenario) rows who)
+
+-- what stands in a group after some rows: the replica that leads, of which so many slots are taken
+pub record IsGroupAt (words : ℕ → ℕ → ℕ × ℕ) (scenario : Scenario) (rows : List (Row Mail OrderLine)) (frame : Frame) : Type 0 where
+  pub taken : ℕ
+  pub r : ReplicaState
+  pub there : replica_at scenario rows frame.core.id frame.lead ≡ Some r
+  pub slots : AreTaken r taken
+  pub between : IsBetween frame (view_at scenario rows frame taken) (marks_at words scenario rows frame.core.id)

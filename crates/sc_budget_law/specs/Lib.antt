@@ -1,8 +1,16 @@
+pub mod Asking
+pub mod AskingLines
+pub mod AskingQuiet
+pub mod AtRest
 pub mod Between
 pub mod BetweenJournal
 pub mod BetweenRows
 pub mod Budget
 pub mod Calm
+pub mod CalmAsking
+pub mod CalmClient
+pub mod CalmNode
+pub mod CalmRows
 pub mod Frames
 pub mod Laws
 pub mod Owed

@@ -1,19 +1,22 @@
--- What each replica of a plain journal is, and each node.
+-- What each replica is, and each node, while clients go and mail is delivered, and nothing else happens.
 use Rattle.std.specs.Prelude.{◌≡◌, ℕ, ◌+◌, ◌<◌, ◌≤◌, nat_le, nat_lt, ◌==◌, ◌&&◌, true, false, List, [], length, map, count_by, Some, ◌⊎◌, if◌then◌else◌}
 use Rattle.std.specs.FinMap.{get}
 use Rattle.sc_base.specs.Among.{Among, Each}
 use Rattle.sc_base.specs.declared.ops.Noted.{Noted}
 use Rattle.sc_base.specs.declared.ops.Op.{Op}
 use Rattle.sc_cmd.specs.declared.commands.Command.{Command}
+use Rattle.sc_mail.specs.declared.bodies.MailBody.{MailBody}
+use Rattle.sc_mail.specs.declared.bodies.MailBody.TheVariants.{Request, Answer, Prepare, Promise, Accept, Accepted, Nack, Learn, Ask, Install, TxPrepare, TxVote, TxOutcome, TxElsewhere, TxWatch, TxWatched, Told}
 use Rattle.sc_member.specs.Majority.{votes_of, is_majority}
 use Rattle.sc_member.specs.Roster.{is_member}
 use Rattle.sc_paxos_words.specs.declared.answers.Must.TheVariants.{Free as Open}
 use Rattle.sc_paxos_words.specs.declared.flights.Flight.{Flight}
+use Rattle.sc_paxos_words.specs.Ballots.{IsAtLeast}
 use Rattle.sc_paxos_words.specs.Leaders.{must}
 use Rattle.sc_paxos_words.specs.Votes.{kept_voters}
 use Rattle.sc_machine_table.specs.Group.{Group}
 use Rattle.sc_node_table.specs.Node.{NodeState, replica_of}
-use Rattle.sc_node_table.specs.Replica.{ReplicaState, next, may_offer}
+use Rattle.sc_node_table.specs.Replica.{ReplicaState, name_of, next, may_offer}
 use Rattle.sc_node_table.specs.Slots.{slots_ahead, numbers_from}
 use Rattle.sc_budget_law.specs.Frames.{Frame}
 use Rattle.sc_budget_law.specs.PlainMail.{Requests, IsWrittenValue, IsPlainCommand}
@@ -58,13 +61,22 @@ pub record IsPlainFollower (r : ReplicaState) : Type 0 where
   pub flights : r.leader.flights ≡ []
   pub ready : r.ready ≡ []
 
--- what holds of each replica at a node: it takes the leading node for the leader, and has promised its ballot and no other
+-- one that may vote: it takes the leading node for the leader, and has seen and promised no later ballot than its
+pub record IsPlainVoter (frame : Frame) (me : ℕ) (r : ReplicaState) : Type 0 where
+  pub me_is : r.me ≡ me
+  pub name_is : name_of r ≡ frame.core.id
+  pub hint_is : r.hint ≡ Some frame.lead
+  pub top_low : IsAtLeast frame.ballot r.top
+  pub promised_low : IsAtLeast frame.ballot r.acceptor.promised
+  pub floor_low : r.acceptor.floor < next r
+
+-- what holds of each replica at a member of the group: it may vote, and has nothing to do but calls
 pub record IsPlainReplica (begun : Requests) (frame : Frame) (me : ℕ) (r : ReplicaState) : Type 0 where
   pub me_is : r.me ≡ me
   pub group : IsPlainGroup begun frame r.group
   pub hint_is : r.hint ≡ Some frame.lead
-  pub top_is : r.top ≡ frame.ballot
-  pub promised_is : r.acceptor.promised ≡ frame.ballot
+  pub top_low : IsAtLeast frame.ballot r.top
+  pub promised_low : IsAtLeast frame.ballot r.acceptor.promised
   pub floor_low : r.acceptor.floor < next r
   pub begins : frame.from ≤ next r
   pub sets_are : r.sets ≡ map frame.at (numbers_from (next r) slots_ahead)
@@ -86,14 +98,37 @@ pub record IsLeading (begun : Requests) (frame : Frame) (r : ReplicaState) : Typ
 abbrev pub IsSettled : Requests → Frame → ℕ → ReplicaState → Type 0
 IsSettled begun frame me r = ((me ≡ frame.lead) × IsLeading begun frame r) ⊎ ((me ≡ frame.lead → ⊥) × IsPlainFollower r)
 
--- a replica of one of these groups
-pub record IsPlainOf (begun : Requests) (frames : List Frame) (me : ℕ) (r : ReplicaState) : Type 0 where
-  pub frame : Frame
-  pub is_frame : Among frame frames
-  pub plain : IsPlainReplica begun frame me r
-  pub settled : IsSettled begun frame me r
+-- one at a node that left the group: it keeps nothing, and may vote at the slots that still name its node
+pub record HasLeft (frame : Frame) (me : ℕ) (r : ReplicaState) : Type 0 where
+  pub left : is_member frame.core.members me ≡ false
+  pub follower : IsPlainFollower r
+  pub voter : (slot : ℕ) → is_member (frame.at slot) me ≡ true → IsPlainVoter frame me r
 
--- a node has such replicas alone, and one of each group in whose slots it votes
+-- a replica of a group at the end of a row: at a member, or at a node that left
+abbrev pub IsPlainAt : Requests → Frame → ℕ → ReplicaState → Type 0
+IsPlainAt begun frame me r = (IsPlainReplica begun frame me r × IsSettled begun frame me r) ⊎ HasLeft frame me r
+
+-- a node whose replicas of these groups are such, and that has one of each in whose slots it votes
 pub record IsPlainNode (begun : Requests) (frames : List Frame) (node : NodeState) : Type 0 where
-  pub replicas : Each (IsPlainOf begun frames node.me) node.replicas
+  pub replicas : (frame : Frame) (r : ReplicaState) → Among frame frames → replica_of frame.core.id node.replicas ≡ Some r → IsPlainAt begun frame node.me r
   pub has : (frame : Frame) (slot : ℕ) → Among frame frames → is_member (frame.at slot) node.me ≡ true → (r : ReplicaState) × (replica_of frame.core.id node.replicas ≡ Some r)
+
+-- a mail comes when it is due: what is asked for is not executed here yet, and what is told is the next entry
+abbrev pub IsDue : ReplicaState → MailBody → Type 0
+IsDue r (Accept group ballot slot command) = next r ≤ slot
+IsDue r (Learn group slot command) = slot ≡ next r
+IsDue r (Request group client seq op) = Unit {0}
+IsDue r (Answer group seq answer) = Unit {0}
+IsDue r (Prepare group ballot from_slot) = Unit {0}
+IsDue r (Promise group ballot reports) = Unit {0}
+IsDue r (Accepted group ballot slot) = Unit {0}
+IsDue r (Nack group promised) = Unit {0}
+IsDue r (Ask group from_slot) = Unit {0}
+IsDue r (Install group slot base sets) = Unit {0}
+IsDue r (TxPrepare tx offer) = Unit {0}
+IsDue r (TxVote tx coord part vote) = Unit {0}
+IsDue r (TxOutcome tx part outcome) = Unit {0}
+IsDue r (TxElsewhere tx coord hint) = Unit {0}
+IsDue r (TxWatch tx watch) = Unit {0}
+IsDue r (TxWatched tx coord part vote) = Unit {0}
+IsDue r (Told order result) = Unit {0}

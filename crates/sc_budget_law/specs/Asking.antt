@@ -1,0 +1,56 @@
+-- A journal between two orders, in which clients ask alone: what holds after each of its rows.
+use Rattle.std.specs.Prelude.{◌≡◌, ℕ, ◌+◌, ◌≤◌, true, List, [], ◌∷◌, ◌++◌}
+use Rattle.sc_base.specs.Among.{Among, Each}
+use Rattle.sc_base.specs.Limits.{client_actor}
+use Rattle.sc_cmd.specs.declared.cores.Base.{Base}
+use Rattle.sc_cmd.specs.declared.orders.OrderLine.{OrderLine}
+use Rattle.sc_mail.specs.declared.bodies.Mail.{Mail}
+use Rattle.sc_mail.specs.declared.roles.Role.TheVariants.{Node, Client}
+use Rattle.sc_actor.specs.declared.rows.Row.{Row}
+use Rattle.sc_actor.specs.Replay.{value}
+use Rattle.sc_actor.specs.System.{has_gone}
+use Rattle.sc_client_table.specs.Client.{Client as ClientState}
+use Rattle.sc_node_table.specs.Node.{NodeState}
+use Rattle.sc_node_table.specs.Replica.{last_slot}
+use Rattle.sc_node_table.specs.Slots.{slots_ahead}
+use Rattle.sc_scenario.specs.declared.scenarios.Asks.{Asks}
+use Rattle.sc_scenario.specs.declared.scenarios.Scenario.{Scenario}
+use Rattle.sc_scenario.specs.Valid.{IsValid}
+use Rattle.sc_sound.specs.Players.{player_table, node_seat, client_seat, route_of, system_of, as_nodes}
+use Rattle.sc_orderly_law.specs.Orderly.{IsOrderly, IsTidy, rest, is_born}
+use Rattle.sc_budget_law.specs.BetweenJournal.{replica_at, next_in, IsGroupAt}
+use Rattle.sc_budget_law.specs.CalmAsking.{IsLinkedSetting, IsCalmClient}
+use Rattle.sc_budget_law.specs.CalmNode.{Setting, IsSetting, IsCalmNode, IsCalmMail}
+use Rattle.sc_budget_law.specs.Frames.{Frame}
+use Rattle.sc_budget_law.specs.PlainClient.{IsBegun}
+
+-- a node after some rows
+pub record IsAskingNode (scenario : Scenario) (set : Setting) (rows : List (Row Mail OrderLine)) (me : ℕ) : Type 0 where
+  pub node : NodeState
+  pub is : value player_table (node_seat as_nodes scenario.groups scenario.policy me) rows ≡ Node node
+  pub me_is : node.me ≡ me
+  pub calm : IsCalmNode (IsBegun scenario rows) set node
+
+-- a client after some rows
+pub record IsAskingClient (scenario : Scenario) (set : Setting) (first : Base) (rows : List (Row Mail OrderLine)) (asks : Asks) : Type 0 where
+  pub client : ClientState
+  pub is : value player_table (client_seat (route_of first) asks) rows ≡ Client client
+  pub calm : IsCalmClient set asks (has_gone rows (client_actor asks.client)) client
+
+-- All players after some rows, all mail that is not taken yet, and what stands in each group.
+pub record IsAsking (words : ℕ → ℕ → ℕ × ℕ) (scenario : Scenario) (set : Setting) (first : Base) (rows : List (Row Mail OrderLine)) : Type 0 where
+  pub nodes : (me : ℕ) → 1 ≤ me → me ≤ scenario.nodes → IsAskingNode scenario set rows me
+  pub clients : (asks : Asks) → Among asks scenario.clients → IsAskingClient scenario set first rows asks
+  pub left : (who : ℕ) → is_born (system_of as_nodes words scenario) who ≡ true → Each (IsCalmMail (IsBegun scenario rows) set) (rest (system_of as_nodes words scenario) rows who)
+  pub groups : (frame : Frame) → Among frame set.frames → IsGroupAt words scenario rows frame
+
+-- no replica is near the last slot
+abbrev pub AreFarFromLast : Scenario → Setting → List (Row Mail OrderLine) → Type 0
+AreFarFromLast scenario set rows = (frame : Frame) (node : ℕ) → Among frame set.frames → next_in (replica_at scenario rows frame.core.id node) + slots_ahead ≤ last_slot
+
+-- whatever client goes and whatever mail is delivered in order, it stays so
+abbrev pub RequestsGoOn : Type 0
+RequestsGoOn =
+    (words : ℕ → ℕ → ℕ × ℕ) (scenario : Scenario) (set : Setting) (first : Base) (others : List Base) (rows : List (Row Mail OrderLine)) (row : Row Mail OrderLine)
+    → IsValid scenario → scenario.groups ≡ first ∷ others → IsSetting set → IsLinkedSetting set → IsTidy rows → AreFarFromLast scenario set rows
+    → IsAsking words scenario set first rows → IsOrderly (system_of as_nodes words scenario) rows row → IsAsking words scenario set first (rows ++ row ∷ [])

@@ -1,0 +1,52 @@
+-- A line of requests: clients go and mail is delivered, with no order between, from a journal in which no request waits.
+use Rattle.std.specs.Prelude.{◌≡◌, ℕ, ◌≤◌, true, List, [], ◌∷◌, ◌++◌, length, None}
+use Rattle.sc_base.specs.Among.{Among}
+use Rattle.sc_base.specs.Limits.{client_actor}
+use Rattle.sc_base.specs.declared.names.Draw.{Draw}
+use Rattle.sc_cmd.specs.declared.cores.Base.{Base}
+use Rattle.sc_cmd.specs.declared.orders.OrderLine.{OrderLine}
+use Rattle.sc_mail.specs.declared.bodies.Mail.{Mail}
+use Rattle.sc_mail.specs.declared.roles.Role.TheVariants.{Client}
+use Rattle.sc_actor.specs.declared.rows.Row.{Row}
+use Rattle.sc_actor.specs.Replay.{value}
+use Rattle.sc_actor.specs.System.{has_gone}
+use Rattle.sc_member.specs.Roster.{is_member}
+use Rattle.sc_client_table.specs.Client.{Client as ClientState}
+use Rattle.sc_scenario.specs.declared.scenarios.Asks.{Asks}
+use Rattle.sc_scenario.specs.declared.scenarios.Scenario.{Scenario}
+use Rattle.sc_scenario.specs.Valid.{IsValid}
+use Rattle.sc_sound.specs.Players.{player_table, client_seat, route_of, system_of, as_nodes}
+use Rattle.sc_orderly_law.specs.Orderly.{IsOrderly, IsTidy, rest, is_born}
+use Rattle.sc_budget_law.specs.Asking.{IsAsking, AreFarFromLast}
+use Rattle.sc_budget_law.specs.CalmAsking.{IsLinkedSetting}
+use Rattle.sc_budget_law.specs.CalmNode.{Setting, IsHome, IsSetting}
+use Rattle.sc_budget_law.specs.Frames.{Frame}
+
+-- the rows after these come in order, one after another, far from the last slot
+abbrev pub AreRequests : (ℕ → ℕ → ℕ × ℕ) → Scenario → Setting → List (Row Mail OrderLine) → List (Row Mail OrderLine) → Type 0
+AreRequests words scenario set before after =
+    (front back : List (Row Mail OrderLine)) (row : Row Mail OrderLine) → after ≡ front ++ row ∷ back
+    → IsTidy (before ++ front) × AreFarFromLast scenario set (before ++ front) × IsOrderly (system_of as_nodes words scenario) (before ++ front) row
+
+-- no request waits
+abbrev pub NobodyWaits : Scenario → Base → List (Row Mail OrderLine) → Type 0
+NobodyWaits scenario first rows = (asks : Asks) (client : ClientState) → Among asks scenario.clients → value player_table (client_seat (route_of first) asks) rows ≡ Client client → client.waiting ≡ None
+
+-- a client that was told to go has all replies
+abbrev pub HaveAllReplies : Scenario → Base → List (Row Mail OrderLine) → Type 0
+HaveAllReplies scenario first rows =
+    (asks : Asks) (client : ClientState) → Among asks scenario.clients → value player_table (client_seat (route_of first) asks) rows ≡ Client client → has_gone rows (client_actor asks.client) ≡ true
+    → length client.replies ≡ length asks.ops
+
+-- all replicas, and all that vote, are at nodes of the scenario
+pub record AreSeated (scenario : Scenario) (set : Setting) : Type 0 where
+  pub homes : (group : Draw) (node : ℕ) → IsHome set group node → (1 ≤ node) × (node ≤ scenario.nodes)
+  pub voters : (frame : Frame) (slot node : ℕ) → Among frame set.frames → is_member (frame.at slot) node ≡ true → (1 ≤ node) × (node ≤ scenario.nodes)
+
+-- where such rows leave no mail to anybody, no request waits, and all that went have all replies
+abbrev pub LinesAreAnswered : Type 0
+LinesAreAnswered =
+    (words : ℕ → ℕ → ℕ × ℕ) (scenario : Scenario) (set : Setting) (first : Base) (others : List Base) (before after : List (Row Mail OrderLine))
+    → IsValid scenario → scenario.groups ≡ first ∷ others → IsSetting set → IsLinkedSetting set → AreSeated scenario set → IsAsking words scenario set first before → NobodyWaits scenario first before
+    → AreRequests words scenario set before after → ((who : ℕ) → is_born (system_of as_nodes words scenario) who ≡ true → rest (system_of as_nodes words scenario) (before ++ after) who ≡ [])
+    → IsAsking words scenario set first (before ++ after) × NobodyWaits scenario first (before ++ after) × HaveAllReplies scenario first (before ++ after)

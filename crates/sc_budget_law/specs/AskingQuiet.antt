@@ -1,0 +1,88 @@
+-- A quiet journal of a calm scenario, from which on clients may ask.
+use Rattle.std.specs.Prelude.{◌≡◌, ℕ, ◌+◌, ◌-◌, ◌≤◌, ◌||◌, is_some, if◌then◌else◌, Bool, true, false, List, [], ◌∷◌, Option, Some, None}
+use Rattle.sc_base.specs.Among.{Among, Each}
+use Rattle.sc_base.specs.Limits.{client_actor}
+use Rattle.sc_base.specs.declared.names.Draw.{Draw}
+use Rattle.sc_cmd.specs.declared.cores.Base.{Base}
+use Rattle.sc_cmd.specs.declared.links.Route.{Route}
+use Rattle.sc_cmd.specs.declared.orders.OrderLine.{OrderLine}
+use Rattle.sc_mail.specs.declared.bodies.Mail.{Mail}
+use Rattle.sc_mail.specs.declared.roles.Role.TheVariants.{Node, Client}
+use Rattle.sc_actor.specs.declared.rows.Row.{Row}
+use Rattle.sc_actor.specs.Replay.{value}
+use Rattle.sc_actor.specs.System.{has_gone}
+use Rattle.sc_member.specs.Roster.{least_of}
+use Rattle.sc_client_table.specs.Client.{Client as ClientState}
+use Rattle.sc_node_table.specs.Node.{NodeState}
+use Rattle.sc_node_table.specs.Replica.{ReplicaState}
+use Rattle.sc_scenario.specs.declared.scenarios.Asks.{Asks}
+use Rattle.sc_scenario.specs.declared.scenarios.Scenario.{Scenario}
+use Rattle.sc_scenario.specs.Valid.{IsValid}
+use Rattle.sc_sound.specs.Players.{player_table, node_seat, client_seat, route_of, system_of, as_nodes}
+use Rattle.sc_orderly_law.specs.Orderly.{rest, is_born}
+use Rattle.sc_calm_law.specs.Owed.{Ways}
+use Rattle.sc_calm_law.specs.Quiet.{View as Replicas, HasReplica, StandsQuiet, IsQuiet}
+use Rattle.sc_budget_law.specs.Asking.{IsAsking}
+use Rattle.sc_budget_law.specs.AskingLines.{NobodyWaits}
+use Rattle.sc_budget_law.specs.AtRest.{IsKept, frame_at_rest}
+use Rattle.sc_budget_law.specs.Between.{Other, mark}
+use Rattle.sc_budget_law.specs.BetweenJournal.{replica_at}
+use Rattle.sc_budget_law.specs.CalmNode.{Setting, IsSetting}
+use Rattle.sc_budget_law.specs.Frames.{Frame}
+use Rattle.sc_budget_law.specs.PlainClient.{IsBegun}
+use Rattle.sc_budget_law.specs.PlainNode.{IsPlainGroup}
+
+-- the replicas after some rows
+abbrev pub replicas_after : Scenario → List (Row Mail OrderLine) → Replicas
+replicas_after scenario rows group node = replica_at scenario rows group node
+
+-- the setting that quiet replicas give
+abbrev pub setting_at : Replicas → List Frame → Ways → Setting
+setting_at at frames ways = record { frames = frames; at = at; ways = ways }
+
+-- each hint leads nearer to one that runs, or knows where its group went; where a group stands, its leader is nearer than others
+pub record DoHintsRise (at : Replicas) (ways : Ways) : Type 0 where
+  pub leads : (group : Draw) (quiet : StandsQuiet at group) (node : ℕ) → (node ≡ quiet.lead.me → ⊥) → ways.far group quiet.lead.me + 1 ≤ ways.far group node
+  pub hints : (group : Draw) (node hint : ℕ) (r : ReplicaState) → at group node ≡ Some r → r.running ≡ false → r.group.core.gone ≡ None → r.hint ≡ Some hint → ways.far group hint + 1 ≤ ways.far group node
+
+-- the frames of all groups that stand
+pub record AreFramesOf (at : Replicas) (frames : List Frame) : Type 0 where
+  pub stand : (group : Draw) (quiet : StandsQuiet at group) → Among (frame_at_rest quiet.lead) frames
+  pub are : (frame : Frame) → Among frame frames → (group : Draw) × (quiet : StandsQuiet at group) × (frame_at_rest quiet.lead ≡ frame)
+
+-- how many hints lead at most from a replica to one that runs or is gone, where no ballot that was seen has a later round than this
+abbrev pub hints_left : ℕ → Option ReplicaState → ℕ
+hints_left latest None = 1 + latest
+hints_left latest (Some r) = if r.running || is_some r.group.core.gone then 0 else 1 + latest - r.top.round
+
+-- the ways by the latest round of each group
+abbrev pub ways_at : Replicas → (Draw → ℕ) → ℕ → (Draw → Option (Draw × Bool)) → Ways
+ways_at at latest most asks = record { far = λ group node. hints_left (latest group) (at group node); most = most; asks = asks }
+
+-- by these ways hints rise in a quiet journal, where none of a group that stands is gone
+abbrev pub QuietHintsRise : Type 0
+QuietHintsRise =
+    (at : Replicas) (first : Route) (clients : List (Bool × ClientState)) (latest : Draw → ℕ) (most : ℕ) (asks : Draw → Option (Draw × Bool)) → IsQuiet at first clients
+    → ((group : Draw) (node : ℕ) (r : ReplicaState) → at group node ≡ Some r → r.me ≡ node)
+    → ((group : Draw) (node : ℕ) (r : ReplicaState) → at group node ≡ Some r → r.top.round ≤ latest group)
+    → ((group : Draw) (quiet : StandsQuiet at group) (node : ℕ) (r : ReplicaState) → at group node ≡ Some r → r.group.core.gone ≡ None) → DoHintsRise at (ways_at at latest most asks)
+
+-- What a quiet journal is, by its players: each player and each replica as the journal made it, the requests that are noted begun, and no mail left but to the desk.
+pub record IsQuietJournal (words : ℕ → ℕ → ℕ × ℕ) (scenario : Scenario) (first : Base) (rows : List (Row Mail OrderLine)) : Type 0 where
+  pub clients : List (Bool × ClientState)
+  pub quiet : IsQuiet (replicas_after scenario rows) (route_of first) clients
+  pub kept : (group : Draw) (node : ℕ) (r : ReplicaState) → replica_at scenario rows group node ≡ Some r → IsKept group node r
+  pub noted : (group : Draw) (stands : StandsQuiet (replicas_after scenario rows) group) → IsPlainGroup (IsBegun scenario rows) (frame_at_rest stands.lead) stands.lead.group
+  pub nodes : (me : ℕ) → 1 ≤ me → me ≤ scenario.nodes → (node : NodeState) × (value player_table (node_seat as_nodes scenario.groups scenario.policy me) rows ≡ Node node) × (node.me ≡ me)
+  pub players : (asks : Asks) → Among asks scenario.clients → (client : ClientState) × (value player_table (client_seat (route_of first) asks) rows ≡ Client client) × (client.me ≡ asks.client) × (client.requests ≡ asks.ops)
+      × Among (has_gone rows (client_actor asks.client), client) clients
+  pub reached : HasReplica (replicas_after scenario rows) (route_of first).group (least_of (route_of first).members)
+  pub none : (who : ℕ) → is_born (system_of as_nodes words scenario) who ≡ true → rest (system_of as_nodes words scenario) rows who ≡ []
+  pub desk : (who : ℕ) → is_born (system_of as_nodes words scenario) who ≡ false → Each (λ mail. (name : Draw) → mark name mail ≡ Other) (rest (system_of as_nodes words scenario) rows who)
+
+-- so clients may ask from it on, and no request waits
+abbrev pub QuietJournalsAsk : Type 0
+QuietJournalsAsk =
+    (words : ℕ → ℕ → ℕ × ℕ) (scenario : Scenario) (first : Base) (others : List Base) (rows : List (Row Mail OrderLine)) (frames : List Frame) (ways : Ways)
+    → IsValid scenario → scenario.groups ≡ first ∷ others → IsQuietJournal words scenario first rows → AreFramesOf (replicas_after scenario rows) frames → DoHintsRise (replicas_after scenario rows) ways
+    → IsSetting (setting_at (replicas_after scenario rows) frames ways) × IsAsking words scenario (setting_at (replicas_after scenario rows) frames ways) first rows × NobodyWaits scenario first rows

@@ -1,0 +1,25 @@
+-- What the mail of clients' requests owes in a calm journal, between two orders.
+use Rattle.std.specs.Prelude.{◌≡◌, ℕ, false, List, []}
+use Rattle.sc_base.specs.declared.ops.Op.{Op}
+use Rattle.sc_cmd.specs.declared.orders.OrderLine.{OrderLine}
+use Rattle.sc_mail.specs.declared.bodies.Mail.{Mail}
+use Rattle.sc_actor.specs.declared.rows.Row.{Row}
+use Rattle.sc_scenario.specs.declared.scenarios.Scenario.{Scenario}
+use Rattle.sc_mail.specs.declared.bodies.MailBody.{MailBody}
+use Rattle.sc_mail.specs.declared.bodies.MailBody.TheVariants.{Request}
+use Rattle.sc_node_table.specs.Replica.{ReplicaState, name_of}
+use Rattle.sc_calm_law.specs.Executing.{AreBounded}
+use Rattle.sc_calm_law.specs.Laws.{Lowers, Points}
+use Rattle.sc_calm_law.specs.Owed.{Ways}
+use Rattle.sc_budget_law.specs.Frames.{Frame, IsFrame}
+use Rattle.sc_budget_law.specs.PlainClient.{IsBegun}
+use Rattle.sc_budget_law.specs.PlainMail.{IsPlainBody}
+use Rattle.sc_budget_law.specs.PlainNode.{IsPlainAt, IsDue}
+
+-- each such mail lowers what is owed at its replica
+pub record RequestsLower : Type 0 where
+  -- mail of a group that stands, where it comes when it is due
+  pub plain : (ways : Ways) (scenario : Scenario) (rows : List (Row Mail OrderLine)) (frame : Frame) (me from : ℕ) (body : MailBody) (r : ReplicaState) → AreBounded ways → IsFrame frame
+      → IsPlainAt (IsBegun scenario rows) frame me r → IsPlainBody (IsBegun scenario rows) frame from me body → IsDue r body → Lowers ways from body (r, [])
+  -- a request to one that does not run, and names one that is nearer to the one that runs, or knows where its group went
+  pub aside : (ways : Ways) (from client seq : ℕ) (op : Op) (r : ReplicaState) → r.running ≡ false → Points ways (name_of r) r → Lowers ways from (Request (name_of r) client seq op) (r, [])
