@@ -4,17 +4,15 @@ ghost use Rattle.sc_actor.specs.Mail.{mails};
 ghost use Rattle.sc_actor.specs.declared.rows.Event.TheVariants.{Go};
 ghost use Rattle.sc_base.specs.Limits.{client_actor};
 ghost use Rattle.sc_by_hand.specs.Deeds.{after_deed, deeds_of, delivery};
-ghost use Rattle.sc_mail.specs.declared.bodies.Mail.{Mail};
 ghost use Rattle.sc_scenario.specs.Valid.{IsValid};
 ghost use Rattle.sc_world.specs.Replays.{IsFault};
 ghost use Rattle.sc_world.specs.Worlds.{StandsFor};
 
 use crate::steps::{Log, deliver, start};
+use sc_actor::{Actor, Parcel};
 use sc_base::OutOfMemory;
-use sc_client::ClientCore;
 use sc_cmd::OrderLine;
 use sc_mail::{Mail, client_number};
-use sc_node::NodeCore;
 use sc_scenario::Scenario;
 use sc_world::{ReplayFault, World, replay_rows};
 use std::alloc::Global;
@@ -24,18 +22,19 @@ use std::alloc::Global;
 pub const SCENARIO: &[u8] =
     b"scatter 1\nnodes 2\ngroup 0 1 2\nclient 1\nput a x\nend\ngo 1\nsettle 1000\n";
 
-/// Two nodes and a client, and what they did.
+/// Two nodes and a client, and what they did. They are actors of one type, as `Party` (`sc_world`)
+/// is, which is a node or a client.
 #[derive(Drop)]
-pub struct Hand {
-    pub first: NodeCore,
-    pub second: NodeCore,
-    pub client: ClientCore,
-    pub log: Log<Mail, OrderLine>,
+pub struct Hand<A: Actor> {
+    pub first: A,
+    pub second: A,
+    pub client: A,
+    pub log: Log<A::Mail, A::Order>,
 }
 
-impl Hand {
+impl<A: Actor> Hand<A> {
     /// These two nodes, numbered 1 and 2, and this client, numbered 1, as nothing was done yet.
-    pub fn new(alloc: Global, first: NodeCore, second: NodeCore, client: ClientCore) -> Hand
+    pub fn new(alloc: Global, first: A, second: A, client: A) -> Hand<A>
         ensures first { result.first ≡ first }
         ensures second { result.second ≡ second }
         ensures client { result.client ≡ client }
@@ -50,16 +49,17 @@ impl Hand {
         }
     }
 
-    // The mail at a place goes to whom it is for. What is for another, as for the desk, makes no row.
+    // The mail at a place goes to whom it is for. For another, as for the desk, there is no row.
     fn serve(&mut self, alloc: Global, place: usize) -> Result<(), OutOfMemory>
         requires place { place < length self.old.log.wire }
         requires few { place + 1 < 2 ^ 32 }
         requires carried { self.old.log.wire ≡ mails self.old.log.rows }
-        ensures deed { (mail : Mail) → slice_get self.old.log.wire place ≡ Some mail →
-            OnOk result (self.new ≡ fold after_deed self.old (delivery (place + 1) mail)) }
+        ensures deed { (mail : A.Mail) → slice_get self.old.log.wire place ≡ Some mail →
+            OnOk result (self.new ≡
+            fold (after_deed A.table) self.old (delivery A.Mail.receiver (place + 1) mail)) }
         ensures carried { OnOk result (self.new.log.wire ≡ mails self.new.log.rows) }
     {
-        let who = self.log.wire.at(place).to;
+        let who = self.log.wire.at(place).to();
         if who == 1 {
             deliver(alloc, who, &mut self.first, place, &mut self.log)
         } else if who == 2 {
@@ -74,7 +74,7 @@ impl Hand {
     // The client starts.
     fn begin(&mut self, alloc: Global) -> Result<(), OutOfMemory>
         requires carried { self.old.log.wire ≡ mails self.old.log.rows }
-        ensures deed { OnOk result (self.new ≡ after_deed self.old (client_actor 1, Go)) }
+        ensures deed { OnOk result (self.new ≡ after_deed A.table self.old (client_actor 1, Go)) }
         ensures carried { OnOk result (self.new.log.wire ≡ mails self.new.log.rows) }
     {
         start(alloc, client_number(1), &mut self.client, &mut self.log)
@@ -87,7 +87,8 @@ impl Hand {
     pub fn run(&mut self, alloc: Global, most: u32) -> Result<(), OutOfMemory>
         requires carried { self.old.log.wire ≡ mails self.old.log.rows }
         ensures deeds { OnOk result
-            (self.new ≡ fold after_deed self.old (deeds_of most self.new.log.wire)) }
+            (self.new ≡ fold (after_deed A.table) self.old
+            (deeds_of A.Mail.receiver most self.new.log.wire)) }
         ensures carried { OnOk result (self.new.log.wire ≡ mails self.new.log.rows) }
     {
         self.begin(alloc)?;
@@ -99,7 +100,9 @@ impl Hand {
         }
         Ok(())
     }
+}
 
+impl<A: Actor<Mail = Mail, Order = OrderLine>> Hand<A> {
     /// Audits the rows, however they were made: the world that they leave, where they are a lawful
     /// journal of a scenario, of which each first part is then sound; else which row, from 1, is
     /// the first that is not lawful. The scenario is one that some text is, or that is made, and

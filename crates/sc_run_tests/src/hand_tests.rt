@@ -14,7 +14,7 @@ use sc_journal::row_text;
 use sc_mail::Mail;
 use sc_node::{NodeCore, are_in_order};
 use sc_scenario::Scenario;
-use sc_world::ReplayFault;
+use sc_world::{Party, ReplayFault};
 use std::alloc::Global;
 use std::mem::forget;
 use std::process::Abort;
@@ -41,7 +41,7 @@ const ROWS: &[&[u8]] = &[
 ];
 
 // Two nodes and a client of a scenario, at their births.
-fn born(rt: &impl Abort, alloc: Global, scenario: &Scenario) -> Hand
+fn born(rt: &impl Abort, alloc: Global, scenario: &Scenario) -> Hand<Party>
     ensures { result.log.wire ≡ mails result.log.rows }
 {
     let groups = &scenario.groups;
@@ -59,7 +59,8 @@ fn born(rt: &impl Abort, alloc: Global, scenario: &Scenario) -> Hand
     let second = NodeCore::born(alloc, 2, groups, false).expect(rt, "memory");
     let asks = requests.dup(alloc).expect(rt, "memory");
     let client = ClientCore::born(alloc, 1, asks, known).expect(rt, "memory");
-    Hand::new(alloc, first, second, client)
+    let (first, second) = (Party::Node(first), Party::Node(second));
+    Hand::new(alloc, first, second, Party::Client(client))
 }
 
 fn have_texts(
@@ -83,7 +84,7 @@ fn have_texts(
 }
 
 // The row that an audit names, or 0 where the rows are lawful.
-fn named(rt: &impl Abort, alloc: Global, hand: &Hand, scenario: &Scenario) -> u32
+fn named(rt: &impl Abort, alloc: Global, hand: &Hand<Party>, scenario: &Scenario) -> u32
     requires { IsValid scenario.now }
 {
     assert!(rt; are_few(hand.log.rows.as_slice()));
