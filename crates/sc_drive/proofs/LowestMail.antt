@@ -13,7 +13,6 @@ use Rattle.sc_actor.specs.Walk.{is_quiet}
 use Rattle.sc_actor.proofs.PendingLemmas.{pending_sound, first_own, wide_none}
 use Rattle.sc_ledger.specs.Pending.{upto, kth_pending}
 use Rattle.sc_exchange.specs.declared.ports.Port.{Port}
-use Rattle.sc_exchange.specs.declared.answers.Fetched.TheVariants.{Mail, Empty}
 use Rattle.sc_exchange.specs.Ports.{seen}
 use Rattle.sc_shell.specs.declared.shells.Shell.{Shell}
 use Rattle.sc_workers.specs.Ends.{IsFirst}
@@ -24,7 +23,6 @@ use Rattle.sc_drive.proofs.SystemWords.{sys, upto_has, births_have, births_long}
 use Rattle.sc_drive.proofs.ActRows.{birth_number}
 use Rattle.sc_drive.proofs.FreeRows.{in_at, flip_in}
 use Rattle.sc_workers.proofs.Lists.{one_of}
-use Rattle.sc_exchange.specs.declared.answers.Fetched.{Fetched}
 
 module _ {A M O : Type 0} {g : Ghosts A M O} {h : MailGhosts M} where
   module _ (words : ℕ → ℕ → ℕ × ℕ) (births : List (Seat A)) (net : Port M O h) (ss : List (Shell A M O g h)) (c : IsCompany births net ss) (rows : List (Row M O)) where
@@ -72,24 +70,25 @@ module _ {A M O : Type 0} {g : Ghosts A M O} {h : MailGhosts M} where
 
   -- what was found when all gathered, and the place of the shell that gets it
   module _ (words : ℕ → ℕ → ℕ × ℕ) (births : List (Seat A)) (net : Port M O h) (ss : List (Shell A M O g h)) (c : IsCompany births net ss) where
-    lowest_placed : (found : Fetched M) (place : Option ℕ) → IsFirst net found → IsReceiverAt ss found place → Lowest (sys words births net ss c) net ss place
-    lowest_placed (Empty told) None f p = none_quiet words births net ss c (seen net) (ap (λ n. kth_pending h.receiver net.actors (seen net) n 1) (sym c.first) ∙ f.0)
-    lowest_placed (Empty told) (Some place) f p = absurd p
-    lowest_placed (Mail number mail) None f p = absurd p
-    lowest_placed (Mail number mail) (Some place) f at = record {
-      number = number;
-      mail = mail;
-      first = first_same words births net ss c (seen net) number mail place at (ap (λ n. kth_pending h.receiver net.actors (seen net) n 1) (sym c.first) ∙ f.0) f.1;
-      sent = f.1;
-      at = at;
-    }
+    lowest_placed : (found : Option ℕ) (place : Option ℕ) → IsFirst net found → IsReceiverAt ss found place → Lowest (sys words births net ss c) net ss place
+    lowest_placed None None f p = none_quiet words births net ss c (seen net) (ap (λ n. kth_pending h.receiver net.actors (seen net) n 1) (sym c.first) ∙ f)
+    lowest_placed None (Some place) f p = absurd p
+    lowest_placed (Some who) None f p = absurd p
+    lowest_placed (Some who) (Some place) f at = (
+        let here : IsPlace ss (h.receiver f.mail) place = subst (λ n. IsPlace ss n place) (sym f.goes) at in record {
+          number = f.number;
+          mail = f.mail;
+          first = first_same words births net ss c (seen net) f.number f.mail place here (ap (λ n. kth_pending h.receiver net.actors (seen net) n 1) (sym c.first) ∙ f.first) f.sent;
+          sent = f.sent;
+          at = here;
+        })
 
-  placed_inside : (ss : List (Shell A M O g h)) (found : Fetched M) (place : Option ℕ) → IsReceiverAt ss found place → IfSome place (λ k. k < length ss)
-  placed_inside ss (Empty told) None p = tt
-  placed_inside ss (Empty told) (Some place) p = absurd p
-  placed_inside ss (Mail number mail) None p = tt
-  placed_inside ss (Mail number mail) (Some place) p = p.inside
+  placed_inside : (ss : List (Shell A M O g h)) (found : Option ℕ) (place : Option ℕ) → IsReceiverAt ss found place → IfSome place (λ k. k < length ss)
+  placed_inside ss None None p = tt
+  placed_inside ss None (Some place) p = absurd p
+  placed_inside ss (Some who) None p = tt
+  placed_inside ss (Some who) (Some place) p = p.inside
 
   -- whatever the births are
-  pub finds_so : (net : Port M O h) (ss : List (Shell A M O g h)) (found : Fetched M) (place : Option ℕ) → IsFirst net found → IsReceiverAt ss found place → FindsLowest net ss place
+  pub finds_so : (net : Port M O h) (ss : List (Shell A M O g h)) (found : Option ℕ) (place : Option ℕ) → IsFirst net found → IsReceiverAt ss found place → FindsLowest net ss place
   finds_so net ss found place f p = record { inside = placed_inside ss found place p; lowest = λ words births c. lowest_placed words births net ss c found place f p }

@@ -7,8 +7,6 @@ use Rattle.sc_actor.specs.Mail.{mails, numbered}
 use Rattle.sc_actor.specs.System.{System, system, waiting, kth}
 use Rattle.sc_actor.specs.Walk.{is_quiet}
 use Rattle.sc_ledger.specs.declared.spots.Spot.{Spot}
-use Rattle.sc_exchange.specs.declared.answers.Fetched.{Fetched}
-use Rattle.sc_exchange.specs.declared.answers.Fetched.TheVariants.{Mail, Empty}
 use Rattle.sc_exchange.specs.declared.ports.Port.{Port}
 use Rattle.sc_exchange.specs.Ports.{seen}
 use Rattle.sc_shell.specs.declared.shells.Shell.{Shell}
@@ -40,12 +38,12 @@ module _ {A M O : Type 0} {g : Ghosts A M O} {h : MailGhosts M} where
   abbrev pub Rests : Port M O h → List (Shell A M O g h) → Port M O h → List (Shell A M O g h) → Type 0
   Rests net ss next after = (births : List (Seat A)) → IsCompany births net ss → IsCompany births next after × (seen next ≡ seen net)
 
-  -- the place of the shell that gets what was fetched, if anything was
-  abbrev pub IsReceiverAt : List (Shell A M O g h) → Fetched M → Option ℕ → Type 0
-  IsReceiverAt ss (Empty told) None = ⊤
-  IsReceiverAt ss (Empty told) (Some place) = ⊥
-  IsReceiverAt ss (Mail number mail) None = ⊥
-  IsReceiverAt ss (Mail number mail) (Some place) = IsPlace ss (h.receiver mail) place
+  -- the place of the shell of a receiver, if there is one
+  abbrev pub IsReceiverAt : List (Shell A M O g h) → Option ℕ → Option ℕ → Type 0
+  IsReceiverAt ss None None = ⊤
+  IsReceiverAt ss None (Some place) = ⊥
+  IsReceiverAt ss (Some who) None = ⊥
+  IsReceiverAt ss (Some who) (Some place) = IsPlace ss who place
 
   -- of these copies, the place of the shell that gets the first that one gets
   abbrev pub IsFirstPlaced : List (Shell A M O g h) → List Spot → Option ℕ → Type 0

@@ -11,7 +11,7 @@ use crate::company::Company;
 use crate::gathering::gather_after;
 use sc_actor::{Actor, Event, Gate};
 use sc_base::OutOfMemory;
-use sc_exchange::{Fetched, Port};
+use sc_exchange::Port;
 use sc_shell::{Shell, Turn};
 use std::alloc::Global;
 use std::sync::Wait;
@@ -71,7 +71,8 @@ pub(crate) fn tell<A: Actor, R: Wait>(
     Ok(turn)
 }
 
-/// The actor at a place takes a turn. Answers also what is pending first of all afterwards.
+/// The actor at a place takes a turn. Answers also to whom the first pending mail of all goes
+/// afterwards.
 pub(crate) fn serve<A: Actor, G: Gate, R: Wait>(
     rt: &R,
     alloc: Global,
@@ -79,7 +80,7 @@ pub(crate) fn serve<A: Actor, G: Gate, R: Wait>(
     place: usize,
     k: u32,
     gate: &G,
-) -> Result<(Turn, Fetched<A::Mail>), OutOfMemory>
+) -> Result<(Turn, Option<u32>), OutOfMemory>
     requires together { AreTogether company.old }
     requires inside { place < length company.old.shells.items }
     requires first { 0 < k }

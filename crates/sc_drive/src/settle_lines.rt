@@ -8,9 +8,9 @@ ghost use Rattle.sc_drive.specs.Working.{AreTogether, HasFound, HasSettledOne, I
 use crate::actor_lines::place_of;
 use crate::acts::serve;
 use crate::company::{Company, Stop};
-use sc_actor::{Actor, Gate, Parcel};
+use sc_actor::{Actor, Gate};
 use sc_base::OutOfMemory;
-use sc_exchange::{Fetched, Spot};
+use sc_exchange::Spot;
 use sc_shell::{Shell, Turn};
 use sc_workers::gather;
 use std::alloc::Global;
@@ -41,23 +41,23 @@ fn look_on<A: Actor, R: Wait>(
     Ok(first_placed(company.shells.as_slice(), look.pending.as_slice()))
 }
 
-// The place of the shell that gets the lowest-numbered pending mail of all, where this is what was
-// found first. None where no mail is pending.
+// The place of the shell that gets the lowest-numbered pending mail of all, where this is to whom
+// it goes. None where no mail is pending.
 //
 // Mail to an actor that has no shell is passed over.
 fn placed<A: Actor, R: Wait>(
     rt: &R,
     company: &mut Company<A>,
-    found: &Fetched<A::Mail>,
+    found: Option<u32>,
 ) -> Result<Option<usize>, OutOfMemory>
     requires together { AreTogether company.old }
-    requires first { IsFirst company.old.net found.now }
+    requires first { IsFirst company.old.net found }
     ensures { IfOk result (HasFound company.old company.new) }
 {
-    let Fetched::Mail { number: _, mail } = found else {
+    let Some(who) = found else {
         return Ok(None);
     };
-    match place_of(company.shells.as_slice(), mail.to()) {
+    match place_of(company.shells.as_slice(), who) {
         Some(place) => Ok(Some(place)),
         None => look_on(rt, company),
     }
@@ -73,7 +73,7 @@ pub(crate) fn lowest<A: Actor, R: Wait>(
     ensures { IfOk result (HasFound company.old company.new) }
 {
     let found = gather(rt, &mut company.net, &mut company.shells)?;
-    placed(rt, company, &found)
+    placed(rt, company, found)
 }
 
 // One delivery of such a line, at the place that was found. Answers where the next one is to come.
@@ -96,7 +96,7 @@ fn settle_step<A: Actor, G: Gate, R: Wait>(
     let (turn, found) = serve(rt, alloc, company, place, 1, gate)?;
     match turn {
         Turn::Did { .. } => {
-            let next = placed(rt, company, &found)?;
+            let next = placed(rt, company, found)?;
             Ok(next)
         }
         Turn::Full { .. } => Err(Stop::Full),

@@ -8,12 +8,12 @@ ghost use Rattle.sc_drive.specs.Storming.{IsStormLine};
 ghost use Rattle.sc_drive.specs.Working.{AreTogether, HasRested, LineEnded, LineRefused, RowEnds};
 
 use crate::company::{Company, Stop};
+use crate::gathering::gather_again;
 use crate::single_lines::step_line;
 use sc_actor::{Actor, Gate, Line};
 use sc_base::OutOfMemory;
-use sc_sched::{Storm, deeds_are_rows_of_the_walk};
+use sc_sched::{Storm, deed_at, deeds_are_rows_of_the_walk};
 use sc_shell::Shell;
-use sc_workers::gather;
 use std::alloc::Global;
 use std::sync::Wait;
 
@@ -44,9 +44,10 @@ fn storm_line<A: Actor, R: Wait>(
         company.new.net company.new.shells.items) }
 {
     deeds_are_rows_of_the_walk::<A>();
-    let look = company.net.look(rt)?;
-    let _ = gather(rt, &mut company.net, &mut company.shells)?;
-    let step = storm.deed(&look, actors);
+    let words = storm.draw();
+    let glance = company.net.glance(rt, actors, words.1)?;
+    gather_again(&mut company.net, &mut company.shells);
+    let step = deed_at(&glance, actors, words);
     Ok(step.line())
 }
 

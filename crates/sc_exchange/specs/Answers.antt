@@ -4,9 +4,10 @@ use Rattle.sc_base.specs.declared.dups.OutOfMemory.{OutOfMemory}
 use Rattle.sc_actor.specs.declared.rows.Row.{Row}
 use Rattle.sc_actor.specs.Mail.{mails, numbered}
 use Rattle.sc_ledger.specs.Pending.{kth_pending}
-use Rattle.sc_ledger.specs.Spots.{spots_of}
+use Rattle.sc_ledger.specs.Spots.{copies_for, picked_spot, spots_of}
 use Rattle.sc_ledger.specs.declared.spots.Spot.{Spot}
 use Rattle.sc_ledger.specs.declared.spots.Look.{Look}
+use Rattle.sc_ledger.specs.declared.spots.Glance.{Glance}
 use Rattle.sc_exchange.specs.declared.answers.Fetched.{Fetched}
 use Rattle.sc_exchange.specs.declared.answers.Fetched.TheVariants.{Mail, Empty}
 
@@ -16,11 +17,30 @@ module _ {M O : Type 0} where
   IsFetch receiver actors rows who k (Mail number mail) = (kth_pending receiver actors rows who k ≡ Some number) × (numbered (mails rows) number ≡ Some mail)
   IsFetch receiver actors rows who k (Empty seen) = (kth_pending receiver actors rows who k ≡ None) × (seen ≡ length rows)
 
+  -- the first mail that is pending for this actor after these rows, or for any where the number is 0, goes to this receiver
+  pub record GoesTo (receiver : M → ℕ) (actors : ℕ) (rows : List (Row M O)) (who to : ℕ) : Type 0 where
+    pub number : ℕ
+    pub mail : M
+    pub first : kth_pending receiver actors rows who 1 ≡ Some number
+    pub sent : numbered (mails rows) number ≡ Some mail
+    pub goes : receiver mail ≡ to
+
+  -- that receiver; or none is pending
+  abbrev pub IsFirstTo : (M → ℕ) → ℕ → List (Row M O) → ℕ → Option ℕ → Type 0
+  IsFirstTo receiver actors rows who None = kth_pending receiver actors rows who 1 ≡ None
+  IsFirstTo receiver actors rows who (Some to) = GoesTo receiver actors rows who to
+
   -- how many mails these rows sent, and each pending copy after them, in ascending order of number; each is where its receiver would find it
   pub record IsLook (receiver : M → ℕ) (actors : ℕ) (rows : List (Row M O)) (look : Look) : Type 0 where
     pub sent : look.sent ≡ length (mails rows)
     pub spots : look.pending ≡ spots_of receiver actors rows
     pub each : All (λ (spot : Spot). kth_pending receiver actors rows spot.who spot.k ≡ Some spot.number) look.pending
+
+  -- how many mails these rows sent, and of the pending copies for some actors the one that a word picks; each copy is where its receiver would find it
+  pub record IsGlance (receiver : M → ℕ) (actors : ℕ) (rows : List (Row M O)) (whos : List ℕ) (word : ℕ) (glance : Glance) : Type 0 where
+    pub sent : glance.sent ≡ length (mails rows)
+    pub spot : glance.spot ≡ picked_spot (copies_for whos (spots_of receiver actors rows)) word
+    pub each : All (λ (spot : Spot). kth_pending receiver actors rows spot.who spot.k ≡ Some spot.number) (spots_of receiver actors rows)
 
 -- the number that was fetched, if any was
 abbrev pub fetched_number : {M : Type 0} → Fetched M → Option ℕ

@@ -9,15 +9,17 @@ ghost use Rattle.sc_ledger.specs.Pending.{kth_pending};
 ghost use Rattle.sc_exchange.specs.BareRows.{bare_rows, row_by, rows_from, rows_of};
 ghost use Rattle.sc_exchange.specs.Addressed.{all_addressed};
 ghost use Rattle.sc_exchange.specs.Fetches.{HasFetched, delivered};
-ghost use Rattle.sc_exchange.specs.Answers.{IsFetch, IsLook, number_in};
+ghost use Rattle.sc_exchange.specs.Answers.{IsFetch, IsFirstTo, IsGlance, IsLook, number_in};
 
 use crate::answers::{Fetched, Unposted};
 use crate::fates::Fate;
 use crate::shared::Exchange;
-use crate::turns::{change_at, fetch_at, kth_at, look_at, post_at, receiver_at, waiting_at};
+use crate::turns::{
+    change_at, fetch_at, first_at, glance_at, kth_at, look_at, post_at, receiver_at, waiting_at,
+};
 use sc_actor::{Event, Journal, Parcel, Row};
 use sc_base::{OutOfMemory, Sequence};
-use sc_ledger::{Look, Unkept};
+use sc_ledger::{Glance, Look, Unkept};
 use sc_turn::TurnSeat;
 use std::alloc::Global;
 use std::sync::Wait;
@@ -205,6 +207,15 @@ impl<M: Parcel + Drop, O: Drop> Port<M, O> {
         receiver_at(rt, &mut self.seat, number)
     }
 
+    /// To whom the first mail goes that is pending for this port's actor, or of all at the network's
+    /// port. None exactly where none is pending. The mail is not copied.
+    pub fn first_receiver<R: Wait>(&mut self, rt: &R) -> Option<u32>
+        ensures looked { HasLooked self.old self.new self.old.fetched }
+        ensures first { IsFirstTo M.receiver self.old.actors (seen self.new) self.old.who result }
+    {
+        first_at(rt, &mut self.seat, self.actors, self.who)
+    }
+
     /// For each of these actors, whether mail is pending for it, all at this one turn.
     pub fn waiting<R: Wait>(&mut self, rt: &R, whos: &[u32]) -> Result<Vec<bool>, OutOfMemory>
         ensures looked { HasLooked self.old self.new self.old.fetched }
@@ -226,6 +237,22 @@ impl<M: Parcel + Drop, O: Drop> Port<M, O> {
             (λ look. IsLook M.receiver self.old.actors (seen self.new) look) }
     {
         look_at(rt, self.alloc, &mut self.seat, self.actors)
+    }
+
+    /// How many mails were sent, and of the pending copies for these actors, in ascending order of
+    /// number, the one that a word picks, all at this one turn. Only the network's port looks so.
+    pub fn glance<R: Wait>(
+        &mut self,
+        rt: &R,
+        whos: &[u32],
+        word: u32,
+    ) -> Result<Glance, OutOfMemory>
+        requires net { self.old.who ≡ 0 }
+        ensures looked { HasLooked self.old self.new self.old.fetched }
+        ensures glance { IfOk result
+            (λ glance. IsGlance M.receiver self.old.actors (seen self.new) whos.now word glance) }
+    {
+        glance_at(rt, self.alloc, &mut self.seat, self.actors, whos, word)
     }
 
     /// Two ports of one exchange tell each other: afterwards what each has seen begins with what

@@ -7,7 +7,7 @@ ghost use Rattle.sc_ledger.specs.Fault.{IsCause};
 ghost use Rattle.sc_ledger.specs.Pending.{kth_pending};
 ghost use Rattle.sc_exchange.specs.declared.shared.BareRow.{BareRow};
 ghost use Rattle.sc_exchange.specs.BareRows.{bare_rows, rows_from};
-ghost use Rattle.sc_exchange.specs.Answers.{IsFetch, IsLook};
+ghost use Rattle.sc_exchange.specs.Answers.{IsFetch, IsFirstTo, IsGlance, IsLook};
 ghost use Rattle.std.specs.Option.{option_map};
 ghost use Rattle.sc_actor.specs.Mail.{mails, numbered};
 ghost use Rattle.sc_exchange.specs.Addressed.{is_addressed};
@@ -18,7 +18,7 @@ use crate::fates::Fate;
 use crate::shared::Exchange;
 use sc_actor::{Event, Parcel, Row};
 use sc_base::{OutOfMemory, Sequence};
-use sc_ledger::{Ledger, Look, Unkept};
+use sc_ledger::{Glance, Ledger, Look, Unkept};
 use sc_turn::TurnSeat;
 use std::alloc::Global;
 use std::sync::Wait;
@@ -86,6 +86,33 @@ pub(crate) fn receiver_at<M: Parcel + Drop, O: Drop, R: Wait>(
 {
     let exchange = seat.enter(rt);
     let found = exchange.ledger.receiver(number);
+    keep_same(seat, exchange);
+    found
+}
+
+// To whom the first pending mail goes. No mail is copied for that.
+fn first_in<M: Parcel + Drop, O: Drop>(ledger: &Ledger<M, O>, actors: u32, who: u32) -> Option<u32>
+    ensures { IsFirstTo M.receiver actors ledger.now.rows.items who result }
+{
+    match ledger.kth(actors, who, 1) {
+        Some(number) => ledger.receiver(number),
+        None => None,
+    }
+}
+
+/// To whom the first mail goes that is pending at this turn.
+pub(crate) fn first_at<M: Parcel + Drop, O: Drop, R: Wait>(
+    rt: &R,
+    seat: &mut TurnSeat<Exchange<M, O>>,
+    actors: u32,
+    who: u32,
+) -> Option<u32>
+    requires turn { (known seat.old).turn ≡ false }
+    ensures looked { SeatLooked seat.old seat.new }
+    ensures first { IsFirstTo M.receiver actors (rows_from (known seat.new).seen) who result }
+{
+    let exchange = seat.enter(rt);
+    let found = first_in(&exchange.ledger, actors, who);
     keep_same(seat, exchange);
     found
 }
@@ -205,6 +232,40 @@ fn look_in<M: Parcel + Drop, O: Drop>(
     ensures { IfOk result (λ look. IsLook M.receiver actors ledger.now.rows.items look) }
 {
     ledger.look(alloc, actors)
+}
+
+/// How many mails were sent, and which pending copy a word picks, at this turn.
+pub(crate) fn glance_at<M: Parcel + Drop, O: Drop, R: Wait>(
+    rt: &R,
+    alloc: Global,
+    seat: &mut TurnSeat<Exchange<M, O>>,
+    actors: u32,
+    whos: &[u32],
+    word: u32,
+) -> Result<Glance, OutOfMemory>
+    requires turn { (known seat.old).turn ≡ false }
+    ensures looked { SeatLooked seat.old seat.new }
+    ensures glance { IfOk result
+        (λ glance.
+        IsGlance M.receiver actors (rows_from (known seat.new).seen) whos.now word glance) }
+{
+    let exchange = seat.enter(rt);
+    let glance = glance_in(&exchange.ledger, alloc, actors, whos, word);
+    keep_same(seat, exchange);
+    glance
+}
+
+fn glance_in<M: Parcel + Drop, O: Drop>(
+    ledger: &Ledger<M, O>,
+    alloc: Global,
+    actors: u32,
+    whos: &[u32],
+    word: u32,
+) -> Result<Glance, OutOfMemory>
+    ensures { IfOk result
+        (λ glance. IsGlance M.receiver actors ledger.now.rows.items whos.now word glance) }
+{
+    ledger.glance(alloc, actors, whos, word)
 }
 
 // Appends a row to what was found.

@@ -5,5 +5,6 @@ pub mod Spotting
 pub mod Entries
 pub mod Holding
 pub mod Homing
+mod OneCopy
 mod Places
 mod Counted

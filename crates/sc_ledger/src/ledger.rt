@@ -10,14 +10,15 @@ ghost use Rattle.sc_ledger.specs.Kept.{crashed_in, counts_for};
 ghost use Rattle.sc_ledger.specs.Pending.{kth_pending, is_pending, may_repeat};
 ghost use Rattle.sc_ledger.specs.Homes.{homes_from, firsts_from};
 ghost use Rattle.sc_ledger.specs.Queues.{Holds};
-ghost use Rattle.sc_ledger.specs.Spots.{spots_of};
+ghost use Rattle.sc_ledger.specs.Spots.{copies_for, picked_spot, spots_from, spots_of};
 
 use crate::counting::{bytes_with, note_home};
 use crate::faults::{PostFault, Unkept};
 use crate::finding::{has_copy, kth_open, open_numbers, runs};
+use crate::picking::picked_of;
 use crate::plain::kth_after;
 use crate::queues::{Queues, note_row};
-use crate::spots::{Look, spots_from};
+use crate::spots::{Glance, Look, Spot, spots_from};
 use sc_actor::{Parcel, Row};
 use sc_base::{Dup, OutOfMemory, Sequence};
 use std::alloc::Global;
@@ -231,6 +232,62 @@ impl<M: Parcel + Drop, O: Drop> Ledger<M, O> {
         let pending = spots_from(alloc, actors, receivers, numbers.as_slice())?;
         let sent = receivers.len() as u32;
         Ok(Look { sent, pending })
+    }
+
+    // Of the pending copies for these actors the one that a word picks: from the queues, where they
+    // are those of so many actors, or else from a list of all.
+    fn pick(
+        &self,
+        alloc: Global,
+        actors: u32,
+        whos: &[u32],
+        word: u32,
+    ) -> Result<Option<Spot>, OutOfMemory>
+        ensures { IfOk result
+            (λ spot.
+            spot
+            ≡ picked_spot
+            (copies_for whos.now
+            (spots_from self.now.receivers.items
+            (numbers (counts_for actors self.now.crashed.items 0) 1 self.now.receivers.items
+            self.now.counts.items)))
+            word) }
+    {
+        let receivers = self.receivers.as_slice();
+        if let Some(queues) = &self.queues {
+            if actors == self.actors {
+                return queues.picked(receivers, whos, word);
+            }
+        }
+        let numbers = self.find_all(alloc, actors)?;
+        picked_of(alloc, numbers.as_slice(), receivers, whos, word)
+    }
+
+    /// How many mails were sent, and of the pending copies for these actors, in ascending order of
+    /// number, the one that a word picks. It is fast where these are all actors, in their order.
+    pub fn glance(
+        &self,
+        alloc: Global,
+        actors: u32,
+        whos: &[u32],
+        word: u32,
+    ) -> Result<Glance, OutOfMemory>
+        ensures sent { IfOk result (λ glance. glance.sent ≡ length (mails self.now.rows.items)) }
+        ensures spot { IfOk result
+            (λ glance.
+            glance.spot
+            ≡ picked_spot (copies_for whos.now (spots_of M.receiver actors self.now.rows.items))
+            word) }
+        ensures each { IfOk result
+            (λ _.
+            All
+            (λ spot.
+            kth_pending M.receiver actors self.now.rows.items spot.who spot.k ≡ Some spot.number)
+            (spots_of M.receiver actors self.now.rows.items)) }
+    {
+        let spot = self.pick(alloc, actors, whos, word)?;
+        let sent = self.receivers.len() as u32;
+        Ok(Glance { sent, spot })
     }
 
     // Room for one row with so many mails. Nothing else changes.

@@ -7,10 +7,11 @@ mod counting;
 mod faults;
 mod finding;
 mod ledger;
+mod picking;
 mod plain;
 mod queues;
 mod spots;
 
 pub use faults::{PostFault, Unkept};
 pub use ledger::Ledger;
-pub use spots::{Look, Spot};
+pub use spots::{Glance, Look, Spot};

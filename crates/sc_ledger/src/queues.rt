@@ -8,6 +8,8 @@ ghost use Rattle.sc_ledger.specs.Queues.{Holds, copies_in, open_entries};
 use crate::copies::{Copies, add_last, kth_in, numbers_in, recount};
 use crate::counting::{add_counts, add_crash, add_receivers, count_event};
 use crate::finding::runs;
+use crate::picking::picked;
+use crate::spots::Spot;
 use sc_actor::{Event, Parcel, Row};
 use sc_base::OutOfMemory;
 use std::alloc::Global;
@@ -21,6 +23,7 @@ pub struct Queues {
 
 impl Queues {
     ghost use Rattle.sc_ledger.specs.Queues.{Holds, kept, queue_of, recounted};
+    ghost use Rattle.sc_ledger.specs.Spots.{copies_for, picked_spot, spots_from};
 
     /// Empty queues for so many actors.
     pub(crate) fn new(alloc: Global, actors: u32) -> Result<Queues, OutOfMemory>
@@ -52,6 +55,19 @@ impl Queues {
         ensures { IfOk result (λ found. found.items ≡ copies_in self.now.all.items) }
     {
         numbers_in(alloc, self.all.as_slice())
+    }
+
+    /// Of the pending copies for these actors the one at the place that a word gives.
+    pub(crate) fn picked(
+        &self,
+        receivers: &[u32],
+        whos: &[u32],
+        word: u32,
+    ) -> Result<Option<Spot>, OutOfMemory>
+        ensures { IfOk result (λ spot. spot ≡ picked_spot
+            (copies_for whos.now (spots_from receivers.now (copies_in self.now.all.items))) word) }
+    {
+        picked(self.all.as_slice(), receivers, whos, word)
     }
 
     // A mail to this receiver has `count` copies now.

@@ -24,6 +24,13 @@ pub struct Look {
     pub pending: Sequence<Spot>,
 }
 
+/// How many mails were sent so far, and of the pending copies for some actors one that was picked.
+#[derive(Clone, Copy, Debug, PartialEq, Eq)]
+pub struct Glance {
+    pub sent: u32,
+    pub spot: Option<Spot>,
+}
+
 // How many of these copies have this receiver: by the count that is kept of it, or else by a look
 // at all of them.
 fn copies_to(spots: &[Spot], counts: &[u32], who: u32) -> usize

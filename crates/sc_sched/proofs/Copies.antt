@@ -14,8 +14,7 @@ use Rattle.sc_actor.specs.Mail.{mails, copies, numbers, is_for, has_crashed}
 use Rattle.sc_actor.specs.System.{System, waiting, numbers_of}
 use Rattle.sc_ledger.specs.declared.spots.Spot.{Spot}
 use Rattle.sc_ledger.specs.Pending.{upto, pending_of}
-use Rattle.sc_ledger.specs.Spots.{spot_after, spots_from, spots_of}
-use Rattle.sc_sched.specs.Deeds.{is_one_of, copies_for}
+use Rattle.sc_ledger.specs.Spots.{is_one_of, copies_for, spot_after, spots_from, spots_of}
 use Rattle.sc_sched.specs.Laws.{AreWithin}
 
 -- what holds of each holds of the one at a place

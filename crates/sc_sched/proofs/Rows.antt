@@ -17,7 +17,8 @@ use Rattle.sc_ledger.specs.declared.spots.Spot.{Spot}
 use Rattle.sc_ledger.specs.declared.spots.Look.{Look}
 use Rattle.sc_ledger.specs.Pending.{upto, pending_of, kth_pending}
 use Rattle.sc_exchange.specs.Answers.{IsLook}
-use Rattle.sc_sched.specs.Deeds.{is_one_of, copies_for, picked_spot, copy_lost, copy_delivered, clock_ticked, mail_repeated, deed_by}
+use Rattle.sc_ledger.specs.Spots.{is_one_of, copies_for, picked_spot}
+use Rattle.sc_sched.specs.Deeds.{copy_lost, copy_delivered, clock_ticked, mail_repeated, deed_by}
 use Rattle.sc_sched.specs.Laws.{deed_row, AreWithin}
 use Rattle.sc_sched.proofs.Copies.{all_at, told, within, upto_has, receivers, receiver_is, waiting_is}
 

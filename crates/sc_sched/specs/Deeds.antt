@@ -1,24 +1,13 @@
 -- What a step of a storm does, by its two words and by what is pending, and the line that this is.
-use Rattle.std.specs.Prelude.{ℕ, zero, suc, ◌+◌, ◌%◌, ◌==◌, List, length, filter, slice_get, Bool, Option, Some, None, if◌then◌else◌}
-use Rattle.std.specs.List.{list_any}
+use Rattle.std.specs.Prelude.{◌≡◌, ℕ, zero, suc, ◌+◌, ◌%◌, ◌==◌, List, length, slice_get, Option, Some, None, if◌then◌else◌}
 use Rattle.sc_actor.specs.declared.schedules.Line.{Line}
 use Rattle.sc_actor.specs.declared.schedules.Line.TheVariants as line
 use Rattle.sc_ledger.specs.declared.spots.Spot.{Spot}
 use Rattle.sc_ledger.specs.declared.spots.Look.{Look}
+use Rattle.sc_ledger.specs.declared.spots.Glance.{Glance}
+use Rattle.sc_ledger.specs.Spots.{copies_for, picked_spot}
 use Rattle.sc_sched.specs.declared.deeds.Deed.{Deed}
 use Rattle.sc_sched.specs.declared.deeds.Deed.TheVariants.{Drop, Again, Tick, Deliver, Nothing}
-
--- whether a number is that of an actor
-abbrev pub is_one_of : List ℕ → ℕ → Bool
-is_one_of actors who = list_any (λ actor. actor == who) actors
-
--- the copies for these actors
-abbrev pub copies_for : List ℕ → List Spot → List Spot
-copies_for actors spots = filter (λ spot. is_one_of actors spot.who) spots
-
--- the copy at the place that a word gives, counted from 0
-abbrev pub picked_spot : List Spot → ℕ → Option Spot
-picked_spot spots v = slice_get spots (v % length spots)
 
 -- a copy is lost, if there is one
 abbrev pub copy_lost : Option Spot → Deed
@@ -49,6 +38,11 @@ deed_by actors look (suc (suc (suc more))) v = copy_delivered (picked_spot (copi
 -- what a step with these words does, where these are the actors and this was seen
 abbrev pub deed_of : List ℕ → Look → ℕ × ℕ → Deed
 deed_of actors look words = deed_by actors look (words.0 % 16) words.1
+
+-- a glance shows of what was seen how many mails were sent, and the copy for one of the actors that a word picks
+pub record Shows (actors : List ℕ) (word : ℕ) (look : Look) (glance : Glance) : Type 0 where
+  pub sent : glance.sent ≡ look.sent
+  pub spot : glance.spot ≡ picked_spot (copies_for actors look.pending) word
 
 -- the line of one row that a deed is, if it is one
 abbrev pub deed_line : {O : Type 0} → Deed → Option (Line O)

@@ -1,9 +1,11 @@
 //! What a step of a storm does.
 ghost use Rattle.std.specs.Prelude.{◌≡◌, ◌<◌, ◌%◌, length, slice_get};
-ghost use Rattle.sc_sched.specs.Deeds.{is_one_of, copies_for, picked_spot, copy_lost, copy_delivered, clock_ticked, mail_repeated, deed_by, deed_line};
+ghost use Rattle.sc_ledger.specs.declared.spots.Look.{Look};
+ghost use Rattle.sc_ledger.specs.Spots.{is_one_of, copies_for, picked_spot};
+ghost use Rattle.sc_sched.specs.Deeds.{copy_lost, copy_delivered, clock_ticked, mail_repeated, deed_by, deed_line, Shows};
 
 use sc_actor::Line;
-use sc_exchange::{Look, Spot};
+use sc_exchange::{Glance, Look, Spot};
 
 /// What a step of a storm does.
 #[derive(Clone, Copy, Debug, PartialEq, Eq)]
@@ -47,6 +49,19 @@ pub(crate) fn deed_by(look: &Look, actors: &[u32], kind: u32, word: u32) -> Deed
         1 => mail_repeated(look.sent, word),
         2 => clock_ticked(actors, word),
         _ => copy_delivered(picked(look.pending.as_slice(), actors, word)),
+    }
+}
+
+/// The same by a glance at what was seen.
+pub(crate) fn deed_shown(glance: &Glance, actors: &[u32], kind: u32, word: u32) -> Deed
+    ensures { (look : Look) → Shows actors.now word look glance.now →
+        result ≡ deed_by actors.now look kind word }
+{
+    match kind {
+        0 => copy_lost(glance.spot),
+        1 => mail_repeated(glance.sent, word),
+        2 => clock_ticked(actors, word),
+        _ => copy_delivered(glance.spot),
     }
 }
 

@@ -7,4 +7,4 @@ mod storms;
 
 pub use deeds::Deed;
 pub use laws::deeds_are_rows_of_the_walk;
-pub use storms::Storm;
+pub use storms::{Storm, deed_at};

@@ -1,11 +1,12 @@
 //! Storms: steps that words draw.
 ghost use Rattle.std.specs.Prelude.{◌≡◌};
 ghost use Rattle.sc_chance.specs.Words.{two_words, after_step};
-ghost use Rattle.sc_sched.specs.Deeds.{deed_of};
+ghost use Rattle.sc_ledger.specs.declared.spots.Look.{Look};
+ghost use Rattle.sc_sched.specs.Deeds.{deed_of, Shows};
 
-use crate::deeds::{Deed, deed_by};
+use crate::deeds::{Deed, deed_by, deed_shown};
 use sc_chance::Chance;
-use sc_exchange::Look;
+use sc_exchange::{Glance, Look};
 use std::marker::Model;
 
 /// A storm: what draws its steps, each by the two words that the storm's number gives. Contracts
@@ -52,4 +53,15 @@ impl Storm {
         let (first, second) = self.draw();
         deed_by(look, actors, first % 16, second)
     }
+}
+
+/// What a step with these words does where these are the numbers of the actors in their order: of
+/// what was seen a glance is enough, which tells how many mails were sent and which copy the second
+/// word picks.
+pub fn deed_at(glance: &Glance, actors: &[u32], words: (u32, u32)) -> Deed
+    ensures { (look : Look) → Shows actors.now words.1 look glance.now →
+        result ≡ deed_of actors.now look words }
+{
+    let (first, second) = words;
+    deed_shown(glance, actors, first % 16, second)
 }

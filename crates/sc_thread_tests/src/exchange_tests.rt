@@ -52,6 +52,25 @@ fn looked<R: Wait + Abort>(rt: &R, net: &mut Port<Note, u32>) -> u32
     sent.wrapping_mul(10).wrapping_add(pending)
 }
 
+// To whom the first pending mail of all goes, or 0.
+fn first_goes<R: Wait>(rt: &R, net: &mut Port<Note, u32>) -> u32
+    ensures { Stays net.old net.new }
+{
+    net.first_receiver(rt).unwrap_or(0)
+}
+
+// The number of the copy that a word picks of those for actor 1, and its place, as two digits; or 0.
+fn picked<R: Wait + Abort>(rt: &R, net: &mut Port<Note, u32>, word: u32) -> u32
+    requires { net.old.who ≡ 0 }
+    ensures { Stays net.old net.new }
+{
+    let glance = net.glance(rt, &[1], word).expect(rt, "memory");
+    match glance.spot {
+        Some(spot) => spot.number.wrapping_mul(10).wrapping_add(spot.k),
+        None => 0,
+    }
+}
+
 // Whether the network changed its mail: 1, or 0 where it may not, or 9 where the row is refused.
 fn told(done: &Result<bool, Unposted<Note, u32>>) -> u32 {
     match done {
@@ -168,6 +187,10 @@ enum Deed {
     Repeat(u32),
     Count,
     Waits,
+    // The network asks to whom the first mail goes.
+    First,
+    // It picks a copy for actor 1 by a word.
+    Pick(u32),
 }
 
 fn take_one<R: Wait + Abort>(
@@ -205,6 +228,8 @@ fn done<R: Wait + Abort>(rt: &R, alloc: Global, ports: &mut Ports, deed: Deed) -
         Deed::Repeat(number) => repeats(rt, &mut ports.net, number),
         Deed::Count => looked(rt, &mut ports.net),
         Deed::Waits => waits_of(rt, &mut ports.net),
+        Deed::First => first_goes(rt, &mut ports.net),
+        Deed::Pick(word) => picked(rt, &mut ports.net, word),
     }
 }
 
@@ -226,6 +251,8 @@ const FRESH: &[(Deed, u32)] = &[
     (Deed::Lose(1), 0),
     (Deed::Repeat(1), 0),
     (Deed::Count, 0),
+    (Deed::First, 0),
+    (Deed::Pick(7), 0),
 ];
 
 #[test]
@@ -246,6 +273,7 @@ const DOUBLED: &[(Deed, u32)] = &[
     (Deed::Pending(1, 4), 3),
     (Deed::Pending(0, 5), 0),
     (Deed::Count, 44),
+    (Deed::Pick(6), 23),
     (Deed::Lose(2), 1),
     (Deed::Fetch(3), 3),
     (Deed::Repeat(4), 0),
@@ -260,8 +288,10 @@ const WAITING: &[(Deed, u32)] = &[
     (Deed::Waits, 1000),
     (Deed::Send(1), 1),
     (Deed::Waits, 1100),
+    (Deed::First, 1),
     (Deed::Take(1, 2), 1),
     (Deed::Waits, 1001),
+    (Deed::First, 2),
 ];
 
 #[test]

@@ -204,6 +204,24 @@ fn mail_of(rt: &impl Abort, alloc: Global, ledger: &Notes, number: u32) -> Optio
     told
 }
 
+// How many mails were sent, and the copy for one of these actors that a word picks, as the digits of
+// one number.
+fn glanced(
+    rt: &impl Abort,
+    alloc: Global,
+    ledger: &Notes,
+    actors: u32,
+    whos: &[u32],
+    word: u32,
+) -> u64 {
+    let glance = ledger.glance(alloc, actors, whos, word).expect(rt, "memory");
+    let sent = u64::from(glance.sent);
+    match glance.spot {
+        Some(spot) => sent.wrapping_mul(1000).wrapping_add(digits_of(&[spot])),
+        None => sent,
+    }
+}
+
 // Four mails were sent, and the first was repeated.
 fn check_look(rt: &impl Abort, alloc: Global, ledger: &mut Notes) {
     assert!(rt; keeps(rt, alloc, ledger, 1, When::Go, &[2, 1, 0, 2]));
@@ -214,6 +232,18 @@ fn check_look(rt: &impl Abort, alloc: Global, ledger: &mut Notes) {
     let counts = (look.sent, look.pending.len());
     forget(look);
     assert!(rt; counts == (4, 4) && copies == 121_122_211_423);
+    assert!(rt; glanced(rt, alloc, ledger, 2, &[1, 2], 5) == 4_122);
+    assert!(rt; glanced(rt, alloc, ledger, 2, &[2, 1], 6) == 4_211);
+    assert!(rt; glanced(rt, alloc, ledger, 2, &[2], 5) == 4_423);
+    assert!(rt; glanced(rt, alloc, ledger, 2, &[3], 5) == 4);
+}
+
+// The same where the ledger has no queues for so many actors, and finds its mail by the counts.
+fn check_pick(rt: &impl Abort, alloc: Global, ledger: &mut Notes) {
+    assert!(rt; keeps(rt, alloc, ledger, 1, When::Go, &[2, 1, 3, 2]));
+    assert!(rt; keeps(rt, alloc, ledger, 0, When::Again(1), &[]));
+    assert!(rt; glanced(rt, alloc, ledger, 3, &[1, 2, 3], 8) == 4_331);
+    assert!(rt; glanced(rt, alloc, ledger, 3, &[2], 2) == 4_423);
 }
 
 // What is checked of a ledger.
@@ -223,6 +253,7 @@ enum Story {
     Limit,
     Queues,
     Look,
+    Pick,
 }
 
 // All stories begin with an empty ledger of so many actors.
@@ -233,6 +264,7 @@ fn come_true(rt: &impl Abort, alloc: Global, actors: u32, story: Story) {
         Story::Limit => check_limit(rt, alloc, &mut ledger),
         Story::Queues => check_queues(rt, alloc, &mut ledger),
         Story::Look => check_look(rt, alloc, &mut ledger),
+        Story::Pick => check_pick(rt, alloc, &mut ledger),
     }
     forget(ledger);
 }
@@ -255,4 +287,9 @@ fn queues_and_scan_agree(rt: HostRuntime) {
 #[test]
 fn look_tells_each_copy(rt: HostRuntime) {
     come_true(&rt, rt.alloc(), 2, Story::Look);
+}
+
+#[test]
+fn a_copy_is_picked_without_queues(rt: HostRuntime) {
+    come_true(&rt, rt.alloc(), 2, Story::Pick);
 }

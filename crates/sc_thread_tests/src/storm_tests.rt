@@ -2,8 +2,8 @@ ghost use Rattle.std.specs.Prelude.{[]};
 
 use sc_actor::{Actor, Input, Line, Parcel};
 use sc_base::{Dup, OutOfMemory, Sequence};
-use sc_exchange::{Look, Spot};
-use sc_sched::{Deed, Storm, deeds_are_rows_of_the_walk};
+use sc_exchange::{Glance, Look, Spot};
+use sc_sched::{Deed, Storm, deed_at, deeds_are_rows_of_the_walk};
 use std::alloc::Global;
 use std::mem::forget;
 use std::process::Abort;
@@ -147,6 +147,24 @@ fn steps_of_a_storm(rt: HostRuntime) {
     let seven = steps_so(&look, 7, &STEPS_OF_SEVEN);
     forget(look);
     assert!(rt; zero && seven);
+}
+
+/// The four kinds of steps by a glance: nine mails were sent, and the word picks a copy of mail 9.
+#[test]
+fn steps_by_a_glance(rt: HostRuntime) {
+    let glance = Glance {
+        sent: 9,
+        spot: Some(spot(9, 1, 2)),
+    };
+    let lost = Deed::Drop {
+        number: 9,
+        who: 1,
+        k: 2,
+    };
+    assert!(rt; deed_at(&glance, &ACTORS, (16, 7)) == lost);
+    assert!(rt; deed_at(&glance, &ACTORS, (1, 16)) == Deed::Again { number: 8 });
+    assert!(rt; deed_at(&glance, &ACTORS, (34, 7)) == Deed::Tick { who: 33 });
+    assert!(rt; deed_at(&glance, &ACTORS, (3, 7)) == Deed::Deliver { who: 1, k: 2 });
 }
 
 /// The first steps of storm 0 where nothing waits: its ticks, and nothing in place of the others.

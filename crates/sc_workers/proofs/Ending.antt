@@ -5,9 +5,8 @@ use Rattle.sc_actor.specs.declared.actors.Actor.{Ghosts}
 use Rattle.sc_actor.specs.declared.actors.Parcel.{Ghosts as MailGhosts}
 use Rattle.sc_ledger.specs.Pending.{kth_pending}
 use Rattle.sc_actor.specs.declared.rows.Row.{Row}
-use Rattle.sc_exchange.specs.declared.answers.Fetched.{Fetched}
 use Rattle.sc_exchange.specs.declared.ports.Port.{Port}
-use Rattle.sc_exchange.specs.Answers.{IsFetch}
+use Rattle.sc_exchange.specs.Answers.{IsFirstTo}
 use Rattle.sc_exchange.specs.Addressed.{all_addressed}
 use Rattle.sc_exchange.specs.BareRows.{rows_of}
 use Rattle.sc_exchange.specs.Ports.{seen, Looked, IsTrue, IsAddressed}
@@ -45,11 +44,11 @@ module _ {M O : Type 0} {h : MailGhosts M} where
   }
 
   -- what a look found, once all have vouched
-  pub first_so : (net mid next : Port M O h) (found : Fetched M) → Looked net mid → Looked mid next → seen next ≡ seen mid → IsFetch h.receiver net.actors (seen mid) net.who 1 found → IsFirst next found
+  pub first_so : (net mid next : Port M O h) (found : Option ℕ) → Looked net mid → Looked mid next → seen next ≡ seen mid → IsFirstTo h.receiver net.actors (seen mid) net.who found → IsFirst next found
   first_so net mid next found a b same f =
       let actors : net.actors ≡ next.actors = sym (b.stays.exchange.1 ∙ a.stays.exchange.1) in
       let who : net.who ≡ next.who = sym (b.stays.who ∙ a.stays.who) in
-      subst (λ (p : ℕ × List (Row M O) × ℕ). IsFetch h.receiver p.0 p.1 p.2 1 found) (λ i. (actors i, sym same i, who i)) f
+      subst (λ (p : ℕ × List (Row M O) × ℕ). IsFirstTo h.receiver p.0 p.1 p.2 found) (λ i. (actors i, sym same i, who i)) f
 
 module _ {A M O : Type 0} {g : Ghosts A M O} {h : MailGhosts M} where
   -- after a meeting the port looked, and then all vouched

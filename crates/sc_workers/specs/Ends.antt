@@ -8,9 +8,8 @@ use Rattle.sc_actor.specs.Mail.{mails, numbered}
 use Rattle.sc_actor.specs.Counted.{row_bytes, journal_bytes}
 use Rattle.sc_actor.specs.System.{row_of}
 use Rattle.sc_ledger.specs.Pending.{kth_pending}
-use Rattle.sc_exchange.specs.declared.answers.Fetched.{Fetched}
 use Rattle.sc_exchange.specs.declared.ports.Port.{Port}
-use Rattle.sc_exchange.specs.Answers.{IsFetch}
+use Rattle.sc_exchange.specs.Answers.{IsFirstTo}
 use Rattle.sc_exchange.specs.Ports.{seen, IsTrue, IsAddressed}
 use Rattle.sc_shell.specs.declared.shells.Shell.{Shell}
 use Rattle.sc_shell.specs.declared.turns.Turn.{Turn}
@@ -27,9 +26,9 @@ use Rattle.sc_workers.specs.Services.{AllServe}
 abbrev pub any_waits : {M O : Type 0} {h : MailGhosts M} → Port M O h → List ℕ → Bool
 any_waits {M} {O} {h} net whos = list_any (λ who. is_some (kth_pending h.receiver net.actors (seen net) who 1)) whos
 
--- the first mail that is pending for the port's actor, or for any where it is the network's
-abbrev pub IsFirst : {M O : Type 0} {h : MailGhosts M} → Port M O h → Fetched M → Type 0
-IsFirst {M} {O} {h} net found = IsFetch h.receiver net.actors (seen net) net.who 1 found
+-- to whom the first mail goes that is pending for the port's actor, or for any where it is the network's
+abbrev pub IsFirst : {M O : Type 0} {h : MailGhosts M} → Port M O h → Option ℕ → Type 0
+IsFirst {M} {O} {h} net found = IsFirstTo h.receiver net.actors (seen net) net.who found
 
 module _ {A M O : Type 0} {g : Ghosts A M O} {h : MailGhosts M} where
   -- A shell that is spent and has not crashed. After all rows that the port has seen its actor has a first pending mail, whose row by the actor's table passes the limit, and `bytes` is at most their counted bytes.

@@ -7,7 +7,7 @@ ghost use Rattle.sc_workers.specs.Crews.{AllOf, AllMet, AreStill, HaveMet, HaveV
 
 use sc_actor::Actor;
 use sc_base::OutOfMemory;
-use sc_exchange::{Fetched, Port};
+use sc_exchange::Port;
 use sc_shell::Shell;
 use std::alloc::Global;
 use std::sync::Wait;
@@ -84,7 +84,7 @@ pub fn vouch<A: Actor>(net: &mut Port<A::Mail, A::Order>, shells: &mut Vec<Shell
 }
 
 /// Each shell meets the port, which then looks for its first pending mail, and each vouches for
-/// what the port has seen. Answers what was found.
+/// what the port has seen. Answers to whom that mail goes.
 ///
 /// Afterwards the port has seen all that the shells have, and the rows of each actor there are
 /// those that its shell made.
@@ -92,14 +92,14 @@ pub fn gather<A: Actor, R: Wait>(
     rt: &R,
     net: &mut Port<A::Mail, A::Order>,
     shells: &mut Vec<Shell<A>>,
-) -> Result<Fetched<A::Mail>, OutOfMemory>
+) -> Result<Option<u32>, OutOfMemory>
     requires exchange { AllOf net.old shells.old.items }
     ensures still { AreStill net.old net.new shells.old.items shells.new.items }
     ensures gathered { OnOk result (IsGathered net.new shells.new.items) }
     ensures found { IfOk result (λ found. IsFirst net.new found) }
 {
     meet(rt, net, shells)?;
-    let found = net.fetch(rt, 1)?;
+    let found = net.first_receiver(rt);
     vouch(net, shells);
     Ok(found)
 }

@@ -14,36 +14,30 @@ pub vouch-requires-clause-exchange : goal.vouch-requires-clause-exchange
 vouch-requires-clause-exchange g c κs within =
     let ss = c.args.shells.now.items in let t = c.meet_one.new.shell in let mid = c.meet_one.new.net in
     let still : AreStill c.args.net.now mid ss (set ss c.args.place t) = one_met c.args.net.now mid ss c.args.place c.index_mut.result.now t c.requires.inside c.index_mut.ensures.value c.meet_one.ensures in
-    all_of_on c.args.net.now c.fetch.new.self ss (set ss c.args.place t)
-    (still_later c.args.net.now c.fetch.new.self ss (set ss c.args.place t) (are_still_looked c.args.net.now mid c.fetch.new.self ss (set ss c.args.place t) still c.fetch.ensures.looked.looked)) c.requires.exchange
+    all_of_on c.args.net.now c.first_receiver-found.new.self ss (set ss c.args.place t)
+    (still_later c.args.net.now c.first_receiver-found.new.self ss (set ss c.args.place t) (are_still_looked c.args.net.now mid c.first_receiver-found.new.self ss (set ss c.args.place t) still c.first_receiver-found.ensures.looked.looked)) c.requires.exchange
 
 pub vouch-requires-clause-met : goal.vouch-requires-clause-met
 vouch-requires-clause-met g c κs within =
     let ss = c.args.shells.now.items in let t = c.meet_one.new.shell in let mid = c.meet_one.new.net in
-    all_met_later mid c.fetch.new.self (set ss c.args.place t) c.fetch.ensures.looked.looked
+    all_met_later mid c.first_receiver-found.new.self (set ss c.args.place t) c.first_receiver-found.ensures.looked.looked
     (all_met c.args.net.now mid ss c.args.place c.index_mut.result.now t c.requires.inside c.requires.others c.meet_one.ensures)
 
 pub returns-in_err-meet_one-clause-still : goal.returns-in_err-meet_one-clause-still
 returns-in_err-meet_one-clause-still g c =
     one_met c.args.net.now c.meet_one.new.net c.args.shells.now.items c.args.place c.index_mut.result.now c.meet_one.new.shell c.requires.inside c.index_mut.ensures.value c.meet_one.ensures
 
-pub returns-in_err-found-clause-still : goal.returns-in_err-found-clause-still
-returns-in_err-found-clause-still g c =
-    let ss = c.args.shells.now.items in let t = c.meet_one.new.shell in let mid = c.meet_one.new.net in
-    are_still_looked c.args.net.now mid c.fetch.new.self ss (set ss c.args.place t)
-    (one_met c.args.net.now mid ss c.args.place c.index_mut.result.now t c.requires.inside c.index_mut.ensures.value c.meet_one.ensures) c.fetch.ensures.looked.looked
-
 pub returns-clause-still : goal.returns-clause-still
 returns-clause-still g c =
     let ss = c.args.shells.now.items in let t = c.meet_one.new.shell in let mid = c.meet_one.new.net in
-    are_still_then c.args.net.now c.fetch.new.self c.vouch.new.net ss (set ss c.args.place t) c.vouch.new.shells.items
-    (are_still_looked c.args.net.now mid c.fetch.new.self ss (set ss c.args.place t)
-    (one_met c.args.net.now mid ss c.args.place c.index_mut.result.now t c.requires.inside c.index_mut.ensures.value c.meet_one.ensures) c.fetch.ensures.looked.looked) c.vouch.ensures.still
+    are_still_then c.args.net.now c.first_receiver-found.new.self c.vouch.new.net ss (set ss c.args.place t) c.vouch.new.shells.items
+    (are_still_looked c.args.net.now mid c.first_receiver-found.new.self ss (set ss c.args.place t)
+    (one_met c.args.net.now mid ss c.args.place c.index_mut.result.now t c.requires.inside c.index_mut.ensures.value c.meet_one.ensures) c.first_receiver-found.ensures.looked.looked) c.vouch.ensures.still
 
 pub returns-clause-gathered : goal.returns-clause-gathered
 returns-clause-gathered g c =
-    gathered_so c.fetch.new.self c.vouch.new.net (set c.args.shells.now.items c.args.place c.meet_one.new.shell) c.vouch.new.shells.items c.fetch.ensures.looked.rows c.fetch.ensures.looked.addressed c.vouch.ensures.still c.vouch.ensures.vouched
+    gathered_so c.first_receiver-found.new.self c.vouch.new.net (set c.args.shells.now.items c.args.place c.meet_one.new.shell) c.vouch.new.shells.items c.first_receiver-found.ensures.looked.rows c.first_receiver-found.ensures.looked.addressed c.vouch.ensures.still c.vouch.ensures.vouched
 
 pub returns-clause-found : goal.returns-clause-found
 returns-clause-found g c =
-    first_so c.meet_one.new.net c.fetch.new.self c.vouch.new.net c.in_ok-found.found c.fetch.ensures.looked.looked c.vouch.ensures.still.looked c.vouch.ensures.vouched.seen c.in_ok-found.ensures.found
+    first_so c.meet_one.new.net c.first_receiver-found.new.self c.vouch.new.net c.first_receiver-found.result c.first_receiver-found.ensures.looked.looked c.vouch.ensures.still.looked c.vouch.ensures.vouched.seen c.first_receiver-found.ensures.first

@@ -9,14 +9,14 @@ pub returns-in_default : goal.returns-in_default
 returns-in_default g c =
     let net = c.args.company.now.net in let ss = c.args.company.now.shells.items in record {
       rested = rested_same c.args.company.now c.requires.together;
-      finds = finds_so net ss c.args.found.now None c.requires.first (subst (λ found. IsReceiverAt ss found None) (sym c.in_default.is) tt);
+      finds = finds_so net ss c.args.found None c.requires.first (subst (λ found. IsReceiverAt ss found None) (sym c.in_default.is) tt);
     }
 
-pub returns-in-Some : goal.returns-in-Some
-returns-in-Some g c =
-    let net = c.args.company.now.net in let ss = c.args.company.now.shells.items in let place = c.in-Some.place in
-    let at : IsPlace ss c.to.result place = subst (λ l. IsPlace l c.to.result place) c.as_slice.ensures.value c.in-Some.ensures.some in record {
+pub returns-in-Some-place_of : goal.returns-in-Some-place_of
+returns-in-Some-place_of g c =
+    let net = c.args.company.now.net in let ss = c.args.company.now.shells.items in let place = c.in-Some-place_of.place in
+    let at : IsPlace ss c.in-Some.who place = subst (λ l. IsPlace l c.in-Some.who place) c.as_slice.ensures.value c.in-Some-place_of.ensures.some in record {
       rested = rested_same c.args.company.now c.requires.together;
-      finds = finds_so net ss c.args.found.now (Some place) c.requires.first
-          (subst (λ found. IsReceiverAt ss found (Some place)) (sym c.in-Mail.is) (subst (λ who. IsPlace ss who place) c.to.ensures at));
+      finds = finds_so net ss c.args.found (Some place) c.requires.first
+          (subst (λ found. IsReceiverAt ss found (Some place)) (sym c.in-Some.is) at);
     }

@@ -15,8 +15,8 @@ placed-requires-clause-together g c κs within =
     let old = c.args.company.now in let mid = c.serve.new.company in
     served_together old mid c.args.place 1 c.in-Did.at c.requires.together (subst (λ turn. ActServed c.args.place 1 turn old mid) c.in-Did.is c.in_ok-turn.ensures.served)
 
-pub returns-in-Did-clause-goes : goal.returns-in-Did-clause-goes
-returns-in-Did-clause-goes g c =
+pub returns-in_ok-next-in-Did-clause-goes : goal.returns-in_ok-next-in-Did-clause-goes
+returns-in_ok-next-in-Did-clause-goes g c =
     let old = c.args.company.now in let mid = c.serve.new.company in
     settled_one old mid c.placed.new.company c.args.left c.args.place c.in-Did.at c.in_ok-next-in-Did.next c.requires.finds c.requires.left
     (subst (λ turn. ActServed c.args.place 1 turn old mid) c.in-Did.is c.in_ok-turn.ensures.served) c.in_ok-next-in-Did.ensures

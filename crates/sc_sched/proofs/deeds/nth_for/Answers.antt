@@ -5,7 +5,7 @@ use Rattle.std.proofs.lemmas.Iterator.{YieldsList-from_slice}
 use Rattle.std.proofs.lemmas.Iterator.Consumers.{YieldsList-at, YieldsList-from_copied, YieldsList-from_filter, nth_from_yields_List}
 use Rattle.std.proofs.lemmas.Iterator.Adapters.{option_map_id}
 use Rattle.sc_ledger.specs.declared.spots.Spot.{Spot}
-use Rattle.sc_sched.specs.Deeds.{is_one_of}
+use Rattle.sc_ledger.specs.Spots.{is_one_of}
 use Rattle.sc_sched.proofs.deeds.nth_for.Goals as goal
 
 pub returns : goal.returns

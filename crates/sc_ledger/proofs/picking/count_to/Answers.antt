@@ -1,0 +1,8 @@
+use Rattle.std.proofs.Common.{ℕ, eqb, rules, ap, ◌∙◌, arith}
+use Rattle.sc_ledger.proofs.OneCopy.{counted_on}
+use Rattle.sc_ledger.proofs.picking.count_to.Goals as goal
+
+pub loop-i-preserved : goal.loop-i-preserved
+loop-i-preserved c =
+    counted_on c.args.receivers.now (λ (who : ℕ). eqb who c.args.who) c.args.copies.now c.loop-i.i c.loop-i.many c.share.result c.in_ok-more.more _
+    (omega arith) (ap (λ (who : ℕ). eqb who c.args.who) c.receiver_of.ensures) c.share.ensures c.loop-i.invariant c.in_ok-more.ensures

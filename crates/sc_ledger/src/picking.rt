@@ -1,0 +1,170 @@
+//! One of the pending copies is picked, without a list of them all.
+ghost use Rattle.std.specs.Prelude.{◌≡◌, ◌==◌, ◌-◌, ◌+◌, ◌≤◌, length, filter, take, slice_get, slice_index, if◌then◌else◌, IfOk};
+ghost use Rattle.sc_ledger.specs.Queues.{copies_in};
+ghost use Rattle.sc_ledger.specs.Spots.{is_one_of, copies_for, picked_spot, spot_behind, spots_from};
+
+use crate::copies::Copies;
+use crate::spots::Spot;
+use sc_base::OutOfMemory;
+use std::alloc::Global;
+
+// To whom the mail with this number goes.
+fn receiver_of(receivers: &[u32], number: u32) -> u32
+    ensures { result ≡ slice_index receivers.now (number - 1) }
+{
+    let place = (number as usize).saturating_sub(1);
+    receivers.get(place).copied().unwrap_or(0)
+}
+
+// Whether a number is one of these. Most lists have each number at its own place, from 1 on: so
+// it is looked for there first.
+fn is_one_of(whos: &[u32], who: u32) -> bool
+    ensures { result ≡ is_one_of whos.now who }
+{
+    let place = (who as usize).saturating_sub(1);
+    if place < whos.len() && whos[place] == who {
+        return true;
+    }
+    whos.iter().any(|one| *one == who)
+}
+
+// A sum, if it is not too large for the memory: of copies there are fewer than 2^32.
+fn added(many: u32, more: u32) -> Result<u32, OutOfMemory>
+    ensures { IfOk result (λ sum. sum ≡ many + more) }
+{
+    match many.checked_add(more) {
+        Some(sum) => Ok(sum),
+        None => Err(OutOfMemory),
+    }
+}
+
+// The copies of an entry, where they are asked for.
+fn share(asked: bool, count: u32) -> u32
+    ensures { result ≡ (if asked then count else 0) }
+{
+    if asked { count } else { 0 }
+}
+
+// How many of the copies are for one of these actors.
+fn count_for(copies: &[(u32, u32)], receivers: &[u32], whos: &[u32]) -> Result<u32, OutOfMemory>
+    ensures { IfOk result (λ many.
+        many ≡ length (copies_for whos.now (spots_from receivers.now (copies_in copies.now)))) }
+{
+    let mut many = 0u32;
+    for entry in copies {
+        let asked = is_one_of(whos, receiver_of(receivers, entry.0));
+        let more = added(many, share(asked, entry.1))?;
+        many = more;
+    }
+    Ok(many)
+}
+
+// How many of the copies of the first entries have this receiver.
+fn count_to(
+    copies: &[(u32, u32)],
+    receivers: &[u32],
+    who: u32,
+    entries: usize,
+) -> Result<u32, OutOfMemory>
+    requires { entries ≤ length copies.now }
+    ensures { IfOk result (λ many.
+        many ≡ length
+        (filter (λ s. s.who == who)
+        (spots_from receivers.now (copies_in (take entries copies.now))))) }
+{
+    let mut many = 0u32;
+    for i in 0..entries {
+        let entry = copies[i];
+        let asked = receiver_of(receivers, entry.0) == who;
+        let more = added(many, share(asked, entry.1))?;
+        many = more;
+    }
+    Ok(many)
+}
+
+// The copy of a number that comes after the first entries and so many of its own.
+fn spot_behind(
+    copies: &[(u32, u32)],
+    receivers: &[u32],
+    entries: usize,
+    number: u32,
+    own: u32,
+) -> Result<Spot, OutOfMemory>
+    requires { entries ≤ length copies.now }
+    ensures { IfOk result (λ spot. spot ≡ spot_behind receivers.now
+        (spots_from receivers.now (copies_in (take entries copies.now))) number own) }
+{
+    let who = receiver_of(receivers, number);
+    let before = count_to(copies, receivers, who, entries)?;
+    let last = added(before, own)?;
+    let k = added(last, 1)?;
+    Ok(Spot { number, who, k })
+}
+
+// Of the copies for these actors the one at a place, from 0.
+fn nth_for(
+    copies: &[(u32, u32)],
+    receivers: &[u32],
+    whos: &[u32],
+    n: u32,
+) -> Result<Option<Spot>, OutOfMemory>
+    ensures { IfOk result (λ spot. spot ≡ slice_get
+        (copies_for whos.now (spots_from receivers.now (copies_in copies.now))) n) }
+{
+    let mut left = n;
+    for i in 0..copies.len() {
+        let entry = copies[i];
+        let asked = is_one_of(whos, receiver_of(receivers, entry.0));
+        let own = share(asked, entry.1);
+        if left < own {
+            let spot = spot_behind(copies, receivers, i, entry.0, left)?;
+            return Ok(Some(spot));
+        }
+        left -= own;
+    }
+    Ok(None)
+}
+
+/// Of the copies for these actors the one at the place that a word gives, if there is any.
+pub(crate) fn picked(
+    copies: &[(u32, u32)],
+    receivers: &[u32],
+    whos: &[u32],
+    word: u32,
+) -> Result<Option<Spot>, OutOfMemory>
+    ensures { IfOk result (λ spot. spot ≡ picked_spot
+        (copies_for whos.now (spots_from receivers.now (copies_in copies.now))) word) }
+{
+    let many = count_for(copies, receivers, whos)?;
+    if many == 0 {
+        return Ok(None);
+    }
+    nth_for(copies, receivers, whos, word % many)
+}
+
+/// The same of the copies with these numbers.
+pub(crate) fn picked_of(
+    alloc: Global,
+    numbers: &[u32],
+    receivers: &[u32],
+    whos: &[u32],
+    word: u32,
+) -> Result<Option<Spot>, OutOfMemory>
+    ensures { IfOk result (λ spot. spot ≡ picked_spot
+        (copies_for whos.now (spots_from receivers.now numbers.now)) word) }
+{
+    let copies = each_once(alloc, numbers)?;
+    picked(copies.as_slice(), receivers, whos, word)
+}
+
+// Each of the numbers as one copy.
+fn each_once(alloc: Global, numbers: &[u32]) -> Result<Copies, OutOfMemory>
+    ensures { IfOk result (λ copies. copies_in copies.items ≡ numbers.now) }
+{
+    let mut copies = Vec::new(alloc);
+    copies.reserve(numbers.len())?;
+    for number in numbers {
+        copies.push((*number, 1))?;
+    }
+    Ok(copies)
+}
