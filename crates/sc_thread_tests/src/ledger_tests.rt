@@ -214,7 +214,9 @@ fn glanced(
     whos: &[u32],
     word: u32,
 ) -> u64 {
-    let glance = ledger.glance(alloc, actors, whos, word).expect(rt, "memory");
+    let glance = ledger
+        .glance(alloc, actors, whos, word)
+        .expect(rt, "memory");
     let sent = u64::from(glance.sent);
     match glance.spot {
         Some(spot) => sent.wrapping_mul(1000).wrapping_add(digits_of(&[spot])),
