@@ -35,6 +35,11 @@ abbrev pub one_if : Bool → ℕ
 one_if b = cond b 1 0
 
 module _ {A M O : Type 0} (s : System A M O) where
+  -- the first rows of rows in time
+  pub in_time_before : (rows : List (Row M O)) (row : Row M O) → AreInTime s (rows ++ row ∷ []) → AreInTime s rows
+  in_time_before rows row timely = λ before r after e.
+      timely before r (after ++ row ∷ []) (ap (λ l. l ++ row ∷ []) e ∙ append_assoc before (r ∷ after) (row ∷ []))
+
   -- one more row in time
   pub in_time_row : (rows : List (Row M O)) (row : Row M O) → AreInTime s rows → IsCalmRow s rows row → ComesInTime s rows row.event → AreInTime s (rows ++ row ∷ [])
   in_time_row rows row timely calm comes = λ before r after e.
