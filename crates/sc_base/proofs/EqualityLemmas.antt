@@ -1,5 +1,5 @@
 -- What an `==` decides, from what it decides of the parts: at lists and options, and as a derive gives it at structs and enums.
-use Rattle.std.proofs.Common.{◌≡◌, ℕ, Bool, true, false, ◌&&◌, List, ◌⊎◌, inl, inr, refl, sym, ap, Decides}
+use Rattle.std.proofs.Common.{◌≡◌, Bool, true, false, ◌&&◌, ◌⊎◌, inl, inr, refl, sym, ◌∙◌, ap, Decides}
 use Rattle.std.specs.Prelude.{⊤, Option, Some, None, nat_eq}
 use Rattle.std.specs.Cmp.{unsigned_Decides, booleans_Decides, first_so, second_so}
 use Rattle.std.specs.Cmp.Lexicographic.{pointwise, pointwise_decides}
@@ -33,8 +33,9 @@ no_field = record { decides = λ x y. (λ h. refl, λ p. refl) }
 pub last : {A : Type 0} {E : A → A → Bool} → Exact E → Exact (λ (x y : A × ⊤). E x.0 y.0)
 last {A} e = record { decides = λ x y. (λ h i. ((e.decides x.0 y.0).0 h i, tt), λ p. (e.decides x.0 y.0).1 (ap (λ (a : A × ⊤). a.0) p)) }
 
-pub then : {A B : Type 0} {E : A → A → Bool} {F : B → B → Bool} → Exact E → Exact F → Exact (λ (x y : A × B). E x.0 y.0 && F x.1 y.1)
-then {A} {B} {E} {F} e f = record { decides = λ x y. (
+infixr 30 ◌and◌
+pub ◌and◌ : {A B : Type 0} {E : A → A → Bool} {F : B → B → Bool} → Exact E → Exact F → Exact (λ (x y : A × B). E x.0 y.0 && F x.1 y.1)
+◌and◌ {A} {B} {E} {F} e f = record { decides = λ x y. (
   λ h i. ((e.decides x.0 y.0).0 (first_so (E x.0 y.0) (F x.1 y.1) h) i, (f.decides x.1 y.1).0 (second_so (E x.0 y.0) (F x.1 y.1) h) i),
   λ p i. (e.decides x.0 y.0).1 (ap (λ (a : A × B). a.0) p) i && (f.decides x.1 y.1).1 (ap (λ (a : A × B). a.1) p) i) }
 
@@ -55,6 +56,7 @@ is_left (inr y) = false
 pub no_variant : Exact (λ (c d : ⊥). absurd c)
 no_variant = record { decides = λ c d. absurd c }
 
+infixr 20 ◌or◌
 module _ {A B : Type 0} {E : A → A → Bool} {F : B → B → Bool} (e : Exact E) (f : Exact F) where
   choices : (c d : A ⊎ B) → Decides (sides E F c d) (c ≡ d)
   choices (inl x) (inl y) = (λ h. ap inl ((e.decides x y).0 h), λ p. (e.decides x y).1 (ap (left_or x) p))
@@ -62,8 +64,8 @@ module _ {A B : Type 0} {E : A → A → Bool} {F : B → B → Bool} (e : Exact
   choices (inr x) (inl y) = (λ h. absurd (true≢false (sym h)), λ p. absurd (true≢false (sym (ap is_left p))))
   choices (inr x) (inr y) = (λ h. ap inr ((f.decides x y).0 h), λ p. (f.decides x y).1 (ap (right_or x) p))
 
-  pub or : Exact (sides E F)
-  or = record { decides = choices }
+  pub ◌or◌ : Exact (sides E F)
+  ◌or◌ = record { decides = choices }
 
 pub enum : (N : Record) {E : Choice N.parts → Choice N.parts → Bool} → Exact E → Exact (λ x y. E (N.as_values x) (N.as_values y))
 enum N e = record { decides = λ x y.
@@ -85,3 +87,8 @@ module _ {K : Type 0} {E : K → K → Bool} (e : Exact E) where
 
   pub options : Exact (option_eq E)
   options = record { decides = maybe }
+
+-- ---- what an answer of such an `==` tells
+
+pub told : {K : Type 0} {E : K → K → Bool} → Exact E → (x y : K) (r : Bool) → r ≡ E x y → Decides r (x ≡ y)
+told e x y r h = (λ s. (e.decides x y).0 (sym h ∙ s), λ p. h ∙ (e.decides x y).1 p)

@@ -40,6 +40,7 @@ impl Dup for Command {
 }
 
 impl Same for Command {
+    #[tactic(auto, using(sc_base::proofs::EqualityLemmas::told, crate::proofs::Exact::command))]
     fn is_same(&self, other: &Command) -> bool {
         self == other
     }

@@ -93,18 +93,21 @@ impl Dup for Base {
 }
 
 impl Same for Lock {
+    #[tactic(auto, using(sc_base::proofs::EqualityLemmas::told, crate::proofs::Exact::lock))]
     fn is_same(&self, other: &Lock) -> bool {
         self == other
     }
 }
 
 impl Same for Core {
+    #[tactic(auto, using(sc_base::proofs::EqualityLemmas::told, crate::proofs::Exact::core))]
     fn is_same(&self, other: &Core) -> bool {
         self == other
     }
 }
 
 impl Same for Base {
+    #[tactic(auto, using(sc_base::proofs::EqualityLemmas::told, crate::proofs::Exact::base))]
     fn is_same(&self, other: &Base) -> bool {
         self == other
     }

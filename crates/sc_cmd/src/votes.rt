@@ -118,12 +118,14 @@ impl Dup for Outcome {
 }
 
 impl Same for Frozen {
+    #[tactic(auto, using(sc_base::proofs::EqualityLemmas::told, crate::proofs::Exact::frozen))]
     fn is_same(&self, other: &Frozen) -> bool {
         self == other
     }
 }
 
 impl Same for Heard {
+    #[tactic(auto, using(sc_base::proofs::EqualityLemmas::told, crate::proofs::Exact::heard))]
     fn is_same(&self, other: &Heard) -> bool {
         self == other
     }
@@ -136,6 +138,7 @@ impl Same for No {
 }
 
 impl Same for Vote {
+    #[tactic(auto, using(sc_base::proofs::EqualityLemmas::told, crate::proofs::Exact::vote))]
     fn is_same(&self, other: &Vote) -> bool {
         self == other
     }
@@ -148,12 +151,14 @@ impl Same for Past {
 }
 
 impl Same for Gift {
+    #[tactic(auto, using(sc_base::proofs::EqualityLemmas::told, crate::proofs::Exact::gift))]
     fn is_same(&self, other: &Gift) -> bool {
         self == other
     }
 }
 
 impl Same for Outcome {
+    #[tactic(auto, using(sc_base::proofs::EqualityLemmas::told, crate::proofs::Exact::outcome))]
     fn is_same(&self, other: &Outcome) -> bool {
         self == other
     }
