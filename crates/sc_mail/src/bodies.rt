@@ -172,12 +172,14 @@ impl Same for AnswerBody {
 }
 
 impl Same for MailBody {
+    #[tactic(auto, using(sc_base::proofs::EqualityLemmas::told, crate::proofs::Exact::body))]
     fn is_same(&self, other: &MailBody) -> bool {
         self == other
     }
 }
 
 impl Same for Mail {
+    #[tactic(auto, using(sc_base::proofs::EqualityLemmas::told, crate::proofs::Exact::mail))]
     fn is_same(&self, other: &Mail) -> bool {
         self == other
     }
