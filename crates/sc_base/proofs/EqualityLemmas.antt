@@ -35,14 +35,19 @@ last {A} e = record { decides = λ x y. (λ h i. ((e.decides x.0 y.0).0 h i, tt)
 
 infixr 30 ◌and◌
 pub ◌and◌ : {A B : Type 0} {E : A → A → Bool} {F : B → B → Bool} → Exact E → Exact F → Exact (λ (x y : A × B). E x.0 y.0 && F x.1 y.1)
-◌and◌ {A} {B} {E} {F} e f = record { decides = λ x y. (
-  λ h i. ((e.decides x.0 y.0).0 (first_so (E x.0 y.0) (F x.1 y.1) h) i, (f.decides x.1 y.1).0 (second_so (E x.0 y.0) (F x.1 y.1) h) i),
-  λ p i. (e.decides x.0 y.0).1 (ap (λ (a : A × B). a.0) p) i && (f.decides x.1 y.1).1 (ap (λ (a : A × B). a.1) p) i) }
+◌and◌ {A} {B} {E} {F} e f = record {
+  decides = λ x y. (
+    λ h i. ((e.decides x.0 y.0).0 (first_so (E x.0 y.0) (F x.1 y.1) h) i, (f.decides x.1 y.1).0 (second_so (E x.0 y.0) (F x.1 y.1) h) i),
+    λ p i. (e.decides x.0 y.0).1 (ap (λ (a : A × B). a.0) p) i && (f.decides x.1 y.1).1 (ap (λ (a : A × B). a.1) p) i,
+  );
+}
 
 pub struct : (T : Declared) {E : Values T.parts → Values T.parts → Bool} → Exact E → Exact (λ x y. E (T.as_values x) (T.as_values y))
-struct T e = record { decides = λ x y.
-  let d = e.decides (T.as_values x) (T.as_values y) in
-  (λ h. Cover-one T.cover T.propositions x y (d.0 h), λ p. d.1 (ap T.as_values p)) }
+struct T e = record {
+  decides = λ x y.
+      let d = e.decides (T.as_values x) (T.as_values y) in
+      (λ h. Cover-one T.cover T.propositions x y (d.0 h), λ p. d.1 (ap T.as_values p));
+}
 
 -- ---- the variants of an enum, one after another
 
@@ -68,9 +73,11 @@ module _ {A B : Type 0} {E : A → A → Bool} {F : B → B → Bool} (e : Exact
   ◌or◌ = record { decides = choices }
 
 pub enum : (N : Record) {E : Choice N.parts → Choice N.parts → Bool} → Exact E → Exact (λ x y. E (N.as_values x) (N.as_values y))
-enum N e = record { decides = λ x y.
-  let d = e.decides (N.as_values x) (N.as_values y) in
-  (λ h. values_one N x y (d.0 h), λ p. d.1 (ap N.as_values p)) }
+enum N e = record {
+  decides = λ x y.
+      let d = e.decides (N.as_values x) (N.as_values y) in
+      (λ h. values_one N x y (d.0 h), λ p. d.1 (ap N.as_values p));
+}
 
 -- ---- `Option`
 

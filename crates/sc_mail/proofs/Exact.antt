@@ -23,24 +23,24 @@ pub body : Exact body_eq.ghosts.eq
 body =
     let reports = lists (struct (report_type.the_type command_type.the_row) (numbers and ballot and last command)) in
     enum body_type.enum (
-      draw and numbers and numbers and last op
-      or draw and numbers and last answer
-      or draw and ballot and last numbers
-      or draw and ballot and last reports
-      or draw and ballot and numbers and last command
-      or draw and ballot and last numbers
-      or draw and last ballot
-      or draw and numbers and last command
-      or draw and last numbers
-      or draw and numbers and base and last (lists members)
-      or draw and last offer
-      or draw and draw and draw and last vote
-      or draw and draw and last outcome
-      or draw and draw and last (options numbers)
-      or draw and last watch
-      or draw and draw and draw and last past
-      or numbers and last told_result
-      or no_variant)
+    draw and numbers and numbers and last op
+    or draw and numbers and last answer
+    or draw and ballot and last numbers
+    or draw and ballot and last reports
+    or draw and ballot and numbers and last command
+    or draw and ballot and last numbers
+    or draw and last ballot
+    or draw and numbers and last command
+    or draw and last numbers
+    or draw and numbers and base and last (lists members)
+    or draw and last offer
+    or draw and draw and draw and last vote
+    or draw and draw and last outcome
+    or draw and draw and last (options numbers)
+    or draw and last watch
+    or draw and draw and draw and last past
+    or numbers and last told_result
+    or no_variant)
 
 pub mail : Exact mail_eq.ghosts.eq
 mail = struct mail_type.the_type (numbers and numbers and last body)
