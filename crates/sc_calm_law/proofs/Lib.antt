@@ -6,6 +6,7 @@ pub mod FollowingLeads
 pub mod FollowingLearn
 pub mod FollowingMarks
 pub mod FollowingNodes
+pub mod FollowingOffers
 pub mod FollowingQuiet
 pub mod OwedAsks
 pub mod OwedCalls

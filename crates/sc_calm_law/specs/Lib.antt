@@ -3,6 +3,7 @@ pub mod Clients
 pub mod Executing
 pub mod Following
 pub mod FollowingNodes
+pub mod FollowingOffers
 pub mod FollowingRows
 pub mod Laws
 pub mod Nodes

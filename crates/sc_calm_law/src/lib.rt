@@ -7,6 +7,7 @@ ghost use Rattle.sc_calm_law.specs.Births.{BornReplicasOwe, MadeReplicasOwe};
 ghost use Rattle.sc_calm_law.specs.Clients.{ClientsLower, GoneSendsOn, NotMineTeaches};
 ghost use Rattle.sc_calm_law.specs.Executing.{CallVotesLower, ExecutionsRaiseNothing, LoneEntriesArePaid, LoneVotesLower};
 ghost use Rattle.sc_calm_law.specs.FollowingNodes.{EntriesTell, StatesMake, TablesElect, TablesFollow};
+ghost use Rattle.sc_calm_law.specs.FollowingOffers.{PumpsOffer};
 ghost use Rattle.sc_calm_law.specs.FollowingRows.{GroupsBeginFollowing, IdleRowsKeep, LeadersKeep, ElectionsKeep, TakersKeep, QuietGroupsAreEven};
 ghost use Rattle.sc_calm_law.specs.Laws.{AnswersLower, AsksLower, ChangesRaiseNothing, CountedEntriesRaiseNothing, CountsLower, LeadersMayLeave, LearnsLower, LearntEntriesRaiseNothing, MovesLower, OldLearnsLower, OrdersRaiseLittle, PumpsRaiseNothing, VotesLower};
 ghost use Rattle.sc_calm_law.specs.Nodes.{NodesLower, NodesOweAsReplicas, NodesRaiseLittle};
@@ -247,4 +248,10 @@ pub fn tables_elect()
 /// entry learn it, and each that it adds is sent the state, and asked to promise a later ballot.
 pub fn entries_tell()
     ensures { EntriesTell }
+{}
+
+/// A pump asks those that decide the slots behind what is in flight to accept what it offers, each
+/// slot's once, and nobody else; it leaves no other mark.
+pub fn pumps_offer()
+    ensures { PumpsOffer }
 {}
