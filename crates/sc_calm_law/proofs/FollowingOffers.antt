@@ -68,26 +68,26 @@ old_found slot (f ∷ flights) new ne = ap (λ o. cond (eqb f.slot slot) (Some f
 -- ---- what is found changes the queues alone, and leaves no mark
 
 module _ (name : Draw) (who : ℕ) where
-  turned_marks : (me : ℕ) (core : Core) (command : Command) (answer : AnswerBody) (mails : List Mail) → marks_for name who (answered me core.id answer command mails) ≡ marks_for name who mails
+  pub turned_marks : (me : ℕ) (group : Draw) (command : Command) (answer : AnswerBody) (mails : List Mail) → marks_for name who (answered me group answer command mails) ≡ marks_for name who mails
   unfolding answered
-  turned_marks me core (Call client seq op) answer mails = marks-push name who mails (record { from = me; to = client_actor client; body = Answer core.id seq answer }) refl
-  turned_marks me core Noop answer mails = refl
-  turned_marks me core (Join node order) answer mails = refl
-  turned_marks me core (Leave node order) answer mails = refl
-  turned_marks me core (Split at child order) answer mails = refl
-  turned_marks me core (Begin tx body order) answer mails = refl
-  turned_marks me core (Prepared tx offer) answer mails = refl
-  turned_marks me core (RecordVote tx vote by) answer mails = refl
-  turned_marks me core (GiveUp tx) answer mails = refl
-  turned_marks me core (Finish tx outcome) answer mails = refl
-  turned_marks me core (Watched tx watch) answer mails = refl
-  turned_marks me core (RecordWatch tx vote by) answer mails = refl
+  turned_marks me group (Call client seq op) answer mails = marks-push name who mails (record { from = me; to = client_actor client; body = Answer group seq answer }) refl
+  turned_marks me group Noop answer mails = refl
+  turned_marks me group (Join node order) answer mails = refl
+  turned_marks me group (Leave node order) answer mails = refl
+  turned_marks me group (Split at child order) answer mails = refl
+  turned_marks me group (Begin tx body order) answer mails = refl
+  turned_marks me group (Prepared tx offer) answer mails = refl
+  turned_marks me group (RecordVote tx vote by) answer mails = refl
+  turned_marks me group (GiveUp tx) answer mails = refl
+  turned_marks me group (Finish tx outcome) answer mails = refl
+  turned_marks me group (Watched tx watch) answer mails = refl
+  turned_marks me group (RecordWatch tx vote by) answer mails = refl
 
   next_marks : (me : ℕ) (idle : Bool) (core : Core) (calls : List Command) (mails : List Mail) → marks_for name who (next_call me idle core calls mails).2 ≡ marks_for name who mails
   unfolding next_call
   next_marks me idle core [] mails = refl
   next_marks me idle core (command ∷ calls) mails =
-      by (waits idle core.lock command) (turned_down core command) (λ answer. next_marks me idle core calls (answered me core.id answer command mails) ∙ turned_marks me core command answer mails)
+      by (waits idle core.lock command) (turned_down core command) (λ answer. next_marks me idle core calls (answered me core.id answer command mails) ∙ turned_marks me core.id command answer mails)
     where
       by : (b : Bool) (o : Option AnswerBody) → ((answer : AnswerBody) → marks_for name who (next_call me idle core calls (answered me core.id answer command mails)).2 ≡ marks_for name who mails)
           → marks_for name who (cond {A = Option Command × List Command × List Mail} b (None, command ∷ calls, mails) (elim o [ None ↦ (Some command, calls, mails) | Some answer ↦ next_call me idle core calls (answered me core.id answer command mails) ])).2

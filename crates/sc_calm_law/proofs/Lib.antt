@@ -1,3 +1,4 @@
+pub mod FollowingCounted
 pub mod FollowingElected
 pub mod FollowingElects
 pub mod FollowingEntries
@@ -8,6 +9,7 @@ pub mod FollowingMarks
 pub mod FollowingNodes
 pub mod FollowingOffers
 pub mod FollowingQuiet
+pub mod FollowingSpoken
 pub mod OwedAsks
 pub mod OwedCalls
 pub mod OwedChanges

@@ -2,6 +2,7 @@ pub mod Births
 pub mod Clients
 pub mod Executing
 pub mod Following
+pub mod FollowingCounted
 pub mod FollowingNodes
 pub mod FollowingOffers
 pub mod FollowingRows

@@ -6,6 +6,7 @@
 ghost use Rattle.sc_calm_law.specs.Births.{BornReplicasOwe, MadeReplicasOwe};
 ghost use Rattle.sc_calm_law.specs.Clients.{ClientsLower, GoneSendsOn, NotMineTeaches};
 ghost use Rattle.sc_calm_law.specs.Executing.{CallVotesLower, ExecutionsRaiseNothing, LoneEntriesArePaid, LoneVotesLower};
+ghost use Rattle.sc_calm_law.specs.FollowingCounted.{EntriesLead};
 ghost use Rattle.sc_calm_law.specs.FollowingNodes.{EntriesTell, StatesMake, TablesElect, TablesFollow};
 ghost use Rattle.sc_calm_law.specs.FollowingOffers.{PumpsOffer};
 ghost use Rattle.sc_calm_law.specs.FollowingRows.{GroupsBeginFollowing, IdleRowsKeep, LeadersKeep, ElectionsKeep, TakersKeep, QuietGroupsAreEven};
@@ -254,4 +255,11 @@ pub fn entries_tell()
 /// slot's once, and nobody else; it leaves no other mark.
 pub fn pumps_offer()
     ensures { PumpsOffer }
+{}
+
+/// A leader that has counted an entry sends no other mail of agreement than what is told of it, and
+/// leads on where it is a member of a group that stands, with the entry's slot over; else it runs
+/// no longer.
+pub fn entries_lead()
+    ensures { EntriesLead }
 {}
