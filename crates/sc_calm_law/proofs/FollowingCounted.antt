@@ -49,7 +49,7 @@ landed_is slot command r mails = by (flying r slot)
     by (Some other) = refl
 
 -- what an entry leaves
-entered_keeps : (command : Command) (r : ReplicaState) → ((entered command r).running ≡ r.running) × ((entered command r).leader ≡ r.leader) × ((entered command r).ready ≡ r.ready) × ((entered command r).me ≡ r.me)
+pub entered_keeps : (command : Command) (r : ReplicaState) → ((entered command r).running ≡ r.running) × ((entered command r).leader ≡ r.leader) × ((entered command r).ready ≡ r.ready) × ((entered command r).me ≡ r.me)
 unfolding entered forgotten
 entered_keeps command r = (refl, refl, refl, refl)
 

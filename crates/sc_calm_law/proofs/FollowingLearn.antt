@@ -114,7 +114,7 @@ unfolding entered forgotten
 entered_floor command r = refl
 
 -- one that does not run executes no more by itself
-idle_ready : (es : List (ℕ × Command)) (place : Place) → place.0.running ≡ false → executed_ready es place ≡ childless place
+pub idle_ready : (es : List (ℕ × Command)) (place : Place) → place.0.running ≡ false → executed_ready es place ≡ childless place
 unfolding executed_ready
 idle_ready [] place off = refl
 idle_ready (e ∷ es) place off =

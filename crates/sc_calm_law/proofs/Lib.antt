@@ -2,6 +2,7 @@ pub mod FollowingCounted
 pub mod FollowingElected
 pub mod FollowingElects
 pub mod FollowingEntries
+pub mod FollowingExecuted
 pub mod FollowingKeeps
 pub mod FollowingLeads
 pub mod FollowingLearn

@@ -12,9 +12,10 @@ use Rattle.sc_calm_law.specs.FollowingNodes.{marks_for}
 use Rattle.sc_calm_law.specs.FollowingOffers.{MayOffer}
 use Rattle.sc_calm_law.specs.FollowingRows.{told_of}
 
--- a replica leads in a group's course
+-- a replica leads in the course of a group that stands
 pub record IsLed (at : Sets) (course : Course) (r : ReplicaState) : Type 0 where
   pub running : r.running ≡ true
+  pub stands : r.group.core.gone ≡ None
   pub first : r.leader.is_first ≡ course.is_first
   pub mine : course.ballot.node ≡ r.me
   pub member : is_member (members r) r.me ≡ true

@@ -3,6 +3,7 @@ pub mod Clients
 pub mod Executing
 pub mod Following
 pub mod FollowingCounted
+pub mod FollowingExecuted
 pub mod FollowingNodes
 pub mod FollowingOffers
 pub mod FollowingRows

@@ -7,6 +7,7 @@ ghost use Rattle.sc_calm_law.specs.Births.{BornReplicasOwe, MadeReplicasOwe};
 ghost use Rattle.sc_calm_law.specs.Clients.{ClientsLower, GoneSendsOn, NotMineTeaches};
 ghost use Rattle.sc_calm_law.specs.Executing.{CallVotesLower, ExecutionsRaiseNothing, LoneEntriesArePaid, LoneVotesLower};
 ghost use Rattle.sc_calm_law.specs.FollowingCounted.{EntriesLead};
+ghost use Rattle.sc_calm_law.specs.FollowingExecuted.{ExecutionsLead};
 ghost use Rattle.sc_calm_law.specs.FollowingNodes.{EntriesTell, StatesMake, TablesElect, TablesFollow};
 ghost use Rattle.sc_calm_law.specs.FollowingOffers.{PumpsOffer};
 ghost use Rattle.sc_calm_law.specs.FollowingRows.{GroupsBeginFollowing, IdleRowsKeep, LeadersKeep, ElectionsKeep, TakersKeep, QuietGroupsAreEven};
@@ -262,4 +263,10 @@ pub fn pumps_offer()
 /// no longer.
 pub fn entries_lead()
     ensures { EntriesLead }
+{}
+
+/// All that a leader executes at once, and the pump after each, tells what is told of so many
+/// entries, and then asks for what it offers behind what is in flight, if it leads on.
+pub fn executions_lead()
+    ensures { ExecutionsLead }
 {}
