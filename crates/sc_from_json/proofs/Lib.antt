@@ -1,4 +1,5 @@
 pub mod Arrays
+pub mod CoreMembers
 pub mod Digits
 pub mod Echoes
 pub mod Finding

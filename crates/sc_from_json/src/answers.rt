@@ -7,8 +7,9 @@ ghost use Rattle.sc_from_json.specs.Reading.{Finds};
 ghost use Rattle.sc_row_text.specs.Answers.{answer_body_json, FitsAnswerBody};
 
 use crate::faults::RowFault;
-use crate::from_json::FromJson;
-use crate::reading::{pair_of, single_of, variant_parts, whole};
+use crate::from_json::{FromJson, whole};
+use crate::objects::{pair_of, single_of};
+use crate::variant_names::variant_parts;
 use sc_mail::AnswerBody;
 use serde_json::Value as Json;
 use std::alloc::Global;

@@ -10,7 +10,8 @@ ghost use Rattle.sc_row_text.specs.Bodies.{watch_json, FitsWatch};
 
 use crate::faults::RowFault;
 use crate::from_json::FromJson;
-use crate::reading::{pair_of, single_of, six_of, variant_parts, word};
+use crate::objects::{pair_of, single_of, six_of};
+use crate::variant_names::{variant_parts, word};
 use sc_cmd::{Body, Offer, Watch};
 use serde_json::Value as Json;
 use std::alloc::Global;

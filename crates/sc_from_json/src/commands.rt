@@ -9,7 +9,8 @@ ghost use Rattle.sc_row_text.specs.Commands.{report_json, FitsReport};
 
 use crate::faults::RowFault;
 use crate::from_json::FromJson;
-use crate::reading::{pair_of, single_of, triple_of, variant_parts, word};
+use crate::objects::{pair_of, single_of, triple_of};
+use crate::variant_names::{variant_parts, word};
 use sc_cmd::Command;
 use sc_paxos_words::Report;
 use serde_json::Value as Json;

@@ -10,7 +10,9 @@ ghost use Rattle.sc_row_text.specs.Cores.{base_json, FitsBase};
 
 use crate::faults::RowFault;
 use crate::from_json::FromJson;
-use crate::reading::{four_of, pair_of, triple_of, twelve_of, variant_parts, word};
+use crate::object_members::{at_end, members_of, six_next};
+use crate::objects::{four_of, pair_of, triple_of};
+use crate::variant_names::{variant_parts, word};
 use sc_cmd::{Base, Core, Lock};
 use serde_json::Value as Json;
 use std::alloc::Global;
@@ -80,14 +82,14 @@ impl FromJson for Core {
     ghost Fits = { FitsCore };
 
     fn from_json(alloc: Global, json: &Json) -> Result<Core, RowFault> {
-        let ((arc, begun, born, decided, first, gone), (id, lock, members, pred, succ, voted)) =
-            twelve_of(
-                alloc,
-                json,
-                ("arc", "begun", "born", "decided", "first", "gone"),
-                ("id", "lock", "members", "pred", "succ", "voted"),
-            )?;
-        Ok(Core {
+        let mut rest = members_of(json)?;
+        let (arc, begun, born, decided, first, gone) = six_next(
+            alloc, &mut rest, "arc", "begun", "born", "decided", "first", "gone",
+        )?;
+        let (id, lock, members, pred, succ, voted) = six_next(
+            alloc, &mut rest, "id", "lock", "members", "pred", "succ", "voted",
+        )?;
+        let core = Core {
             id,
             first,
             arc,
@@ -100,7 +102,8 @@ impl FromJson for Core {
             voted,
             born,
             gone,
-        })
+        };
+        at_end(&mut rest, core)
     }
 }
 

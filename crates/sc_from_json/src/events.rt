@@ -6,8 +6,8 @@ ghost use Rattle.sc_from_json.specs.Reading.{Finds};
 ghost use Rattle.sc_row_text.specs.Rows.{event_json, FitsEvent};
 
 use crate::faults::RowFault;
-use crate::from_json::FromJson;
-use crate::reading::{variant_parts, whole, word};
+use crate::from_json::{FromJson, whole};
+use crate::variant_names::{variant_parts, word};
 use sc_actor::Event;
 use sc_cmd::OrderLine;
 use serde_json::Value as Json;

@@ -31,3 +31,12 @@ pub trait Present: FromJson {
     /// No value has the JSON of what is absent.
     ghost is_there: { (value : Self) → Self.Fits value → Self.json_of value ≡ null → ⊥ };
 }
+
+/// The value that a whole JSON is.
+pub(crate) fn whole<T: FromJson>(alloc: Global, json: &Json) -> Result<T, RowFault>
+    ensures finds { (value : T) → T.Fits value → view json.now ≡ T.json_of value
+        → Finds value result }
+    ensures exact { IfOk result (λ value. view json.now ≡ T.json_of value) }
+{
+    T::from_json(alloc, json)
+}

@@ -2,6 +2,7 @@
 #![tactic(auto)]
 
 mod answers;
+mod array_items;
 mod bodies;
 mod commands;
 mod cores;
@@ -12,14 +13,17 @@ mod links;
 mod lists;
 mod names;
 mod numbers;
+mod object_members;
+mod objects;
 mod ops;
 mod orders;
 mod outcomes;
-mod reading;
 mod sets;
 mod texts;
+mod variant_names;
 mod votes;
 
 pub use faults::RowFault;
 pub use from_json::FromJson;
-pub use reading::{four_of, pair_of, triple_of, variant_parts};
+pub use objects::{four_of, pair_of, triple_of};
+pub use variant_names::variant_parts;

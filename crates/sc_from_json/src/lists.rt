@@ -6,9 +6,9 @@ ghost use Rattle.sc_row_text.specs.Held.{OptionFits, PairFits};
 ghost use Rattle.sc_row_text.specs.Shapes.{items_json, list_json, option_json, pair_json};
 ghost use Rattle.sc_from_json.specs.Reading.{Shows};
 
+use crate::array_items::pair_in;
 use crate::faults::RowFault;
 use crate::from_json::{FromJson, Present};
-use crate::reading::pair_in;
 use sc_base::{Boxed, Sequence};
 use serde_json::Value as Json;
 use std::alloc::Global;

@@ -4,9 +4,9 @@ ghost use Rattle.serde_json.specs.Data.{string};
 ghost use Rattle.sc_base.specs.declared.names.Draw.{Draw};
 ghost use Rattle.sc_row_text.specs.Names.{draw_json, FitsDraw, ballot_json, FitsBallot};
 
+use crate::array_items::pair_in;
 use crate::faults::RowFault;
 use crate::from_json::{FromJson, Present};
-use crate::reading::pair_in;
 use sc_base::{Ballot, Draw, read_number};
 use serde_json::Value as Json;
 use std::alloc::Global;

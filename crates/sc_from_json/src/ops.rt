@@ -9,7 +9,8 @@ ghost use Rattle.sc_row_text.specs.Ops.{reply_json, FitsReply};
 
 use crate::faults::RowFault;
 use crate::from_json::FromJson;
-use crate::reading::{pair_of, single_of, triple_of, variant_parts};
+use crate::objects::{pair_of, single_of, triple_of};
+use crate::variant_names::variant_parts;
 use sc_base::{Op, Reply};
 use serde_json::Value as Json;
 use std::alloc::Global;

@@ -12,8 +12,9 @@ ghost use Rattle.sc_row_text.specs.Orders.{order_refusal_json, FitsOrderRefusal}
 ghost use Rattle.sc_row_text.specs.Orders.{told_result_json, FitsToldResult};
 
 use crate::faults::RowFault;
-use crate::from_json::FromJson;
-use crate::reading::{pair_of, single_of, variant_parts, whole, word};
+use crate::from_json::{FromJson, whole};
+use crate::objects::{pair_of, single_of};
+use crate::variant_names::{variant_parts, word};
 use sc_cmd::{Order, OrderLine, OrderRefusal, ToldResult};
 use serde_json::Value as Json;
 use std::alloc::Global;

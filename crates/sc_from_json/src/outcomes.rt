@@ -9,7 +9,8 @@ ghost use Rattle.sc_row_text.specs.Outcomes.{outcome_json, FitsOutcome};
 
 use crate::faults::RowFault;
 use crate::from_json::{FromJson, Present};
-use crate::reading::{pair_of, single_of, variant_parts, word};
+use crate::objects::{pair_of, single_of};
+use crate::variant_names::{variant_parts, word};
 use sc_cmd::{Gift, Outcome};
 use serde_json::Value as Json;
 use std::alloc::Global;

@@ -10,10 +10,10 @@ ghost use Rattle.sc_row_text.specs.Sets.{arc_json, nodes_json, pairs_json, FitsP
 ghost use Rattle.sc_row_text.specs.Shapes.{items_json};
 ghost use Rattle.sc_from_json.specs.Reading.{Finds, Shows};
 
+use crate::array_items::{pair_in, triple_in};
 use crate::faults::RowFault;
 use crate::from_json::{FromJson, Present};
 use crate::lists::items_of;
-use crate::reading::{pair_in, triple_in};
 use sc_base::{Key, Noted, Ordered, OutOfMemory, RingArc, Value};
 use sc_member::Members;
 use serde_json::Value as Json;

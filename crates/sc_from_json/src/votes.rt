@@ -13,8 +13,9 @@ ghost use Rattle.sc_row_text.specs.Votes.{vote_json, FitsVote};
 ghost use Rattle.sc_row_text.specs.Votes.{past_json, FitsPast};
 
 use crate::faults::RowFault;
-use crate::from_json::{FromJson, Present};
-use crate::reading::{five_of, pair_of, single_of, variant_parts, whole, word};
+use crate::from_json::{FromJson, Present, whole};
+use crate::objects::{five_of, pair_of, single_of};
+use crate::variant_names::{variant_parts, word};
 use sc_cmd::{Frozen, Heard, No, Past, Vote};
 use serde_json::Value as Json;
 use std::alloc::Global;
