@@ -14,7 +14,7 @@ use sc_mail::{Mail, MailBody};
 use std::alloc::Global;
 
 /// A node accepted a command at a slot in a ballot (Paxos Made Simple, section 2.2).
-#[derive(Drop)]
+#[derive(Clone, Drop)]
 pub struct Acceptance {
     pub node: u32,
     pub ballot: Ballot,
@@ -23,13 +23,8 @@ pub struct Acceptance {
 }
 
 impl Dup for Acceptance {
-    fn dup(&self, alloc: Global) -> Result<Acceptance, OutOfMemory> {
-        Ok(Acceptance {
-            node: self.node,
-            ballot: self.ballot,
-            slot: self.slot,
-            command: self.command.dup(alloc)?,
-        })
+    fn dup(&self, _alloc: Global) -> Result<Acceptance, OutOfMemory> {
+        Ok(self.clone()?)
     }
 }
 

@@ -5,7 +5,7 @@ use sc_base::{Boxed, Draw, Dup, Op, OutOfMemory, Same};
 use std::alloc::Global;
 
 /// An entry of a log. An `order` of 0 means that a policy made the order.
-#[derive(Clone, Drop)]
+#[derive(Clone, PartialEq, Eq, Drop)]
 pub enum Command {
     /// Fills a gap.
     Noop,
@@ -40,88 +40,8 @@ impl Dup for Command {
 }
 
 impl Same for Command {
+    #[tactic(auto, using(sc_base::proofs::EqualityLemmas::told, crate::proofs::Exact::command))]
     fn is_same(&self, other: &Command) -> bool {
-        match (self, other) {
-            (Command::Noop, Command::Noop) => true,
-            (
-                Command::Call { client, seq, op },
-                Command::Call {
-                    client: second_client,
-                    seq: second_seq,
-                    op: second_op,
-                },
-            ) => client.is_same(second_client) && seq.is_same(second_seq) && op.is_same(second_op),
-            (
-                Command::Join { node, order },
-                Command::Join {
-                    node: second_node,
-                    order: second_order,
-                },
-            ) => node.is_same(second_node) && order.is_same(second_order),
-            (
-                Command::Leave { node, order },
-                Command::Leave {
-                    node: second_node,
-                    order: second_order,
-                },
-            ) => node.is_same(second_node) && order.is_same(second_order),
-            (
-                Command::Split { at, child, order },
-                Command::Split {
-                    at: second_at,
-                    child: second_child,
-                    order: second_order,
-                },
-            ) => at.is_same(second_at)
-                && child.is_same(second_child)
-                && order.is_same(second_order),
-            (
-                Command::Begin { tx, body, order },
-                Command::Begin {
-                    tx: second_tx,
-                    body: second_body,
-                    order: second_order,
-                },
-            ) => tx.is_same(second_tx) && body.is_same(second_body) && order.is_same(second_order),
-            (
-                Command::Prepared { tx, offer },
-                Command::Prepared {
-                    tx: second_tx,
-                    offer: second_offer,
-                },
-            ) => tx.is_same(second_tx) && offer.is_same(second_offer),
-            (
-                Command::RecordVote { tx, vote, by },
-                Command::RecordVote {
-                    tx: second_tx,
-                    vote: second_vote,
-                    by: second_by,
-                },
-            ) => tx.is_same(second_tx) && vote.is_same(second_vote) && by.is_same(second_by),
-            (Command::GiveUp { tx }, Command::GiveUp { tx: second_tx }) => tx.is_same(second_tx),
-            (
-                Command::Finish { tx, outcome },
-                Command::Finish {
-                    tx: second_tx,
-                    outcome: second_outcome,
-                },
-            ) => tx.is_same(second_tx) && outcome.is_same(second_outcome),
-            (
-                Command::Watched { tx, watch },
-                Command::Watched {
-                    tx: second_tx,
-                    watch: second_watch,
-                },
-            ) => tx.is_same(second_tx) && watch.is_same(second_watch),
-            (
-                Command::RecordWatch { tx, vote, by },
-                Command::RecordWatch {
-                    tx: second_tx,
-                    vote: second_vote,
-                    by: second_by,
-                },
-            ) => tx.is_same(second_tx) && vote.is_same(second_vote) && by.is_same(second_by),
-            _ => false,
-        }
+        self == other
     }
 }

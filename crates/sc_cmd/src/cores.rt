@@ -1,5 +1,5 @@
 //! The state of a group.
-ghost use Rattle.std.specs.Prelude.{◌≡◌, ◌↔◌, IsTrue};
+ghost use Rattle.std.specs.Prelude.{◌≡◌};
 ghost use Rattle.sc_cmd.specs.Cores.{is_alone};
 
 use crate::bodies::{Body, Offer, Watch};
@@ -10,7 +10,7 @@ use sc_member::Members;
 use std::alloc::Global;
 
 /// What a group is bound to. Only a group that is free, or a watcher, serves its keys.
-#[derive(Clone, Drop)]
+#[derive(Clone, PartialEq, Eq, Drop)]
 pub enum Lock {
     Free,
     /// It has begun a transaction; `heard` is the participant's vote where it waits for a
@@ -34,7 +34,7 @@ pub enum Lock {
 }
 
 /// A group but for its pairs and its client table.
-#[derive(Clone, Drop)]
+#[derive(Clone, PartialEq, Eq, Drop)]
 pub struct Core {
     /// The group's name.
     pub id: Draw,
@@ -58,7 +58,7 @@ pub struct Core {
 }
 
 /// A whole group: what a replica starts from.
-#[derive(Clone, Drop)]
+#[derive(Clone, PartialEq, Eq, Drop)]
 pub struct Base {
     pub core: Core,
     pub pairs: Pairs,
@@ -93,91 +93,22 @@ impl Dup for Base {
 }
 
 impl Same for Lock {
+    #[tactic(auto, using(sc_base::proofs::EqualityLemmas::told, crate::proofs::Exact::lock))]
     fn is_same(&self, other: &Lock) -> bool {
-        match (self, other) {
-            (Lock::Free, Lock::Free) => true,
-            (
-                Lock::Coordinating {
-                    tx,
-                    body,
-                    order,
-                    heard,
-                },
-                Lock::Coordinating {
-                    tx: second_tx,
-                    body: second_body,
-                    order: second_order,
-                    heard: second_heard,
-                },
-            ) => tx.is_same(second_tx)
-                && body.is_same(second_body)
-                && order.is_same(second_order)
-                && heard.is_same(second_heard),
-            (
-                Lock::Promised { tx, offer },
-                Lock::Promised {
-                    tx: second_tx,
-                    offer: second_offer,
-                },
-            ) => tx.is_same(second_tx) && offer.is_same(second_offer),
-            (
-                Lock::Watching { tx, watch },
-                Lock::Watching {
-                    tx: second_tx,
-                    watch: second_watch,
-                },
-            ) => tx.is_same(second_tx) && watch.is_same(second_watch),
-            _ => false,
-        }
+        self == other
     }
 }
 
-// Whether two groups are the same in name, place and neighbours.
-fn is_same_place(one: &Core, other: &Core) -> bool
-    ensures { IsTrue result ↔
-        ((one.now.id ≡ other.now.id)
-        × (one.now.first ≡ other.now.first)
-        × (one.now.arc ≡ other.now.arc)
-        × (one.now.members ≡ other.now.members)
-        × (one.now.succ ≡ other.now.succ)
-        × (one.now.pred ≡ other.now.pred)) }
-{
-    one.id.is_same(&other.id)
-        && one.first == other.first
-        && one.arc.is_same(&other.arc)
-        && one.members.is_same(&other.members)
-        && one.succ.is_same(&other.succ)
-        && one.pred.is_same(&other.pred)
-}
-
-// Whether their transactions came to the same.
-fn is_same_course(one: &Core, other: &Core) -> bool
-    ensures { IsTrue result ↔
-        ((one.now.lock ≡ other.now.lock)
-        × (one.now.begun ≡ other.now.begun)
-        × (one.now.decided ≡ other.now.decided)
-        × (one.now.voted ≡ other.now.voted)
-        × (one.now.born ≡ other.now.born)
-        × (one.now.gone ≡ other.now.gone)) }
-{
-    one.lock.is_same(&other.lock)
-        && one.begun == other.begun
-        && one.decided.is_same(&other.decided)
-        && one.voted.is_same(&other.voted)
-        && one.born.is_same(&other.born)
-        && one.gone.is_same(&other.gone)
-}
-
 impl Same for Core {
+    #[tactic(auto, using(sc_base::proofs::EqualityLemmas::told, crate::proofs::Exact::core))]
     fn is_same(&self, other: &Core) -> bool {
-        is_same_place(self, other) && is_same_course(self, other)
+        self == other
     }
 }
 
 impl Same for Base {
+    #[tactic(auto, using(sc_base::proofs::EqualityLemmas::told, crate::proofs::Exact::base))]
     fn is_same(&self, other: &Base) -> bool {
-        self.core.is_same(&other.core)
-            && self.pairs.is_same(&other.pairs)
-            && self.clients.is_same(&other.clients)
+        self == other
     }
 }

@@ -5,7 +5,7 @@ use sc_member::Members;
 use std::alloc::Global;
 
 /// The record of a participant, which stays as it is from its Yes to the outcome.
-#[derive(Clone, Drop)]
+#[derive(Clone, PartialEq, Eq, Drop)]
 pub struct Frozen {
     pub arc: RingArc,
     pub members: Members,
@@ -15,7 +15,7 @@ pub struct Frozen {
 }
 
 /// What a coordinator has heard from its participant, and from which node.
-#[derive(Clone, Drop)]
+#[derive(Clone, PartialEq, Eq, Drop)]
 pub struct Heard {
     pub frozen: Frozen,
     pub by: u16,
@@ -35,7 +35,7 @@ pub enum No {
 }
 
 /// A participant's vote.
-#[derive(Clone, Drop)]
+#[derive(Clone, PartialEq, Eq, Drop)]
 pub enum Vote {
     Yes(Boxed<Frozen>),
     No(No),
@@ -50,14 +50,14 @@ pub enum Past {
 }
 
 /// What a moved boundary brings to the group that gains the arc.
-#[derive(Clone, Drop)]
+#[derive(Clone, PartialEq, Eq, Drop)]
 pub struct Gift {
     pub pairs: Pairs,
     pub clients: SeenList,
 }
 
 /// What a coordinator has decided.
-#[derive(Clone, Drop)]
+#[derive(Clone, PartialEq, Eq, Drop)]
 pub enum Outcome {
     Abort,
     /// The participant is gone into the coordinator, whose new route is this.
@@ -118,18 +118,16 @@ impl Dup for Outcome {
 }
 
 impl Same for Frozen {
+    #[tactic(auto, using(sc_base::proofs::EqualityLemmas::told, crate::proofs::Exact::frozen))]
     fn is_same(&self, other: &Frozen) -> bool {
-        self.arc.is_same(&other.arc)
-            && self.members.is_same(&other.members)
-            && self.succ.is_same(&other.succ)
-            && self.pairs.is_same(&other.pairs)
-            && self.clients.is_same(&other.clients)
+        self == other
     }
 }
 
 impl Same for Heard {
+    #[tactic(auto, using(sc_base::proofs::EqualityLemmas::told, crate::proofs::Exact::heard))]
     fn is_same(&self, other: &Heard) -> bool {
-        self.frozen.is_same(&other.frozen) && self.by.is_same(&other.by)
+        self == other
     }
 }
 
@@ -140,12 +138,9 @@ impl Same for No {
 }
 
 impl Same for Vote {
+    #[tactic(auto, using(sc_base::proofs::EqualityLemmas::told, crate::proofs::Exact::vote))]
     fn is_same(&self, other: &Vote) -> bool {
-        match (self, other) {
-            (Vote::Yes(one), Vote::Yes(second)) => one.is_same(second),
-            (Vote::No(one), Vote::No(second)) => one.is_same(second),
-            _ => false,
-        }
+        self == other
     }
 }
 
@@ -156,30 +151,15 @@ impl Same for Past {
 }
 
 impl Same for Gift {
+    #[tactic(auto, using(sc_base::proofs::EqualityLemmas::told, crate::proofs::Exact::gift))]
     fn is_same(&self, other: &Gift) -> bool {
-        self.pairs.is_same(&other.pairs) && self.clients.is_same(&other.clients)
+        self == other
     }
 }
 
 impl Same for Outcome {
+    #[tactic(auto, using(sc_base::proofs::EqualityLemmas::told, crate::proofs::Exact::outcome))]
     fn is_same(&self, other: &Outcome) -> bool {
-        match (self, other) {
-            (Outcome::Abort, Outcome::Abort) => true,
-            (Outcome::Merged { into }, Outcome::Merged { into: second_into }) => into.is_same(
-                second_into,
-            ),
-            (
-                Outcome::Moved { at, gift },
-                Outcome::Moved {
-                    at: second_at,
-                    gift: second_gift,
-                },
-            ) => at.is_same(second_at) && gift.is_same(second_gift),
-            (Outcome::Migrated { node }, Outcome::Migrated { node: second_node }) => node.is_same(
-                second_node,
-            ),
-            (Outcome::Divided, Outcome::Divided) => true,
-            _ => false,
-        }
+        self == other
     }
 }

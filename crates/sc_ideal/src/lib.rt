@@ -9,7 +9,7 @@ use std::alloc::Global;
 
 /// One entry of a history: a client's request, and what it was told. The number is the client's
 /// own, counted from 1.
-#[derive(PartialEq, Eq, Drop)]
+#[derive(Clone, PartialEq, Eq, Drop)]
 pub struct Entry {
     pub client: u16,
     pub seq: u32,
@@ -18,13 +18,8 @@ pub struct Entry {
 }
 
 impl Dup for Entry {
-    fn dup(&self, alloc: Global) -> Result<Entry, OutOfMemory> {
-        Ok(Entry {
-            client: self.client,
-            seq: self.seq,
-            op: self.op.dup(alloc)?,
-            reply: self.reply.dup(alloc)?,
-        })
+    fn dup(&self, _alloc: Global) -> Result<Entry, OutOfMemory> {
+        Ok(self.clone()?)
     }
 }
 

@@ -2,11 +2,14 @@
 ghost use Rattle.std.specs.Prelude.{◌≡◌};
 ghost use Rattle.sc_base.specs.Limits.{client_actor};
 
-use sc_base::{Ballot, Boxed, Draw, MOST_NODES, Op, Reply, RingArc, Sequence};
+use sc_base::{
+    Ballot, Boxed, Draw, Dup, MOST_NODES, Op, OutOfMemory, Reply, RingArc, Same, Sequence,
+};
 use sc_cmd::{
     Base, Command, Link, MemberSets, Offer, Outcome, Past, Route, ToldResult, Vote, Watch,
 };
 use sc_paxos_words::Report;
+use std::alloc::Global;
 
 /// The actor number of the desk, where the results of orders go. It is no actor.
 pub const DESK: u32 = 0;
@@ -37,7 +40,7 @@ pub enum AnswerBody {
 }
 
 /// What a mail says. `group` is the group that it is about.
-#[derive(Clone, Drop)]
+#[derive(Clone, PartialEq, Eq, Drop)]
 pub enum MailBody {
     Request {
         group: Draw,
@@ -137,9 +140,47 @@ pub enum MailBody {
 }
 
 /// A mail, with the actor numbers of its sender and receiver.
-#[derive(Clone, Drop)]
+#[derive(Clone, PartialEq, Eq, Drop)]
 pub struct Mail {
     pub from: u32,
     pub to: u32,
     pub body: MailBody,
+}
+
+impl Dup for AnswerBody {
+    fn dup(&self, _alloc: Global) -> Result<AnswerBody, OutOfMemory> {
+        Ok(self.clone()?)
+    }
+}
+
+impl Dup for MailBody {
+    fn dup(&self, _alloc: Global) -> Result<MailBody, OutOfMemory> {
+        Ok(self.clone()?)
+    }
+}
+
+impl Dup for Mail {
+    fn dup(&self, _alloc: Global) -> Result<Mail, OutOfMemory> {
+        Ok(self.clone()?)
+    }
+}
+
+impl Same for AnswerBody {
+    fn is_same(&self, other: &AnswerBody) -> bool {
+        self == other
+    }
+}
+
+impl Same for MailBody {
+    #[tactic(auto, using(sc_base::proofs::EqualityLemmas::told, crate::proofs::Exact::body))]
+    fn is_same(&self, other: &MailBody) -> bool {
+        self == other
+    }
+}
+
+impl Same for Mail {
+    #[tactic(auto, using(sc_base::proofs::EqualityLemmas::told, crate::proofs::Exact::mail))]
+    fn is_same(&self, other: &Mail) -> bool {
+        self == other
+    }
 }

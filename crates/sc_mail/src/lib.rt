@@ -3,9 +3,7 @@
 #![tactic(auto)]
 
 mod bodies;
-mod copies;
 mod roles;
-mod sames;
 mod weights;
 
 pub use bodies::{AnswerBody, DESK, Mail, MailBody, Reports, client_number};

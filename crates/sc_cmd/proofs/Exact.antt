@@ -1,0 +1,98 @@
+-- What the derived `==` of the types of this crate decides.
+use Rattle.std.specs.Prelude.{nat_eq}
+use Rattle.std.specs.Cmp.Lexicographic.{pointwise}
+use Rattle.sc_base.proofs.EqualityLemmas.{Exact, lists, options, numbers, struct, no_field, last, ◌and◌, enum, ◌or◌, no_variant}
+use Rattle.sc_base.proofs.Exact.{bytes, arc, draw, op, noted}
+use Rattle.sc_cmd.specs.contracts.bodies.Body as body_type
+use Rattle.sc_cmd.specs.contracts.bodies.BodyPartialEq.TheImpl as body_eq
+use Rattle.sc_cmd.specs.contracts.bodies.Offer as offer_type
+use Rattle.sc_cmd.specs.contracts.bodies.OfferPartialEq.TheImpl as offer_eq
+use Rattle.sc_cmd.specs.contracts.bodies.Watch as watch_type
+use Rattle.sc_cmd.specs.contracts.bodies.WatchPartialEq.TheImpl as watch_eq
+use Rattle.sc_cmd.specs.contracts.commands.Command as command_type
+use Rattle.sc_cmd.specs.contracts.commands.CommandPartialEq.TheImpl as command_eq
+use Rattle.sc_cmd.specs.contracts.cores.Base as base_type
+use Rattle.sc_cmd.specs.contracts.cores.BasePartialEq.TheImpl as base_eq
+use Rattle.sc_cmd.specs.contracts.cores.Core as core_type
+use Rattle.sc_cmd.specs.contracts.cores.CorePartialEq.TheImpl as core_eq
+use Rattle.sc_cmd.specs.contracts.cores.Lock as lock_type
+use Rattle.sc_cmd.specs.contracts.cores.LockPartialEq.TheImpl as lock_eq
+use Rattle.sc_cmd.specs.contracts.links.Link as link_type
+use Rattle.sc_cmd.specs.contracts.links.LinkPartialEq.TheImpl as link_eq
+use Rattle.sc_cmd.specs.contracts.links.Route as route_type
+use Rattle.sc_cmd.specs.contracts.links.RoutePartialEq.TheImpl as route_eq
+use Rattle.sc_cmd.specs.contracts.orders.OrderRefusal as refusal_type
+use Rattle.sc_cmd.specs.contracts.orders.OrderRefusalPartialEq.TheImpl as refusal_eq
+use Rattle.sc_cmd.specs.contracts.orders.ToldResult as told_result_type
+use Rattle.sc_cmd.specs.contracts.orders.ToldResultPartialEq.TheImpl as told_result_eq
+use Rattle.sc_cmd.specs.contracts.votes.Frozen as frozen_type
+use Rattle.sc_cmd.specs.contracts.votes.FrozenPartialEq.TheImpl as frozen_eq
+use Rattle.sc_cmd.specs.contracts.votes.Gift as gift_type
+use Rattle.sc_cmd.specs.contracts.votes.GiftPartialEq.TheImpl as gift_eq
+use Rattle.sc_cmd.specs.contracts.votes.Heard as heard_type
+use Rattle.sc_cmd.specs.contracts.votes.HeardPartialEq.TheImpl as heard_eq
+use Rattle.sc_cmd.specs.contracts.votes.No as no_type
+use Rattle.sc_cmd.specs.contracts.votes.NoPartialEq.TheImpl as no_eq
+use Rattle.sc_cmd.specs.contracts.votes.Outcome as outcome_type
+use Rattle.sc_cmd.specs.contracts.votes.OutcomePartialEq.TheImpl as outcome_eq
+use Rattle.sc_cmd.specs.contracts.votes.Past as past_type
+use Rattle.sc_cmd.specs.contracts.votes.PastPartialEq.TheImpl as past_eq
+use Rattle.sc_cmd.specs.contracts.votes.Vote as vote_type
+use Rattle.sc_cmd.specs.contracts.votes.VotePartialEq.TheImpl as vote_eq
+
+members : Exact (pointwise nat_eq)
+members = lists numbers
+
+pub link : Exact link_eq.ghosts.eq
+link = struct link_type.the_type (draw and last members)
+
+pub route : Exact route_eq.ghosts.eq
+route = struct route_type.the_type (draw and numbers and last members)
+
+pub body : Exact body_eq.ghosts.eq
+body = enum body_type.enum (no_field or last numbers or last numbers or numbers and last draw or no_variant)
+
+pub offer : Exact offer_eq.ghosts.eq
+offer = struct offer_type.the_type (draw and draw and arc and members and body and last numbers)
+
+pub watch : Exact watch_eq.ghosts.eq
+watch = struct watch_type.the_type (draw and members and draw and draw and link and last numbers)
+
+pub frozen : Exact frozen_eq.ghosts.eq
+frozen = struct frozen_type.the_type (arc and members and link and (lists (bytes and bytes)) and last (lists (numbers and noted)))
+
+pub heard : Exact heard_eq.ghosts.eq
+heard = struct heard_type.the_type (frozen and last numbers)
+
+pub no : Exact no_eq.ghosts.eq
+no = enum no_type.enum (last draw or no_field or no_field or last numbers or no_variant)
+
+pub vote : Exact vote_eq.ghosts.eq
+vote = enum vote_type.enum (last frozen or last no or no_variant)
+
+pub past : Exact past_eq.ghosts.eq
+past = enum past_type.enum (no_field or last no or no_field or no_variant)
+
+pub gift : Exact gift_eq.ghosts.eq
+gift = struct gift_type.the_type ((lists (bytes and bytes)) and last (lists (numbers and noted)))
+
+pub outcome : Exact outcome_eq.ghosts.eq
+outcome = enum outcome_type.enum (no_field or last route or numbers and last (options gift) or last numbers or no_field or no_variant)
+
+pub lock : Exact lock_eq.ghosts.eq
+lock = enum lock_type.enum (no_field or draw and body and numbers and last (options heard) or draw and last offer or draw and last watch or no_variant)
+
+pub core : Exact core_eq.ghosts.eq
+core = struct core_type.the_type (draw and numbers and arc and members and link and link and lock and numbers and (lists (draw and outcome)) and (lists (draw and past)) and (lists draw) and last (options route))
+
+pub base : Exact base_eq.ghosts.eq
+base = struct base_type.the_type (core and (lists (bytes and bytes)) and last (lists (numbers and noted)))
+
+pub command : Exact command_eq.ghosts.eq
+command = enum command_type.enum (no_field or numbers and numbers and last op or numbers and last numbers or numbers and last numbers or numbers and draw and last numbers or draw and body and last numbers or draw and last offer or draw and vote and last numbers or last draw or draw and last outcome or draw and last watch or draw and past and last numbers or no_variant)
+
+pub refusal : Exact refusal_eq.ghosts.eq
+refusal = enum refusal_type.enum (last (options numbers) or last draw or no_field or no_field or last numbers or no_field or no_field or no_field or no_field or no_variant)
+
+pub told_result : Exact told_result_eq.ghosts.eq
+told_result = enum told_result_type.enum (no_field or no_field or no_field or last refusal or no_variant)
