@@ -17,7 +17,7 @@ mod texts;
 pub use arcs::{BadBoundary, BadLen, NotAdjacent, RingArc, arcs_are_sound};
 pub use boxed::Boxed;
 pub use dups::{Dup, OutOfMemory, dup_found};
-pub use limits::{LONGEST_KEY, LONGEST_VALUE, MOST_CLIENTS, MOST_NODES, MOST_REQUESTS};
+pub use limits::{MOST_CLIENTS, MOST_NODES, MOST_REQUESTS};
 pub use lists::Sequence;
 pub use names::{Ballot, Draw, Draws, draws_are_apart, same_ballot, same_draw};
 pub use numbers::read_number;

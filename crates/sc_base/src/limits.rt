@@ -1,10 +1,10 @@
 //! The limits of a scenario.
 
 /// The most bytes of a key.
-pub const LONGEST_KEY: usize = 64;
+pub(crate) const LONGEST_KEY: usize = 64;
 
 /// The most bytes of a value.
-pub const LONGEST_VALUE: usize = 256;
+pub(crate) const LONGEST_VALUE: usize = 256;
 
 /// The most nodes, and the greatest number of a node. As an actor client C is 32 + C.
 pub const MOST_NODES: u32 = 32;

@@ -56,7 +56,7 @@ pushed name who (m ∷ mails) me to body mark e = by (eqb m.to who) (pushed name
     by true rest = ap (λ l. listed (mark_of name m.from m.body) ++ l) rest ∙ sym (append_one (listed (mark_of name m.from m.body)) (marks_for name who mails) (cond (eqb to who) (mark ∷ []) []))
     by false rest = rest
 
-sent_marks : (name : Draw) (who me : ℕ) (body : MailBody) (mark : Mark) → mark_of name me body ≡ Some mark → (nodes : List ℕ) (mails : List Mail)
+pub sent_marks : (name : Draw) (who me : ℕ) (body : MailBody) (mark : Mark) → mark_of name me body ≡ Some mark → (nodes : List ℕ) (mails : List Mail)
     → marks_for name who (sent_all me nodes body mails) ≡ marks_for name who mails ++ marks_to who mark nodes
 unfolding sent_all
 sent_marks name who me body mark e [] mails = sym (append-nil (marks_for name who mails))

@@ -32,7 +32,7 @@ use Rattle.sc_calm_law.proofs.OwedLearn.{idle_pump}
 -- ---- what the desk is told is nothing to a group
 
 module _ (name : Draw) (who : ℕ) where
-  desk_marks : (me number : ℕ) (result : ToldResult) (mails : List Mail) → marks_for name who (told_order me number result mails) ≡ marks_for name who mails
+  pub desk_marks : (me number : ℕ) (result : ToldResult) (mails : List Mail) → marks_for name who (told_order me number result mails) ≡ marks_for name who mails
   unfolding told_order
   desk_marks me number result mails = by (is_told number)
     where
@@ -51,7 +51,7 @@ module _ (name : Draw) (who : ℕ) where
   unfolding announced
   announced_marks effect command r mails = effect_marks (order_result command effect) command r mails
 
-  begun_marks : (me : ℕ) (before : Before) (effect : Effect) (command : Command) (mails : List Mail) → marks_for name who (told_begun me before effect command mails) ≡ marks_for name who mails
+  pub begun_marks : (me : ℕ) (before : Before) (effect : Effect) (command : Command) (mails : List Mail) → marks_for name who (told_begun me before effect command mails) ≡ marks_for name who mails
   unfolding told_begun
   begun_marks me before effect command mails = by (begun_result before.alone effect command)
     where
@@ -114,7 +114,7 @@ unfolding entered forgotten
 entered_floor command r = refl
 
 -- one that does not run executes no more by itself
-idle_ready : (es : List (ℕ × Command)) (place : Place) → place.0.running ≡ false → executed_ready es place ≡ childless place
+pub idle_ready : (es : List (ℕ × Command)) (place : Place) → place.0.running ≡ false → executed_ready es place ≡ childless place
 unfolding executed_ready
 idle_ready [] place off = refl
 idle_ready (e ∷ es) place off =

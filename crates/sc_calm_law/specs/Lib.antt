@@ -3,7 +3,10 @@ pub mod Charts
 pub mod Clients
 pub mod Executing
 pub mod Following
+pub mod FollowingCounted
+pub mod FollowingExecuted
 pub mod FollowingNodes
+pub mod FollowingOffers
 pub mod FollowingRows
 pub mod Keeping
 pub mod Laws

@@ -7,7 +7,10 @@ ghost use Rattle.sc_calm_law.specs.Births.{BornReplicasOwe, MadeReplicasOwe};
 ghost use Rattle.sc_calm_law.specs.Charts.{ChartsMayChange};
 ghost use Rattle.sc_calm_law.specs.Clients.{ClientsLower, GoneSendsOn, NotMineTeaches};
 ghost use Rattle.sc_calm_law.specs.Executing.{CallVotesLower, ExecutionsRaiseNothing, LoneEntriesArePaid, LoneVotesLower};
+ghost use Rattle.sc_calm_law.specs.FollowingCounted.{EntriesLead};
+ghost use Rattle.sc_calm_law.specs.FollowingExecuted.{ExecutionsLead};
 ghost use Rattle.sc_calm_law.specs.FollowingNodes.{EntriesTell, StatesMake, TablesElect, TablesFollow};
+ghost use Rattle.sc_calm_law.specs.FollowingOffers.{PumpsOffer};
 ghost use Rattle.sc_calm_law.specs.FollowingRows.{GroupsBeginFollowing, IdleRowsKeep, LeadersKeep, ElectionsKeep, TakersKeep, QuietGroupsAreEven};
 ghost use Rattle.sc_calm_law.specs.Keeping.{KeptCalmIsMeasured, TakenMailLowers};
 ghost use Rattle.sc_calm_law.specs.Laws.{AnswersLower, AsksLower, ChangesRaiseNothing, CountedEntriesRaiseNothing, CountsLower, LeadersMayLeave, LearnsLower, LearntEntriesRaiseNothing, MovesLower, OldLearnsLower, OrdersRaiseLittle, PumpsRaiseNothing, VotesLower};
@@ -323,4 +326,23 @@ pub fn resting_owes_little()
 /// what is owed at birth and what one order raises, if orders stand alone between such lines.
 pub fn kept_calm_ends_quiet()
     ensures { KeptCalmEndsQuiet }
+{}
+
+/// A pump asks those that decide the slots behind what is in flight to accept what it offers, each
+/// slot's once, and nobody else; it leaves no other mark.
+pub fn pumps_offer()
+    ensures { PumpsOffer }
+{}
+
+/// A leader that has counted an entry sends no other mail of agreement than what is told of it, and
+/// leads on where it is a member of a group that stands, with the entry's slot over; else it runs
+/// no longer.
+pub fn entries_lead()
+    ensures { EntriesLead }
+{}
+
+/// All that a leader executes at once, and the pump after each, tells what is told of so many
+/// entries, and then asks for what it offers behind what is in flight, if it leads on.
+pub fn executions_lead()
+    ensures { ExecutionsLead }
 {}

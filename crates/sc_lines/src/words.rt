@@ -38,7 +38,7 @@ pub fn count_in(word: &[u8], most: u32) -> Option<u32>
 }
 
 /// The key that a word spells.
-pub fn key_in(alloc: Global, word: &[u8]) -> Result<Option<Key>, OutOfMemory>
+pub(crate) fn key_in(alloc: Global, word: &[u8]) -> Result<Option<Key>, OutOfMemory>
     ensures { IfOk result (λ key. key ≡ key_in word.now) }
 {
     match Key::try_new(alloc, word) {
@@ -49,7 +49,7 @@ pub fn key_in(alloc: Global, word: &[u8]) -> Result<Option<Key>, OutOfMemory>
 }
 
 /// The value that a word spells.
-pub fn value_in(alloc: Global, word: &[u8]) -> Result<Option<Value>, OutOfMemory>
+pub(crate) fn value_in(alloc: Global, word: &[u8]) -> Result<Option<Value>, OutOfMemory>
     ensures { IfOk result (λ value. value ≡ value_in word.now) }
 {
     match Value::try_new(alloc, word) {

@@ -72,7 +72,7 @@ fn made_op(alloc: Global, words: (u32, u32), client: u16, number: u16) -> Result
 }
 
 /// The requests of the client after `before` others, of whom each has `n`, of the next words.
-pub fn made_ops(
+pub(crate) fn made_ops(
     alloc: Global,
     chance: &mut Chance,
     before: u16,

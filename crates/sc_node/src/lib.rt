@@ -23,7 +23,5 @@ mod wishes;
 pub use holders::Holder;
 pub use node::{NodeCore, are_in_order};
 pub use orders::on_order;
-pub use places::{has_replica, replica_place};
 pub use rows::{step_replica, take_mail};
-pub use ticking::tick_each;
 pub use ticks::on_tick;

@@ -9,7 +9,7 @@ ghost use Rattle.sc_node.specs.Places.{StandsAt};
 use crate::absent::alone;
 use crate::node::NodeCore;
 use crate::orders::on_order;
-use crate::replica_place;
+use crate::places::replica_place;
 use sc_base::{Draw, OutOfMemory, Sequence};
 use sc_cmd::{Order, OrderLine, OrderRefusal, ToldResult};
 use sc_mail::{DESK, Mail, MailBody};

@@ -31,7 +31,7 @@ fn first_at<H: Holder>(holder: &H, group: Draw) -> Option<usize>
 
 /// The place of a group's replica, if there is one.
 #[tactic(auto, using(crate::proofs::PlacesStanding::place_is))]
-pub fn replica_place<H: Holder>(holder: &H, group: Draw) -> Option<usize>
+pub(crate) fn replica_place<H: Holder>(holder: &H, group: Draw) -> Option<usize>
     ensures { IsPlaceOf group (H.node holder.now).replicas result }
 {
     first_at(holder, group)
@@ -39,7 +39,7 @@ pub fn replica_place<H: Holder>(holder: &H, group: Draw) -> Option<usize>
 
 /// Whether there is a replica of a group.
 #[tactic(auto, using(crate::proofs::PlacesStanding::known_by))]
-pub fn has_replica<H: Holder>(holder: &H, group: Draw) -> bool
+pub(crate) fn has_replica<H: Holder>(holder: &H, group: Draw) -> bool
     ensures { result ≡ is_some (replica_of group (H.node holder.now).replicas) }
 {
     first_at(holder, group).is_some()

@@ -13,10 +13,10 @@ use std::thread;
 use std::thread::Threads;
 
 /// A queue under the rule.
-pub type Bench<T> = RuledArrayQueue<Item<T>, Hand<T>, OneHolder<T>>;
+pub(crate) type Bench<T> = RuledArrayQueue<Item<T>, Hand<T>, OneHolder<T>>;
 
 /// One of the passes to it.
-pub type Holder<T> = Pass<Item<T>, Hand<T>>;
+pub(crate) type Holder<T> = Pass<Item<T>, Hand<T>>;
 
 // Puts one more. There is room, since no more is in the queue than this pass has put.
 fn put<T: Drop, R: Wait>(rt: &R, bench: &Bench<T>, pass: &mut Holder<T>, work: T, place: usize)
@@ -73,7 +73,7 @@ fn cut<T: Drop>(
 
 /// What one thread did: its pass, what came of what it took, and whether it found the queue empty.
 #[derive(Drop)]
-pub struct Done<T, X> {
+pub(crate) struct Done<T, X> {
     pub pass: Holder<T>,
     pub kept: Vec<Item<X>>,
     pub whole: bool,

@@ -44,7 +44,7 @@ fn go<A, M: Parcel, O: Drop>(stage: &Stage<A, M, O>, who: u32) -> Option<Action<
 }
 
 /// The action of a line of one row, or none where the line is skipped.
-pub fn line_action<A, M: Parcel, O: Dup + Drop>(
+pub(crate) fn line_action<A, M: Parcel, O: Dup + Drop>(
     alloc: Global,
     stage: &Stage<A, M, O>,
     line: &Line<O>,
@@ -82,7 +82,7 @@ pub fn line_action<A, M: Parcel, O: Dup + Drop>(
 }
 
 /// The delivery of the lowest-numbered pending mail of all, or none where no mail is pending.
-pub fn lowest_action<A, M: Parcel, O>(stage: &Stage<A, M, O>) -> Option<Action<O>>
+pub(crate) fn lowest_action<A, M: Parcel, O>(stage: &Stage<A, M, O>) -> Option<Action<O>>
     requires { IsUpToDate M.receiver stage.now }
     ensures is { result
         ≡ lowest_action M.receiver (numbers_of stage.now.seats.items) stage.now.rows }
@@ -99,7 +99,7 @@ pub fn lowest_action<A, M: Parcel, O>(stage: &Stage<A, M, O>) -> Option<Action<O
 }
 
 /// The delivery of the first pending mail of an actor, or none where it has no pending mail.
-pub fn first_action<A, M: Parcel, O>(stage: &Stage<A, M, O>, who: u32) -> Option<Action<O>>
+pub(crate) fn first_action<A, M: Parcel, O>(stage: &Stage<A, M, O>, who: u32) -> Option<Action<O>>
     requires { IsUpToDate M.receiver stage.now }
     ensures is { result
         ≡ line_action M.receiver (numbers_of stage.now.seats.items) stage.now.rows
@@ -160,7 +160,7 @@ fn delivered<A, M: Parcel, O>(stage: &Stage<A, M, O>, word: u32) -> Option<Actio
 
 /// The action of a step of a storm, by its first word modulo 16 and by the second, or none where it
 /// does nothing.
-pub fn storm_action<A, M: Parcel, O: Drop>(
+pub(crate) fn storm_action<A, M: Parcel, O: Drop>(
     stage: &Stage<A, M, O>,
     kind: u32,
     word: u32,

@@ -147,7 +147,7 @@ fn add_open<A, M: Parcel>(
 }
 
 /// Copies of the mails that are sent.
-pub fn add_mails<M: Dup + Drop>(
+pub(crate) fn add_mails<M: Dup + Drop>(
     alloc: Global,
     mails: &mut Vec<M>,
     sent: &[M],
@@ -161,7 +161,7 @@ pub fn add_mails<M: Dup + Drop>(
 }
 
 /// Appends a row to the journal of a stage.
-pub fn append<A, M: Parcel + Drop, O: Drop>(
+pub(crate) fn append<A, M: Parcel + Drop, O: Drop>(
     alloc: Global,
     stage: &mut Stage<A, M, O>,
     row: Row<M, O>,

@@ -2,7 +2,7 @@
 
 /// The rows go on after the line, they end in it, or one of them is wrong.
 #[derive(Clone, Copy, Debug, PartialEq, Eq)]
-pub enum Checked {
+pub(crate) enum Checked {
     On,
     Ended,
     Wrong,

@@ -201,7 +201,7 @@ where
 }
 
 /// Checks a line against the rows from where the stage stands.
-pub fn check_line<A: Actor>(
+pub(crate) fn check_line<A: Actor>(
     alloc: Global,
     stage: &mut Stage<A, A::Mail, A::Order>,
     line: &Line<A::Order>,

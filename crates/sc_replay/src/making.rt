@@ -75,7 +75,7 @@ fn is_of_network<O>(event: &Event<O>) -> bool
 }
 
 /// Does an action: its actor takes the event, and its row is answered.
-pub fn make_row<A: Actor>(
+pub(crate) fn make_row<A: Actor>(
     alloc: Global,
     seats: &mut Vec<Seat<A>>,
     mails: &[A::Mail],

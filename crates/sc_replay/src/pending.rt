@@ -11,7 +11,7 @@ use crate::stages::{OpenCopy, Stage};
 use sc_actor::{Event, Parcel, Seat};
 
 /// Whether an event is a crash.
-pub fn is_crash<O>(event: &Event<O>) -> bool
+pub(crate) fn is_crash<O>(event: &Event<O>) -> bool
     ensures { result ≡ is_crash event.now }
 {
     match event {
@@ -21,7 +21,7 @@ pub fn is_crash<O>(event: &Event<O>) -> bool
 }
 
 /// Whether an event tells to go.
-pub fn is_go<O>(event: &Event<O>) -> bool
+pub(crate) fn is_go<O>(event: &Event<O>) -> bool
     ensures { result ≡ is_go event.now }
 {
     match event {
@@ -44,21 +44,21 @@ fn has_seat<A>(seats: &[Seat<A>], who: u32) -> bool
 }
 
 /// Whether there is an actor with a number.
-pub fn is_actor<A>(seats: &[Seat<A>], who: u32) -> bool
+pub(crate) fn is_actor<A>(seats: &[Seat<A>], who: u32) -> bool
     ensures { result ≡ is_number (numbers_of seats.now) who }
 {
     has_seat(seats, who)
 }
 
 /// Whether there is an actor with a number that is not among the crashed.
-pub fn runs<A>(seats: &[Seat<A>], crashed: &[u32], who: u32) -> bool
+pub(crate) fn runs<A>(seats: &[Seat<A>], crashed: &[u32], who: u32) -> bool
     ensures { result ≡ runs (numbers_of seats.now) crashed.now who }
 {
     is_actor(seats, who) && !is_among(crashed, who)
 }
 
 /// Whether an actor was told to go.
-pub fn has_gone<A, M: Parcel, O>(stage: &Stage<A, M, O>, who: u32) -> bool
+pub(crate) fn has_gone<A, M: Parcel, O>(stage: &Stage<A, M, O>, who: u32) -> bool
     requires { IsUpToDate M.receiver stage.now }
     ensures { result ≡ has_gone stage.now.rows who }
 {
@@ -66,7 +66,7 @@ pub fn has_gone<A, M: Parcel, O>(stage: &Stage<A, M, O>, who: u32) -> bool
 }
 
 /// Whether there is an actor with a number that has not crashed.
-pub fn may_get<A, M: Parcel, O>(stage: &Stage<A, M, O>, who: u32) -> bool
+pub(crate) fn may_get<A, M: Parcel, O>(stage: &Stage<A, M, O>, who: u32) -> bool
     requires { IsUpToDate M.receiver stage.now }
     ensures { result ≡ may_get (numbers_of stage.now.seats.items) stage.now.rows who }
 {
@@ -102,7 +102,7 @@ fn kth_for(copies: &[OpenCopy], who: u32, k: u64) -> Option<u32>
 }
 
 /// The number of the k-th pending mail of a stage, from 1, of one actor or of all.
-pub fn waiting<A, M: Parcel, O>(stage: &Stage<A, M, O>, whose: Option<u32>, k: u64) -> Option<u32>
+pub(crate) fn waiting<A, M: Parcel, O>(stage: &Stage<A, M, O>, whose: Option<u32>, k: u64) -> Option<u32>
     requires { IsUpToDate M.receiver stage.now }
     ensures number { result
         ≡ kth (pending M.receiver (numbers_of stage.now.seats.items) stage.now.rows whose) k }
@@ -120,7 +120,7 @@ pub fn waiting<A, M: Parcel, O>(stage: &Stage<A, M, O>, whose: Option<u32>, k: u
 }
 
 /// Whether a stage has no pending mail.
-pub fn is_quiet<A, M: Parcel, O>(stage: &Stage<A, M, O>) -> bool
+pub(crate) fn is_quiet<A, M: Parcel, O>(stage: &Stage<A, M, O>) -> bool
     requires { IsUpToDate M.receiver stage.now }
     ensures { result
         ≡ is_none
@@ -139,7 +139,7 @@ fn count_pending<A, M: Parcel, O>(stage: &Stage<A, M, O>) -> usize
 }
 
 /// The number of the pending mail at the place that a word gives, counted from 0.
-pub fn picked<A, M: Parcel, O>(stage: &Stage<A, M, O>, word: u32) -> Option<u32>
+pub(crate) fn picked<A, M: Parcel, O>(stage: &Stage<A, M, O>, word: u32) -> Option<u32>
     requires { IsUpToDate M.receiver stage.now }
     ensures number { result
         ≡ picked_mail M.receiver (numbers_of stage.now.seats.items) stage.now.rows word }

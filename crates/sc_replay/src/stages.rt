@@ -3,7 +3,7 @@ use sc_actor::{Event, Journal, Seat};
 
 /// A pending copy of a mail: the mail's number, and the actor that it goes to.
 #[derive(Clone, Copy, Debug, PartialEq, Eq)]
-pub struct OpenCopy {
+pub(crate) struct OpenCopy {
     pub number: u32,
     pub to: u32,
 }
@@ -12,7 +12,7 @@ pub struct OpenCopy {
 /// asks for a look at all rows before it, the pending copies are kept in ascending order of their
 /// mail, and the actors that were told to go, and that crashed, in the order of their rows.
 #[derive(Drop)]
-pub struct Stage<A, M, O> {
+pub(crate) struct Stage<A, M, O> {
     pub seats: Vec<Seat<A>>,
     pub rows: Journal<M, O>,
     pub mails: Vec<M>,
@@ -25,7 +25,7 @@ pub struct Stage<A, M, O> {
 
 /// Who acts next, at what event. The network's number counts for nothing.
 #[derive(Drop)]
-pub struct Action<O> {
+pub(crate) struct Action<O> {
     pub who: u32,
     pub event: Event<O>,
 }

@@ -14,4 +14,4 @@ pub use queues::{
     add_call, call_of, drop_call, head, is_empty, push_back, push_front, put_call, take_head,
 };
 pub use ready::{drop_ready, put_ready, ready_at};
-pub use rounds::{send_accepts, send_install, send_learn, send_learns, send_prepares};
+pub use rounds::{send_accepts, send_install, send_learns, send_prepares};

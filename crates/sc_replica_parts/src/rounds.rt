@@ -68,8 +68,8 @@ pub fn send_accepts(
     Ok(())
 }
 
-/// One learn.
-pub fn send_learn(
+// One learn.
+fn send_learn(
     alloc: Global,
     me: u16,
     group: Draw,

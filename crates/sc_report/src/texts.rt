@@ -7,7 +7,7 @@ use sc_base::{Op, OutOfMemory};
 use std::alloc::Global;
 
 /// Adds some bytes to a line.
-pub fn add_text(line: &mut Vec<u8>, text: &[u8]) -> Result<(), OutOfMemory>
+pub(crate) fn add_text(line: &mut Vec<u8>, text: &[u8]) -> Result<(), OutOfMemory>
     ensures { OnOk result (line.new.items ≡ line.old.items ++ text.now) }
 {
     line.extend_from_slice(text)?;
@@ -15,7 +15,7 @@ pub fn add_text(line: &mut Vec<u8>, text: &[u8]) -> Result<(), OutOfMemory>
 }
 
 /// Adds a number in decimal digits.
-pub fn add_number(alloc: Global, line: &mut Vec<u8>, n: u64) -> Result<(), OutOfMemory>
+pub(crate) fn add_number(alloc: Global, line: &mut Vec<u8>, n: u64) -> Result<(), OutOfMemory>
     ensures { OnOk result (line.new.items ≡ line.old.items ++ decimal n) }
 {
     let digits = format!(in alloc; "{n}")?;
@@ -24,7 +24,7 @@ pub fn add_number(alloc: Global, line: &mut Vec<u8>, n: u64) -> Result<(), OutOf
 }
 
 /// Ends a line.
-pub fn add_end(line: &mut Vec<u8>) -> Result<(), OutOfMemory>
+pub(crate) fn add_end(line: &mut Vec<u8>) -> Result<(), OutOfMemory>
     ensures { OnOk result (line.new.items ≡ line.old.items ++ 10 ∷ []) }
 {
     line.push(b'\n')?;
@@ -32,7 +32,7 @@ pub fn add_end(line: &mut Vec<u8>) -> Result<(), OutOfMemory>
 }
 
 /// Adds each node after a blank.
-pub fn add_nodes(alloc: Global, line: &mut Vec<u8>, nodes: &[u16]) -> Result<(), OutOfMemory>
+pub(crate) fn add_nodes(alloc: Global, line: &mut Vec<u8>, nodes: &[u16]) -> Result<(), OutOfMemory>
     ensures { OnOk result (line.new.items ≡ with_nodes line.old.items nodes.now) }
 {
     for node in nodes {
@@ -43,7 +43,7 @@ pub fn add_nodes(alloc: Global, line: &mut Vec<u8>, nodes: &[u16]) -> Result<(),
 }
 
 /// A line of a label and a number.
-pub fn counted(alloc: Global, label: &[u8], n: u64) -> Result<Vec<u8>, OutOfMemory>
+pub(crate) fn counted(alloc: Global, label: &[u8], n: u64) -> Result<Vec<u8>, OutOfMemory>
     ensures { IfOk result (λ line. line.items ≡ count_line label.now n) }
 {
     let mut line = Vec::from_slice(alloc, label)?;
@@ -53,7 +53,7 @@ pub fn counted(alloc: Global, label: &[u8], n: u64) -> Result<Vec<u8>, OutOfMemo
 }
 
 /// The word of an operation.
-pub fn op_word(op: &Op) -> &'static [u8]
+pub(crate) fn op_word(op: &Op) -> &'static [u8]
     ensures { result.now ≡ op_word op.now }
 {
     match op {

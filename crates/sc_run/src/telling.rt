@@ -11,7 +11,7 @@ use sc_report::ReportLine;
 use std::alloc::Global;
 
 /// A text of one line, about no journal.
-pub fn tells(alloc: Global, message: &[u8]) -> Result<Text, OutOfMemory>
+pub(crate) fn tells(alloc: Global, message: &[u8]) -> Result<Text, OutOfMemory>
     ensures { IfOk result (λ text. TellsLine message.now text) }
 {
     let mut bytes = Vec::from_slice(alloc, message)?;

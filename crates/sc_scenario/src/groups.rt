@@ -14,7 +14,7 @@ use std::alloc::Global;
 const MOST_NAMES: usize = 4_294_967_294;
 
 /// The nodes with those that the words spell, if each spells one.
-pub fn nodes_with(
+pub(crate) fn nodes_with(
     nodes: Sequence<u16>,
     words: &[&[u8]],
 ) -> Result<Option<Sequence<u16>>, OutOfMemory>
@@ -39,7 +39,7 @@ fn is_among(nodes: &[u16], node: u16) -> bool
 }
 
 /// Whether a node stands twice.
-pub fn has_repeat(nodes: &[u16]) -> bool
+pub(crate) fn has_repeat(nodes: &[u16]) -> bool
     ensures { result ≡ has_repeat nodes.now }
 {
     for (i, node) in nodes.iter().enumerate() {
@@ -51,7 +51,7 @@ pub fn has_repeat(nodes: &[u16]) -> bool
 }
 
 /// Whether this node or one of the others stands twice.
-pub fn have_repeat(node: u16, others: &[u16]) -> bool
+pub(crate) fn have_repeat(node: u16, others: &[u16]) -> bool
     ensures { result ≡ has_repeat (node ∷ others.now) }
 {
     is_among(others, node) || has_repeat(others)
@@ -68,7 +68,7 @@ fn joined_by(members: Members, node: u16) -> Members
 }
 
 /// The set of a node and others; a tenth is left out.
-pub fn set_of(node: u16, others: &[u16]) -> Members
+pub(crate) fn set_of(node: u16, others: &[u16]) -> Members
     ensures { result ≡ set_of node others.now }
 {
     let mut members = Members::one(node);

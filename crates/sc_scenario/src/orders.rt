@@ -12,7 +12,7 @@ use std::alloc::Global;
 const MOST_NAMES: u32 = 4_294_967_295;
 
 /// The last position of the circle.
-pub const LAST_POSITION: u64 = 4_294_967_295;
+pub(crate) const LAST_POSITION: u64 = 4_294_967_295;
 
 fn name_of(parts: &[&[u8]]) -> Option<Draw>
     ensures { result ≡ name_in_parts (map (λ part. part.now) parts.now) }
@@ -97,7 +97,7 @@ fn migrate_in(alloc: Global, words: &[&[u8]]) -> Result<Order, LineFault>
 
 /// The order of this kind that the words of a line spell; or the first that is no number of a
 /// node, a group or a position.
-pub fn order_in(alloc: Global, kind: OrderKind, words: &[&[u8]]) -> Result<Order, LineFault>
+pub(crate) fn order_in(alloc: Global, kind: OrderKind, words: &[&[u8]]) -> Result<Order, LineFault>
     ensures { IsSaid (order_in kind (map (λ word. word.now) words.now)) result }
 {
     match kind {

@@ -36,7 +36,7 @@ fn may_follow(last: u8, phase: u8) -> bool
 }
 
 /// Whether a line of this kind may stand outside the sections, behind what was read so far.
-pub fn may_stand(draft: &Draft, kind: Kind) -> bool
+pub(crate) fn may_stand(draft: &Draft, kind: Kind) -> bool
     ensures { result ≡ is_in_place (Outside draft.now) kind }
 {
     !is_inner(kind) && may_follow(phase_so_far(draft), phase_of(kind))

@@ -96,7 +96,7 @@ fn storm_in(words: &[&[u8]]) -> Result<SchedLine, Reason>
 }
 
 /// The line of this kind that the words spell, if each is a number or an actor of its range.
-pub fn line_in(kind: LineKind, words: &[&[u8]]) -> Result<SchedLine, Reason>
+pub(crate) fn line_in(kind: LineKind, words: &[&[u8]]) -> Result<SchedLine, Reason>
     ensures { result ≡ line_in kind (map (λ word. word.now) words.now) }
 {
     match kind {

@@ -15,7 +15,7 @@ use std::alloc::Global;
 
 /// What a line says.
 #[derive(Drop)]
-pub enum Statement {
+pub(crate) enum Statement {
     NodeCount(u16),
     /// Where a group begins, its first node as it is listed, and its other nodes.
     NewGroup(u32, u16, Sequence<u16>),
@@ -61,7 +61,7 @@ fn order_said(alloc: Global, kind: OrderKind, words: &[&[u8]]) -> Result<Stateme
 }
 
 /// What a line of this kind with these words says, or the first reason why it says nothing.
-pub fn statement_in(alloc: Global, kind: Kind, words: &[&[u8]]) -> Result<Statement, LineFault>
+pub(crate) fn statement_in(alloc: Global, kind: Kind, words: &[&[u8]]) -> Result<Statement, LineFault>
     ensures { IsSaid (statement_in kind (map (λ word. word.now) words.now)) result }
 {
     match kind {

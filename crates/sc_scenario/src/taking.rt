@@ -229,7 +229,7 @@ fn with_policy(draft: Draft) -> Draft
 }
 
 /// What was read, with a statement outside the sections.
-pub fn taken_outside(
+pub(crate) fn taken_outside(
     alloc: Global,
     draft: Draft,
     statement: Statement,
@@ -250,7 +250,7 @@ pub fn taken_outside(
 }
 
 /// What was read, with a statement inside a client's section.
-pub fn taken_within(draft: Draft, asks: Asks, statement: Statement) -> Result<Reading, LineFault>
+pub(crate) fn taken_within(draft: Draft, asks: Asks, statement: Statement) -> Result<Reading, LineFault>
     ensures { IsSaid (taken_within draft asks statement) result }
 {
     match statement {
