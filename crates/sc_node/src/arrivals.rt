@@ -6,8 +6,8 @@ ghost use Rattle.sc_node_table.specs.Rows.{made_by};
 ghost use Rattle.sc_node_table.specs.Node.{is_before, with_new, with_made, with_born, with_children, unknown, may_come};
 
 use crate::absent::absent;
-use crate::places::has_replica;
 use crate::node::NodeCore;
+use crate::places::has_replica;
 use sc_base::{Draw, Dup, OutOfMemory, Sequence};
 use sc_cmd::{Base, MemberSets};
 use sc_mail::{Mail, MailBody};

@@ -9,8 +9,8 @@ ghost use Rattle.sc_node.specs.Places.{StandsAt};
 
 use crate::absent::{group_in, may_come};
 use crate::arrivals::is_before;
-use crate::rows::take_mail;
 use crate::places::replica_place;
+use crate::rows::take_mail;
 use crate::ticking::tick_each;
 use sc_actor::{Actor, Input};
 use sc_base::{Draw, Draws, Dup, OutOfMemory, Sequence};

@@ -8,7 +8,10 @@ use sc_mail::Mail;
 
 /// Each replica ticks, in their order, with the names that those before it left; what is sent comes
 /// into `sent`, which was empty. After want of memory the holder may only be dropped.
-pub(crate) fn tick_each<H: Holder>(holder: &mut H, sent: &mut Sequence<Mail>) -> Result<(), OutOfMemory>
+pub(crate) fn tick_each<H: Holder>(
+    holder: &mut H,
+    sent: &mut Sequence<Mail>,
+) -> Result<(), OutOfMemory>
     requires { sent.old ≡ [] }
     ensures { OnOk result (on_tick (H.node holder.old) ≡ (H.node holder.new, sent.new)) }
 {

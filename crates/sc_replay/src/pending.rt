@@ -102,7 +102,11 @@ fn kth_for(copies: &[OpenCopy], who: u32, k: u64) -> Option<u32>
 }
 
 /// The number of the k-th pending mail of a stage, from 1, of one actor or of all.
-pub(crate) fn waiting<A, M: Parcel, O>(stage: &Stage<A, M, O>, whose: Option<u32>, k: u64) -> Option<u32>
+pub(crate) fn waiting<A, M: Parcel, O>(
+    stage: &Stage<A, M, O>,
+    whose: Option<u32>,
+    k: u64,
+) -> Option<u32>
     requires { IsUpToDate M.receiver stage.now }
     ensures number { result
         ≡ kth (pending M.receiver (numbers_of stage.now.seats.items) stage.now.rows whose) k }

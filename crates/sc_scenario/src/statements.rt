@@ -61,7 +61,11 @@ fn order_said(alloc: Global, kind: OrderKind, words: &[&[u8]]) -> Result<Stateme
 }
 
 /// What a line of this kind with these words says, or the first reason why it says nothing.
-pub(crate) fn statement_in(alloc: Global, kind: Kind, words: &[&[u8]]) -> Result<Statement, LineFault>
+pub(crate) fn statement_in(
+    alloc: Global,
+    kind: Kind,
+    words: &[&[u8]],
+) -> Result<Statement, LineFault>
     ensures { IsSaid (statement_in kind (map (λ word. word.now) words.now)) result }
 {
     match kind {

@@ -250,7 +250,11 @@ pub(crate) fn taken_outside(
 }
 
 /// What was read, with a statement inside a client's section.
-pub(crate) fn taken_within(draft: Draft, asks: Asks, statement: Statement) -> Result<Reading, LineFault>
+pub(crate) fn taken_within(
+    draft: Draft,
+    asks: Asks,
+    statement: Statement,
+) -> Result<Reading, LineFault>
     ensures { IsSaid (taken_within draft asks statement) result }
 {
     match statement {
