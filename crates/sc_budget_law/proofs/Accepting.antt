@@ -36,7 +36,8 @@ use Rattle.sc_budget_law.specs.Frames.{Frame, IsFrame}
 use Rattle.sc_budget_law.specs.Owed.{replica_owes}
 use Rattle.sc_budget_law.specs.PlainMail.{Requests, IsPlainCall}
 use Rattle.sc_budget_law.specs.PlainNode.{AreTaken, IsPlainLeader, IsPlainFollower, IsPlainVoter, IsPlainReplica, HasOffered}
-use Rattle.sc_budget_law.proofs.Entry.{entered_next, entered_plain, learnt_call}
+use Rattle.sc_law_lemmas.proofs.Entries.{entered_next}
+use Rattle.sc_budget_law.proofs.Entry.{entered_plain, learnt_call}
 use Rattle.sc_budget_law.proofs.Leading.{IsHeld}
 use Rattle.sc_budget_law.proofs.Sends.{mail_of}
 use Rattle.sc_budget_law.proofs.Served.{IsServed, call_plain}

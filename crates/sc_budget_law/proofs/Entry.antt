@@ -26,6 +26,7 @@ use Rattle.sc_node_table.specs.Mails.{answer_to, sent_others}
 use Rattle.sc_node_table.specs.Replica.{ReplicaState, Place, name_of, next, members, flying, floor_of, forgotten, waits_in}
 use Rattle.sc_node_table.specs.Slots.{rest_of, numbers_from, slots_ahead}
 use Rattle.sc_node_table.specs.Spoken.{before_of, spoken, spoken_mails, told_begun, went_on}
+use Rattle.sc_law_lemmas.proofs.Entries.{floor_under, entered_next}
 use Rattle.sc_law_lemmas.proofs.Places.{cleared}
 use Rattle.sc_paxos_law.proofs.Among.{among-member}
 use Rattle.sc_budget_law.specs.Frames.{Frame, IsFrame}
@@ -43,24 +44,6 @@ none_new : (before now : List ℕ) → now ≡ before → filter (λ node. not (
 none_new before now e = none_passes (λ node. not (is_member before node)) now (λ x a. ap not (ap (λ xs. is_member xs x) (sym e) ∙ among-member now x a))
 
 -- ---- the log
-
-entry_is : (command : Command) (log : LogState Command) → with_entry command log ≡ record log { entries = log.entries ++ command ∷ [] }
-entry_is command log = ap (λ (p : Learnt × LogState Command). p.1) (cond-true (eqb (next_of log) (next_of log)) _ _ (eq-eqb (next_of log) (next_of log) refl))
-
-floor_under : (last : ℕ) → 1 ≤ last → floor_of last + 1 ≤ last
-floor_under last some = omega arith
-
-cut_next : (upto : ℕ) (log : LogState Command) → upto ≤ log.base + length log.entries → next_of (log_cut upto log) ≡ next_of log
-cut_next upto log low = let d = length-drop (upto - log.base) log.entries in omega (arith, low, d)
-
--- one more slot is executed
-pub entered_next : (command : Command) (r : ReplicaState) → next (entered command r) ≡ next r + 1
-unfolding entered forgotten
-entered_next command r =
-    let log : LogState Command = record r.log { entries = r.log.entries ++ command ∷ [] } in
-    let longer = length_push r.log.entries command in
-    let low = floor_under (next r) (omega arith) in
-    ap (λ l. next_of (log_cut (floor_of (next r)) l)) (entry_is command r.log) ∙ cut_next (floor_of (next r)) log (omega (arith, longer, low)) ∙ omega (arith, longer)
 
 module _ (begun : Requests) (frame : Frame) (is : IsFrame frame) where
   waits_none : (lock : Lock) (waits : ℕ) → lock ≡ Free → waits_in lock waits ≡ 0

@@ -25,7 +25,8 @@ use Rattle.sc_budget_law.specs.Owed.{mail_owes, replica_owes}
 use Rattle.sc_budget_law.specs.PlainMail.{Requests, IsPlainCommand, IsPlainCall}
 use Rattle.sc_budget_law.specs.PlainNode.{takers, IsPlainFlight, IsPlainLeader, IsPlainReplica}
 use Rattle.sc_budget_law.proofs.Counts.{one_if, one_yes, one_no, entries_at, out_none, out_length, out_here, out_other, out_each, out_among, at_found, at_only}
-use Rattle.sc_budget_law.proofs.Entry.{entered_next, entered_plain, told_after, counted_call}
+use Rattle.sc_law_lemmas.proofs.Entries.{entered_next}
+use Rattle.sc_budget_law.proofs.Entry.{entered_plain, told_after, counted_call}
 use Rattle.sc_budget_law.proofs.Leading.{in_range, range_yes, range_less, flights_at, IsHeld, IsToldOf, IsSaid, later_row, Leads}
 use Rattle.sc_budget_law.proofs.Sends.{learns_to, mail_of, owed_push, learns_push, last_among, others_each, others_kept, others_owed, learns_one, member_counts, numbers_push, roster_rises, among_push}
 use Rattle.sc_budget_law.proofs.Served.{IsServed, call_plain}

@@ -1,16 +1,3 @@
-pub mod FollowingCounted
-pub mod FollowingElected
-pub mod FollowingElects
-pub mod FollowingEntries
-pub mod FollowingExecuted
-pub mod FollowingKeeps
-pub mod FollowingLeads
-pub mod FollowingLearn
-pub mod FollowingMarks
-pub mod FollowingNodes
-pub mod FollowingOffers
-pub mod FollowingQuiet
-pub mod FollowingSpoken
 pub mod OwedAsks
 pub mod OwedCalls
 pub mod OwedChanges

@@ -19,18 +19,20 @@ use Rattle.sc_node_table.specs.Execute.{entered, looked, executed_one, next_chil
 use Rattle.sc_node_table.specs.Pump.{pumped}
 use Rattle.sc_node_table.specs.Replica.{ReplicaState, Place, Executed, childless, next, members}
 use Rattle.sc_node_table.specs.Slots.{without_slot}
-use Rattle.sc_calm_law.specs.Executing.{AreBounded, EndsAfter, LeavesFew, IsWatchPaid, IsPaid, MayGoOn, IfThere, ArePaid, AllPaid}
+use Rattle.sc_law_lemmas.specs.Steps.{IfThere}
+use Rattle.sc_calm_law.specs.Executing.{AreBounded, EndsAfter, LeavesFew, IsWatchPaid, IsPaid, MayGoOn, ArePaid, AllPaid}
 use Rattle.sc_calm_law.specs.Laws.{said_place, newcomers, AreNines, MayPump, IsChange, LeadsOn, StopsAfter, ExecutesFreely}
 use Rattle.sc_calm_law.specs.Owed.{Ways, election, offered_owes, mail_owes, place_owes}
 use Rattle.sc_calm_law.proofs.OwedPump.{pump_owes}
-use Rattle.sc_calm_law.proofs.OwedLearn.{IsFresh, looked_fresh, idle_pump, unbound_new}
+use Rattle.sc_law_lemmas.proofs.Entries.{entered_next, idle_pump}
+use Rattle.sc_calm_law.proofs.OwedLearn.{IsFresh, looked_fresh, unbound_new}
 use Rattle.sc_calm_law.proofs.OwedCounted.{Counts, counted_ends, counted_owes, leaving_owes, left_same, looked_same, left_stops, stops_idle}
 use Rattle.sc_calm_law.proofs.OwedChanges.{silent_said, changes_owe, leader_leaves}
 use Rattle.sc_calm_law.proofs.OwedCalls.{call_leads, call_said, call_owes}
 use Rattle.sc_calm_law.proofs.OwedTransactions.{SaysMost, few_added, begin_new, split_new, prepared_new, watched_new, finish_new, begin_said, split_said, split_alone_said, prepared_said, watched_said, finish_said, vote_said, vote_quiet_said, vote_new, watch_said, watch_first_said}
 use Rattle.sc_calm_law.proofs.OwedIdle.{idle_paid}
 use Rattle.sc_calm_law.proofs.OwedEnds.{ending_owes, ends_paid}
-use Rattle.sc_calm_law.proofs.OwedKept.{pumped_goes_on, entered_next, entered_nines}
+use Rattle.sc_calm_law.proofs.OwedKept.{pumped_goes_on, entered_nines}
 
 module _ (ways : Ways) where
   -- ---- one entry

@@ -4,7 +4,8 @@ use Rattle.sc_cmd.specs.declared.commands.Command.{Command}
 use Rattle.sc_node_table.specs.Execute.{executed_one, has_room}
 use Rattle.sc_node_table.specs.Replica.{Place, next}
 use Rattle.sc_node_table.specs.Slots.{at_slot}
-use Rattle.sc_calm_law.specs.Executing.{IsPaid, MayGoOn, IfThere, ArePaid}
+use Rattle.sc_law_lemmas.specs.Steps.{IfThere}
+use Rattle.sc_calm_law.specs.Executing.{IsPaid, MayGoOn, ArePaid}
 
 pub idle_paid : (es : List (ℕ × Command)) (place : Place) → place.0.running ≡ false → ArePaid es place
 idle_paid [] place off = λ runs. absurd (true≢false (sym runs ∙ off))

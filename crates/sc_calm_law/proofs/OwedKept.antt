@@ -89,24 +89,6 @@ pumped_goes_on place may = unframed (pumped place).0 (subst MayGoOn (sym (pump_k
 
 -- ---- an entry takes a slot
 
-entry_is : (command : Command) (log : LogState Command) → with_entry command log ≡ record log { entries = log.entries ++ command ∷ [] }
-entry_is command log = ap (λ (p : Learnt × LogState Command). p.1) (cond-true (eqb (next_of log) (next_of log)) _ _ (eq-eqb (next_of log) (next_of log) refl))
-
-floor_under : (last : ℕ) → 1 ≤ last → floor_of last + 1 ≤ last
-floor_under last some = omega arith
-
-cut_next : (upto : ℕ) (log : LogState Command) → upto ≤ log.base + length log.entries → next_of (log_cut upto log) ≡ next_of log
-cut_next upto log low = let d = length-drop (upto - log.base) log.entries in omega (arith, low, d)
-
--- one more slot is executed
-pub entered_next : (command : Command) (r : ReplicaState) → next (entered command r) ≡ next r + 1
-unfolding entered forgotten
-entered_next command r =
-    let log : LogState Command = record r.log { entries = r.log.entries ++ command ∷ [] } in
-    let longer = length_push r.log.entries command in
-    let low = floor_under (next r) (omega arith) in
-    ap (λ l. next_of (log_cut (floor_of (next r)) l)) (entry_is command r.log) ∙ cut_next (floor_of (next r)) log (omega (arith, longer, low)) ∙ omega (arith, longer)
-
 nines_push : (sets : List (List ℕ)) (set : List ℕ) → AreNines sets → length set ≤ 9 → AreNines (rest_of sets ++ set ∷ [])
 nines_push [] set few small = (small, tt)
 nines_push (first ∷ sets) set few small = push sets few.1

@@ -18,6 +18,7 @@ use Rattle.sc_node_table.specs.Pump.{pumped, pumped_from}
 use Rattle.sc_node_table.specs.Replica.{ReplicaState, Place, Executed, childless, name_of, next, members, first_set, may_offer, last_slot}
 use Rattle.sc_node_table.specs.Rows.{learn_row}
 use Rattle.sc_node_table.specs.Slots.{at_slot}
+use Rattle.sc_law_lemmas.proofs.Entries.{idle_ready, idle_pump}
 use Rattle.sc_calm_law.specs.Laws.{AreNines, Follows}
 use Rattle.sc_calm_law.specs.Owed.{Ways, place_owes}
 use Rattle.sc_calm_law.proofs.OwedPump.{pump_owes}
@@ -59,21 +60,6 @@ looked_fresh r mails stopped few = by r.running stopped r.group.core.gone
     by false e went = by_gone r.group.core.gone
 
 -- ---- what follows the entry
-
-pub idle_ready : (es : List (ℕ × Command)) (place : Place) → place.0.running ≡ false → executed_ready es place ≡ childless place
-unfolding executed_ready
-idle_ready [] place stopped = refl
-idle_ready (e ∷ es) place stopped =
-    ap (λ (o : Option Command). elim o [ None ↦ childless place | Some command ↦ ending (next_child command place.0) (executed_ready es (executed_one true command place)) ])
-    (ap (λ b. cond (b && has_room place.0) (at_slot place.0.ready (next place.0)) None) stopped)
-
-pub idle_pump : (place : Place) → place.0.running ≡ false → pumped place ≡ place
-unfolding pumped
-idle_pump place stopped = ap (λ b. cond b (pumped_from (next place.0) place.0.sets place) place) (all_false place.0.running stopped)
-  where
-    all_false : (b : Bool) → b ≡ false → ((b && may_offer place.0 (first_set place.0.sets)) && nat_le (next place.0) last_slot) ≡ false
-    all_false true e = absurd (true≢false e)
-    all_false false e = refl
 
 ready_none : (es : List (ℕ × Command)) (place : Place) → es ≡ [] → executed_ready es place ≡ childless place
 unfolding executed_ready

@@ -19,7 +19,7 @@ use Rattle.sc_calm_law.specs.Led.{led_owes, StaysBehind, EndsLeaveNone, LearnsLe
 use Rattle.sc_calm_law.specs.Owed.{Ways}
 use Rattle.sc_calm_law.proofs.OwedEnds.{looked_gone}
 use Rattle.sc_calm_law.proofs.OwedExecuting.{near}
-use Rattle.sc_calm_law.proofs.OwedLearn.{idle_ready, idle_pump}
+use Rattle.sc_law_lemmas.proofs.Entries.{idle_ready, idle_pump}
 use Rattle.sc_calm_law.proofs.OwedLearnt.{learnt_ends}
 
 module _ (ways : Ways) where

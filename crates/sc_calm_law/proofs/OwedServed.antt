@@ -13,7 +13,8 @@ use Rattle.sc_paxos_words.specs.Leaders.{flight_at, without_flight}
 use Rattle.sc_node_table.specs.Execute.{entered, looked, executed_one, has_room, next_ready}
 use Rattle.sc_node_table.specs.Replica.{ReplicaState, Place, next, members}
 use Rattle.sc_node_table.specs.Slots.{at_slot, with_slot, without_slot}
-use Rattle.sc_calm_law.specs.Executing.{AreBounded, IsServed, IsServedCall, ServesAll, IsPaid, MayGoOn, IfThere, ArePaid, AllPaid}
+use Rattle.sc_law_lemmas.specs.Steps.{IfThere}
+use Rattle.sc_calm_law.specs.Executing.{AreBounded, IsServed, IsServedCall, ServesAll, IsPaid, MayGoOn, ArePaid, AllPaid}
 use Rattle.sc_calm_law.specs.Laws.{IsCounting, readied_at, DecidesFreely}
 use Rattle.sc_calm_law.specs.Owed.{Ways}
 use Rattle.sc_calm_law.proofs.OwedCounted.{counted_ends, left_same, looked_same}

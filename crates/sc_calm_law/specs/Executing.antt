@@ -24,6 +24,7 @@ use Rattle.sc_node_table.specs.Execute.{entered, executed_one, next_ready}
 use Rattle.sc_node_table.specs.Replica.{ReplicaState, Place, next, members}
 use Rattle.sc_node_table.specs.Slots.{without_slot}
 use Rattle.sc_node_table.specs.Spoken.{before_of}
+use Rattle.sc_law_lemmas.specs.Steps.{IfThere}
 use Rattle.sc_calm_law.specs.Laws.{newcomers, IsCounting, LeadsOn, StopsAfter, MayPump, Lowers, readied_at, ExecutesFreely}
 use Rattle.sc_calm_law.specs.Owed.{Ways}
 
@@ -99,11 +100,6 @@ IsPaid (RecordWatch tx vote by) r = IsWatchPaid tx vote by r
 -- a replica at which a pump raises nothing, where it runs
 abbrev pub MayGoOn : ReplicaState → Type 0
 MayGoOn r = r.running ≡ true → MayPump r
-
--- one thing of the command that is there, and another where none is
-abbrev pub IfThere : (Command → Type 0) → Type 0 → Option Command → Type 0
-IfThere there none None = none
-IfThere there none (Some command) = there command
 
 -- the entries that are ready, so many at most, one after another; and what the pump then finds
 abbrev pub ArePaid : List (ℕ × Command) → Place → Type 0

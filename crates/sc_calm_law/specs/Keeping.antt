@@ -21,10 +21,11 @@ use Rattle.sc_orderly_law.specs.Timely.{AreInTime, IsMeasure}
 use Rattle.sc_paxos_words.specs.declared.flights.Flight.{Flight}
 use Rattle.sc_node_table.specs.Node.{NodeState, replica_of, group_of_mail, may_come, group_of_order}
 use Rattle.sc_node_table.specs.Replica.{ReplicaState, name_of, next}
+use Rattle.sc_law_lemmas.specs.Steps.{GoesOn}
 use Rattle.sc_sound.specs.Players.{Player, player_table}
 use Rattle.sc_calm_law.specs.Charts.{players, Chart, run_owes, MayFollow}
 use Rattle.sc_calm_law.specs.Executing.{AreBounded, ServesAll, FliesAlone}
-use Rattle.sc_calm_law.specs.Laws.{Lowers, MayPump, GoesOn, Follows, Points, AsksAs}
+use Rattle.sc_calm_law.specs.Laws.{Lowers, MayPump, Follows, Points, AsksAs}
 use Rattle.sc_calm_law.specs.Led.{LearnsLed}
 use Rattle.sc_calm_law.specs.Nodes.{group_owes, IsTaken, after_mail, IsDelivered, MayMiss}
 use Rattle.sc_calm_law.specs.Owed.{Ways}

@@ -33,6 +33,7 @@ use Rattle.sc_node_table.specs.Spoken.{before_of, spoken}
 use Rattle.sc_node_table.specs.Execute.{entered, announced, executed_one, has_room, executed}
 use Rattle.sc_node_table.specs.Pump.{pumped}
 use Rattle.sc_node_table.specs.Replica.{ReplicaState, Place, name_of, next, members}
+use Rattle.sc_law_lemmas.specs.Steps.{GoesOn}
 use Rattle.sc_calm_law.specs.Owed.{Ways, offered_owes, asked_owes, body_owes, mail_owes, place_owes}
 
 -- no report binds the leader at an open slot
@@ -122,10 +123,6 @@ pub record MayPump (r : ReplicaState) : Type 0 where
 -- a mail to a replica lowers what is owed by one at least, with what it leaves and sends
 abbrev pub Lowers : Ways → ℕ → MailBody → Place → Type 0
 Lowers ways from body place = place_owes ways (mailed from body place).0 + 1 ≤ place_owes ways place + body_owes ways place.0.me body
-
--- no leader stops for this ballot
-abbrev pub GoesOn : Ballot → ReplicaState → Type 0
-GoesOn ballot r = (r.running && below r.leader.ballot ballot) ≡ false
 
 -- a mail of agreement is answered by one mail at most, where no leader stops for its ballot
 pub record AnswersLower : Type 0 where

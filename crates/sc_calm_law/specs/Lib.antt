@@ -2,12 +2,6 @@ pub mod Births
 pub mod Charts
 pub mod Clients
 pub mod Executing
-pub mod Following
-pub mod FollowingCounted
-pub mod FollowingExecuted
-pub mod FollowingNodes
-pub mod FollowingOffers
-pub mod FollowingRows
 pub mod Keeping
 pub mod Laws
 pub mod Led

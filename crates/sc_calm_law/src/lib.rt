@@ -7,11 +7,6 @@ ghost use Rattle.sc_calm_law.specs.Births.{BornReplicasOwe, MadeReplicasOwe};
 ghost use Rattle.sc_calm_law.specs.Charts.{ChartsMayChange};
 ghost use Rattle.sc_calm_law.specs.Clients.{ClientsLower, GoneSendsOn, NotMineTeaches};
 ghost use Rattle.sc_calm_law.specs.Executing.{CallVotesLower, ExecutionsRaiseNothing, LoneEntriesArePaid, LoneVotesLower};
-ghost use Rattle.sc_calm_law.specs.FollowingCounted.{EntriesLead};
-ghost use Rattle.sc_calm_law.specs.FollowingExecuted.{ExecutionsLead};
-ghost use Rattle.sc_calm_law.specs.FollowingNodes.{EntriesTell, StatesMake, TablesElect, TablesFollow};
-ghost use Rattle.sc_calm_law.specs.FollowingOffers.{PumpsOffer};
-ghost use Rattle.sc_calm_law.specs.FollowingRows.{GroupsBeginFollowing, IdleRowsKeep, LeadersKeep, ElectionsKeep, TakersKeep, QuietGroupsAreEven};
 ghost use Rattle.sc_calm_law.specs.Keeping.{KeptCalmIsMeasured, TakenMailLowers};
 ghost use Rattle.sc_calm_law.specs.Laws.{AnswersLower, AsksLower, ChangesRaiseNothing, CountedEntriesRaiseNothing, CountsLower, LeadersMayLeave, LearnsLower, LearntEntriesRaiseNothing, MovesLower, OldLearnsLower, OrdersRaiseLittle, PumpsRaiseNothing, VotesLower};
 ghost use Rattle.sc_calm_law.specs.Led.{EndsLeaveNone, LedLearnsLower, LedPartiesLower};
@@ -194,71 +189,6 @@ pub fn parties_raise_little()
     ensures { PartiesRaiseLittle }
 {}
 
-/// A group begins with its first members at the same place, one of which leads with the first
-/// ballot, and no mail under way: so each that decides an open slot follows the one that leads.
-pub fn groups_begin_following()
-    ensures { GroupsBeginFollowing }
-{}
-
-/// A row that does nothing in a group leaves what stands between its leader and its nodes.
-pub fn idle_rows_keep_following()
-    ensures { IdleRowsKeep }
-{}
-
-/// A row in which a node accepts, promises, executes what it is told, or takes the state that it is
-/// sent keeps what stands between the group's leader and its nodes: mail comes in time to each,
-/// members reach the newest state by their mail, each that decides what is in flight votes for it,
-/// and each that decides an open slot promises the leader's ballot.
-pub fn takers_keep_following()
-    ensures { TakersKeep }
-{}
-
-/// So does a row of the leader, however many entries it executes, and whoever comes and goes by
-/// them: it tells the members and welcomes those that come; and where it leaves itself, the least
-/// member that is left has not executed all.
-pub fn leaders_keep_following()
-    ensures { LeadersKeep }
-{}
-
-/// So does a row in which the least member elects itself by the last entry that it is told or that
-/// its state has, where none leads.
-pub fn elections_keep_following()
-    ensures { ElectionsKeep }
-{}
-
-/// Where none of a group's mail is under way, all members have executed all and nothing is in
-/// flight; and if the group is not gone, one leads, to which each node that decides an open slot
-/// has promised its ballot.
-pub fn quiet_groups_are_even()
-    ensures { QuietGroupsAreEven }
-{}
-
-/// What a replica's table does by an Accept, a Prepare, a Learn or an Install of its group that
-/// comes in time is what its mark says: where its next slot goes, what it promises, and what it
-/// answers.
-pub fn tables_follow()
-    ensures { TablesFollow }
-{}
-
-/// A replica that is made of a state that a member sends is where that says, has promised the
-/// first ballot, does not run, and sends nothing.
-pub fn states_make_replicas()
-    ensures { StatesMake }
-{}
-
-/// The least member that takes no member for the leader elects itself by an entry that it is told:
-/// it runs with the next round of its own, and asks each node that decides an open slot to promise
-/// it.
-pub fn tables_elect()
-    ensures { TablesElect }
-{}
-
-/// What a leader sends of an entry that it counted is what is told of it: the members before the
-/// entry learn it, and each that it adds is sent the state, and asked to promise a later ballot.
-pub fn entries_tell()
-    ensures { EntriesTell }
-{}
-
 /// An entry by which its group is gone makes none lead that learns it.
 pub fn ends_leave_none()
     ensures { EndsLeaveNone }
@@ -326,23 +256,4 @@ pub fn resting_owes_little()
 /// what is owed at birth and what one order raises, if orders stand alone between such lines.
 pub fn kept_calm_ends_quiet()
     ensures { KeptCalmEndsQuiet }
-{}
-
-/// A pump asks those that decide the slots behind what is in flight to accept what it offers, each
-/// slot's once, and nobody else; it leaves no other mark.
-pub fn pumps_offer()
-    ensures { PumpsOffer }
-{}
-
-/// A leader that has counted an entry sends no other mail of agreement than what is told of it, and
-/// leads on where it is a member of a group that stands, with the entry's slot over; else it runs
-/// no longer.
-pub fn entries_lead()
-    ensures { EntriesLead }
-{}
-
-/// All that a leader executes at once, and the pump after each, tells what is told of so many
-/// entries, and then asks for what it offers behind what is in flight, if it leads on.
-pub fn executions_lead()
-    ensures { ExecutionsLead }
 {}

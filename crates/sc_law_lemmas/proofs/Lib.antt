@@ -1,4 +1,5 @@
 pub mod Ballots
 pub mod Calls
+pub mod Entries
 pub mod Places
 pub mod Ways

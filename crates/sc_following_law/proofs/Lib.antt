@@ -1,0 +1,13 @@
+pub mod Counted
+pub mod Elected
+pub mod Elects
+pub mod Entries
+pub mod Executed
+pub mod InQuiet
+pub mod Keeps
+pub mod Leads
+pub mod Learn
+pub mod Marks
+pub mod Nodes
+pub mod Offers
+pub mod Spoken

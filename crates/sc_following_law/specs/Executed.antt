@@ -1,0 +1,59 @@
+-- What a leader's table does by all that it executes at once, and by what it then offers, as the marks of it say.
+use Rattle.std.specs.Prelude.{◌≡◌, ℕ, ◌+◌, ◌<◌, ◌≤◌, true, false, List, [], ◌∷◌, ◌++◌, Some, None, ◌⊎◌}
+use Rattle.sc_base.specs.Among.{Among, Each}
+use Rattle.sc_cmd.specs.declared.commands.Command.{Command}
+use Rattle.sc_cmd.specs.declared.links.Route.{Route}
+use Rattle.sc_member.specs.Roster.{is_member}
+use Rattle.sc_node_table.specs.Execute.{executed_one, executed, next_ready}
+use Rattle.sc_node_table.specs.Replica.{ReplicaState, Place, name_of, next, members}
+use Rattle.sc_node_table.specs.Slots.{at_slot}
+use Rattle.sc_paxos_words.specs.declared.flights.Flight.{Flight}
+use Rattle.sc_paxos_words.specs.Leaders.{flight_at}
+use Rattle.sc_law_lemmas.specs.Steps.{IfThere}
+use Rattle.sc_following_law.specs.Following.{Mark, Asks, Course, Sets}
+use Rattle.sc_following_law.specs.Counted.{IsLed, IsNext}
+use Rattle.sc_following_law.specs.Tables.{marks_for}
+use Rattle.sc_following_law.specs.Offers.{IsBegun, to_bound}
+use Rattle.sc_following_law.specs.Rows.{IsOffer, told_from}
+
+-- the entries that are ready, so many at most, one after another
+abbrev pub AreNext : Sets → List (ℕ × Command) → Place → Type 0
+AreNext at [] place = Unit {0}
+AreNext at (e ∷ es) place = IfThere (λ command. IsNext at command place.0 × AreNext at es (executed_one true command place)) (Unit {0}) (next_ready place.0)
+
+-- what is in flight from a slot on stays so, and what comes begins to fly at a slot from one bound to another
+pub record FliesOn (from to slot : ℕ) (flights after : List (Flight Command)) : Type 0 where
+  pub kept : (at : ℕ) (flight : Flight Command) → slot ≤ at → flight_at at flights ≡ Some flight → flight_at at after ≡ Some flight
+  pub grown : (at : ℕ) (flight : Flight Command) → slot ≤ at → flight_at at after ≡ Some flight → (flight_at at flights ≡ Some flight) ⊎ IsBegun from to flight
+
+-- it leads on, up to another bound
+pub record IsStill (at : Sets) (course : Course) (bound : ℕ) (r after : ReplicaState) : Type 0 where
+  pub led : IsLed at (to_bound bound course) after
+  pub promisers : after.leader.promisers ≡ r.leader.promisers
+  pub flies : FliesOn course.bound bound (next after) r.leader.flights after.leader.flights
+
+-- .. or runs no longer, since its group is gone or it is no member any more
+pub record IsStopped (after : ReplicaState) : Type 0 where
+  pub running : after.running ≡ false
+  pub over : ((into : Route) × (after.group.core.gone ≡ Some into)) ⊎ ((after.group.core.gone ≡ None) × (is_member (members after) after.me ≡ false))
+
+-- It executes so many entries, tells what is told of them, and then offers at the slots from the bound to another one, if it leads on.
+pub record LeadsBy (at : Sets) (course : Course) (place after : Place) : Type 0 where
+  pub executed : ℕ
+  pub within : next place.0 + executed ≤ course.bound
+  pub reaches : next after.0 ≡ next place.0 + executed
+  pub named : name_of after.0 ≡ name_of place.0
+  pub promise : after.0.acceptor.promised ≡ place.0.acceptor.promised
+  pub bound : ℕ
+  pub up : course.bound ≤ bound
+  pub offers : ℕ → List Mark
+  pub sends : (who : ℕ) → marks_for (name_of place.0) who after.1 ≡ marks_for (name_of place.0) who place.1 ++ (told_from at course (next place.0) executed who ++ offers who)
+  pub asks : (who : ℕ) → Each (IsOffer at (to_bound bound course) course.bound who) (offers who)
+  pub asked : (slot node : ℕ) → course.bound ≤ slot → slot < bound → is_member (at slot) node ≡ true → Among (Asks course.ballot slot) (offers node)
+  pub state : IsStill at course bound place.0 after.0 ⊎ (IsStopped after.0 × (1 ≤ executed) × (bound ≡ course.bound))
+
+-- a table does so by a command that is ready at its next slot, and all that follows it
+abbrev pub ExecutionsLead : Type 0
+ExecutionsLead =
+    (at : Sets) (course : Course) (command : Command) (place : Place) → IsLed at course place.0 → at_slot place.0.ready (next place.0) ≡ Some command → IsNext at command place.0
+    → AreNext at (executed_one true command place).0.ready (executed_one true command place) → LeadsBy at course place (executed true command place).0

@@ -1,0 +1,6 @@
+pub mod Counted
+pub mod Executed
+pub mod Following
+pub mod Offers
+pub mod Rows
+pub mod Tables

@@ -1,0 +1,102 @@
+-- That a replica's table takes the mail of its group as the marks of it say.
+use Rattle.std.specs.Prelude.{◌≡◌, ℕ, suc, ◌+◌, ◌-◌, ◌^◌, ◌<◌, ◌≤◌, ◌==◌, true, false, List, [], ◌∷◌, ◌++◌, length, filter, if◌then◌else◌, Some, None, ◌⊎◌}
+use Rattle.sc_base.specs.declared.names.Ballot.{Ballot}
+use Rattle.sc_base.specs.declared.names.Draw.{Draw}
+use Rattle.sc_cmd.specs.declared.commands.Command.{Command}
+use Rattle.sc_cmd.specs.declared.cores.Base.{Base}
+use Rattle.sc_cmd.specs.declared.links.Route.{Route}
+use Rattle.sc_mail.specs.declared.bodies.Mail.{Mail}
+use Rattle.sc_mail.specs.declared.bodies.MailBody.TheVariants.{Prepare, Accept, Learn, Install}
+use Rattle.sc_member.specs.Roster.{IsRoster, is_member, least_of}
+use Rattle.sc_node_table.specs.Election.{open_nodes}
+use Rattle.sc_node_table.specs.Execute.{entered, learnt_to, welcomed, is_among}
+use Rattle.sc_node_table.specs.Replica.{ReplicaState, Place, name_of, next, members, first_ballot, last_slot}
+use Rattle.sc_node_table.specs.Rows.{mailed, made_by}
+use Rattle.sc_paxos_words.specs.Leaders.{new_leader}
+use Rattle.sc_following_law.specs.Following.{Mark, Asks, Tells, Installs, Prepares, marks_of, next_by, promise_by, IsFit, Course, Sets, members_at}
+use Rattle.sc_following_law.specs.Rows.{answered, told_of}
+use Rattle.sc_law_lemmas.specs.Steps.{GoesOn}
+
+-- the marks, for a group, of the mail for an actor
+abbrev pub marks_for : Draw → ℕ → List Mail → List Mark
+marks_for name who mails = marks_of name (filter (λ mail. mail.to == who) mails)
+
+-- a replica takes a mail as its mark says: its next slot and its promise go on by it, it answers it, what it leads stays as it is, and what its acceptor has forgotten stays below its next slot
+pub record StepsBy (mark : Mark) (r : ReplicaState) (after : Place) : Type 0 where
+  pub reaches : next after.0 ≡ next_by (next r) mark
+  pub promises : after.0.acceptor.promised ≡ promise_by r.acceptor.promised mark
+  pub runs : after.0.running ≡ r.running
+  pub leads : r.running ≡ true → (after.0.leader ≡ r.leader) × (after.0.ready ≡ r.ready)
+  pub answers : (who : ℕ) → marks_for (name_of r) who after.1 ≡ answered r.me r.acceptor.promised mark who
+  pub low : r.acceptor.floor < next r → after.0.acceptor.floor < next after.0
+
+-- mail comes in time to a replica
+abbrev pub IsInTime : Mark → ReplicaState → Type 0
+IsInTime mark r = IsFit (next r) r.acceptor.promised mark
+
+-- one takes a member for the leader, or is not the least member, or its group is gone: so it does not elect itself
+abbrev pub Stays : ReplicaState → Type 0
+Stays r = (is_among (members r) r.hint ≡ true) ⊎ ((least_of (members r) ≡ r.me → ⊥) ⊎ ((into : Route) × (r.group.core.gone ≡ Some into)))
+
+-- mail that comes in time is taken so: what is asked for where no leader stops for its ballot, above what the acceptor has forgotten; an entry and a state by one that does not run
+pub record TablesFollow : Type 0 where
+  pub accept : (ballot : Ballot) (slot : ℕ) (command : Command) (r : ReplicaState) → IsInTime (Asks ballot slot) r → GoesOn ballot r → r.acceptor.floor < next r
+      → StepsBy (Asks ballot slot) r (mailed ballot.node (Accept (name_of r) ballot slot command) (r, [])).0
+  pub prepare : (ballot : Ballot) (from_slot : ℕ) (r : ReplicaState) → IsInTime (Prepares ballot) r → GoesOn ballot r → r.acceptor.floor < from_slot
+      → StepsBy (Prepares ballot) r (mailed ballot.node (Prepare (name_of r) ballot from_slot) (r, [])).0
+  pub learn : (from slot : ℕ) (command : Command) (r : ReplicaState) → IsInTime (Tells slot) r → r.running ≡ false → r.leader.flights ≡ [] → slot ≤ last_slot → Stays (entered command r)
+      → StepsBy (Tells slot) r (mailed from (Learn (name_of r) slot command) (r, [])).0
+  pub install : (from slot : ℕ) (base : Base) (sets : List (List ℕ)) (r : ReplicaState) → IsInTime (Installs slot) r → r.running ≡ false → slot ≤ last_slot → length sets ≡ length r.sets
+      → is_member base.core.members from ≡ true → StepsBy (Installs slot) r (mailed from (Install (name_of r) slot base sets) (r, [])).0
+
+-- .. and one that a node makes of a state that it is sent has executed what the state says, has promised the first ballot, and sends nothing
+pub record StatesMake : Type 0 where
+  pub reaches : (me from : ℕ) (group : Draw) (slot : ℕ) (base : Base) (sets : List (List ℕ)) → is_member base.core.members from ≡ true → next (made_by me from group slot base sets).0 ≡ next_by 0 (Installs slot)
+  pub promises : (me from : ℕ) (group : Draw) (slot : ℕ) (base : Base) (sets : List (List ℕ)) → is_member base.core.members from ≡ true → (made_by me from group slot base sets).0.acceptor.promised ≡ first_ballot base.core
+  pub runs : (me from : ℕ) (group : Draw) (slot : ℕ) (base : Base) (sets : List (List ℕ)) → is_member base.core.members from ≡ true → (made_by me from group slot base sets).0.running ≡ false
+  pub low : (me from : ℕ) (group : Draw) (slot : ℕ) (base : Base) (sets : List (List ℕ)) → is_member base.core.members from ≡ true → (made_by me from group slot base sets).0.acceptor.floor < next (made_by me from group slot base sets).0
+  pub sends : (me from : ℕ) (group : Draw) (slot : ℕ) (base : Base) (sets : List (List ℕ)) → is_member base.core.members from ≡ true → (made_by me from group slot base sets).1 ≡ []
+
+-- one that does not run elects itself after an entry: it is the least member, takes none for the leader, and has a later round
+pub record MayElect (r : ReplicaState) : Type 0 where
+  pub stands : r.group.core.gone ≡ None
+  pub hint : is_among (members r) r.hint ≡ false
+  pub least : least_of (members r) ≡ r.me
+  pub round : r.top.round < 2 ^ 32 - 1
+
+-- the ballot with which it does
+abbrev pub next_ballot : ReplicaState → Ballot
+next_ballot r = record { round = r.top.round + 1; node = r.me }
+
+-- it runs with that ballot, with nothing in flight or ready and no promise counted, and asks each node that decides an open slot, of those that there may be, to promise it
+pub record ElectsBy (slot : ℕ) (open_sets : List (List ℕ)) (r : ReplicaState) (after : Place) : Type 0 where
+  pub reaches : next after.0 ≡ suc slot
+  pub promises : after.0.acceptor.promised ≡ r.acceptor.promised
+  pub runs : after.0.running ≡ true
+  pub leads : after.0.leader ≡ new_leader (next_ballot r) (suc slot)
+  pub ready : after.0.ready ≡ []
+  pub low : r.acceptor.floor < next r → after.0.acceptor.floor < next after.0
+  pub asks : (who : ℕ) → marks_for (name_of r) who after.1 ≡ (if is_member (open_nodes open_sets) who then Prepares (next_ballot r) ∷ [] else [])
+
+-- a table does so where it is told the last entry, which leaves the group its name
+abbrev pub TablesElect : Type 0
+TablesElect =
+    (from slot : ℕ) (command : Command) (r : ReplicaState) → IsInTime (Tells slot) r → r.running ≡ false → r.leader.flights ≡ [] → slot ≤ last_slot → MayElect (entered command r) → name_of (entered command r) ≡ name_of r
+    → ElectsBy slot (entered command r).sets r (mailed from (Learn (name_of r) slot command) (r, [])).0
+
+-- a replica that leads in a group's course, after the entry at a slot, before which these were the members
+pub record IsLeader (at : Sets) (course : Course) (before : List ℕ) (slot : ℕ) (r : ReplicaState) : Type 0 where
+  pub executed : next r ≡ slot + 1
+  pub ballot : r.leader.ballot ≡ course.ballot
+  pub first : r.leader.is_first ≡ course.is_first
+  pub mine : course.ballot.node ≡ r.me
+  pub member : is_member before r.me ≡ true
+  pub was : members_at at slot ≡ before
+  pub is : members_at at (slot + 1) ≡ members r
+  pub rosters : IsRoster before × IsRoster (members r)
+
+-- what it sends of an entry that it counted is what is told of it, to each
+abbrev pub EntriesTell : Type 0
+EntriesTell =
+    (at : Sets) (course : Course) (before : List ℕ) (slot : ℕ) (command : Command) (r : ReplicaState) (mails : List Mail) → IsLeader at course before slot r
+    → (who : ℕ) → marks_for (name_of r) who (welcomed true before (learnt_to true before slot command (r, mails))).1 ≡ marks_for (name_of r) who mails ++ told_of at course slot who

@@ -1,0 +1,15 @@
+-- What several laws say of a replica's step.
+use Rattle.std.specs.Prelude.{◌≡◌, ◌&&◌, false, Option, Some, None}
+use Rattle.sc_base.specs.declared.names.Ballot.{Ballot}
+use Rattle.sc_cmd.specs.declared.commands.Command.{Command}
+use Rattle.sc_paxos_words.specs.Ballots.{below}
+use Rattle.sc_node_table.specs.Replica.{ReplicaState}
+
+-- no leader stops for this ballot
+abbrev pub GoesOn : Ballot → ReplicaState → Type 0
+GoesOn ballot r = (r.running && below r.leader.ballot ballot) ≡ false
+
+-- one thing of the command that is there, and another where none is
+abbrev pub IfThere : (Command → Type 0) → Type 0 → Option Command → Type 0
+IfThere there none None = none
+IfThere there none (Some command) = there command
