@@ -1,17 +1,15 @@
 -- A promise, a request, an order and the mails of transactions queue a command or count a promise, and then the pump offers: such a row is a leader's.
-use Rattle.std.proofs.Common.{◌≡◌, ℕ, ◌&&◌, ◌||◌, not, eqb, Bool, true, false, true≢false, cond, List, [], ◌∷◌, ◌++◌, Option, Some, None, inl, inr, refl, sym, ◌∙◌, ap, subst}
+use Rattle.std.proofs.Common.{◌≡◌, ℕ, ◌&&◌, not, eqb, Bool, true, false, true≢false, cond, List, [], ◌∷◌, ◌++◌, Option, Some, None, refl, sym, ◌∙◌, ap, subst}
 use Rattle.std.specs.Prelude.{nat_le}
-use Rattle.std.proofs.lemmas.Bool.{and_from, and_parts, cond-true, eq-eqb, or_left, or_right, not_from_true, not_from_false}
+use Rattle.std.proofs.lemmas.Bool.{and_from, and_parts, eq-eqb, or_left, or_right}
 use Rattle.std.proofs.lemmas.List.Folds.{list_any-append}
-use Rattle.sc_base.specs.Among.{Each}
 use Rattle.sc_base.specs.Drawing.{Drawer, next_name}
 use Rattle.sc_base.specs.Limits.{client_actor}
 use Rattle.sc_base.specs.Same.{same_ballot, same_draw}
 use Rattle.sc_base.specs.declared.names.Ballot.{Ballot}
 use Rattle.sc_base.specs.declared.names.Draw.{Draw}
 use Rattle.sc_base.specs.declared.ops.Op.{Op}
-use Rattle.sc_base.proofs.NameLemmas.{ballot_is, ballot_itself}
-use Rattle.sc_cmd.specs.declared.bodies.Body.{Body}
+use Rattle.sc_base.proofs.NameLemmas.{ballot_itself}
 use Rattle.sc_cmd.specs.declared.bodies.Offer.{Offer}
 use Rattle.sc_cmd.specs.declared.bodies.Watch.{Watch}
 use Rattle.sc_cmd.specs.declared.commands.Command.{Command}
@@ -35,27 +33,23 @@ use Rattle.sc_paxos_words.specs.declared.reports.Report.{Report}
 use Rattle.sc_paxos_words.specs.Ballots.{below}
 use Rattle.sc_paxos_words.specs.Leaders.{LeaderState, promise_counted}
 use Rattle.sc_node_table.specs.declared.ReplicaInput.TheVariants as Given
-use Rattle.sc_node_table.specs.Acts.{has_act, with_act, act_queued}
+use Rattle.sc_node_table.specs.Acts.{has_act, act_queued}
 use Rattle.sc_node_table.specs.Election.{saw, stopped}
-use Rattle.sc_node_table.specs.Mails.{sent, told_desk, answer_to}
+use Rattle.sc_node_table.specs.Mails.{sent}
 use Rattle.sc_node_table.specs.Ordering.{ordered_command, untaken, taken_or_told, ordered_row}
 use Rattle.sc_node_table.specs.Pump.{pumped}
 use Rattle.sc_node_table.specs.Queues.{call_of, without_call}
 use Rattle.sc_node_table.specs.Questions.{asked_link, question, asked_node}
-use Rattle.sc_node_table.specs.Replica.{ReplicaState, Place, Executed, childless, listed, name_of, next, settled}
+use Rattle.sc_node_table.specs.Replica.{ReplicaState, Place, name_of, settled}
 use Rattle.sc_node_table.specs.Rows.{refused_at, queued, requested, request_row, mailed, stepped}
-use Rattle.sc_node_table.specs.Transactions.{standing_vote, voted_to, sent_elsewhere, offered_by, offer_row, watched_to, watched_by, watch_row, awaits_vote, awaits_watch, told_outcome, noted_outcome, vote_queued, vote_met, vote_row, watch_queued, watch_met, watched_row, next_asked, asked_next, elsewhere_row, is_bound, outcome_row}
+use Rattle.sc_node_table.specs.Transactions.{standing_vote, sent_elsewhere, offered_by, offer_row, watched_by, watch_row, awaits_vote, awaits_watch, told_outcome, noted_outcome, vote_met, vote_row, watch_met, watched_row, next_asked, asked_next, elsewhere_row, is_bound, outcome_row}
 use Rattle.sc_node_table.specs.Voting.{leads, promise_row, nack_row}
 use Rattle.sc_law_lemmas.specs.Steps.{GoesOn}
-use Rattle.sc_following_law.specs.Following.{Mark, Votes, Promises, Course, Progress, Sets}
-use Rattle.sc_following_law.specs.Executed.{LeadsBy}
+use Rattle.sc_following_law.specs.Following.{Mark, Votes, Promises, Progress, Sets}
 use Rattle.sc_following_law.specs.Leading.{voters_of, IsLeadOf, LeadsInto, IsAside, RowsLead}
-use Rattle.sc_following_law.specs.Offers.{MayOffer}
 use Rattle.sc_following_law.specs.Tables.{marks_for}
-use Rattle.sc_following_law.specs.Rows.{IsCount}
 use Rattle.sc_following_law.proofs.Executed.{none_leads, pump_leads}
 use Rattle.sc_following_law.proofs.Leading.{Counts, leads_into}
-use Rattle.sc_following_law.proofs.Nodes.{marks-push}
 use Rattle.sc_following_law.proofs.Offers.{pumps_offer}
 use Rattle.sc_following_law.proofs.Spoken.{one_same, question_none}
 use Rattle.sc_following_law.proofs.Voted.{counts_beside, vote_leads}

@@ -1,5 +1,5 @@
 -- What a leader's table does by what it counts, executes and offers is a leader's row.
-use Rattle.std.proofs.Common.{◌≡◌, ℕ, ◌+◌, ◌<◌, ◌≤◌, ◌||◌, not, eqb, ltb, Bool, true, false, true≢false, cond, List, [], ◌∷◌, ◌++◌, length, Option, Some, None, ◌⊎◌, inl, inr, refl, sym, ◌∙◌, ap, subst, arith}
+use Rattle.std.proofs.Common.{◌≡◌, ℕ, ◌+◌, ◌<◌, ◌≤◌, ◌||◌, not, eqb, ltb, Bool, true, false, true≢false, cond, List, [], ◌∷◌, ◌++◌, Option, Some, None, ◌⊎◌, inl, inr, refl, sym, ◌∙◌, ap, subst, arith}
 use Rattle.std.specs.Prelude.{is_some}
 use Rattle.std.specs.Option.{option_map}
 use Rattle.std.proofs.lemmas.Bool.{cases_lt, cond-true, cond-false, eqb-true, eq-eqb, le-ltb, lt-ltb, or_parts, or_from}
@@ -7,7 +7,7 @@ use Rattle.sc_base.specs.Among.{Among, Each}
 use Rattle.sc_base.specs.declared.names.Ballot.{Ballot}
 use Rattle.sc_cmd.specs.declared.commands.Command.{Command}
 use Rattle.sc_mail.specs.declared.bodies.Mail.{Mail}
-use Rattle.sc_member.specs.Majority.{votes_of, is_majority}
+use Rattle.sc_member.specs.Majority.{votes_of}
 use Rattle.sc_member.specs.Roster.{is_member}
 use Rattle.sc_paxos_words.specs.declared.flights.Flight.{Flight}
 use Rattle.sc_paxos_words.specs.Leaders.{flight_at}
@@ -15,12 +15,12 @@ use Rattle.sc_paxos_words.specs.Votes.{kept_voters}
 use Rattle.sc_paxos_words.proofs.ListLemmas.{Each-among, Each-weaker, find_found}
 use Rattle.sc_node_table.specs.Replica.{ReplicaState, Place, listed, name_of, next, members, either, taken_at, flying}
 use Rattle.sc_node_table.specs.Slots.{at_slot}
-use Rattle.sc_following_law.specs.Following.{Mark, Asks, Promises, Course, Progress, Sets, members_at, IsInFlight}
+use Rattle.sc_following_law.specs.Following.{Mark, Asks, Promises, Course, Progress, Sets, IsInFlight}
 use Rattle.sc_following_law.specs.Counted.{IsLed}
 use Rattle.sc_following_law.specs.Executed.{IsStill, IsStopped, LeadsBy}
 use Rattle.sc_following_law.specs.Leading.{voters_of, IsPolled, IsLeadOf, progress_by, LeadsInto, StopsAlone}
 use Rattle.sc_following_law.specs.Tables.{marks_for}
-use Rattle.sc_following_law.specs.Offers.{MayOffer, to_bound}
+use Rattle.sc_following_law.specs.Offers.{to_bound}
 use Rattle.sc_following_law.specs.Rows.{IsCount, IsElsewhere, IsOffer, IsOffered, IsCounted, IsKept, Leads, told_from}
 use Rattle.sc_following_law.proofs.Elected.{none_decided}
 use Rattle.sc_following_law.proofs.Marks.{among-right}
@@ -184,11 +184,11 @@ module _ (at : Sets) (now : Progress) (taken : Option Mark) (r mid : ReplicaStat
   grown_then slot voters e = elim (origin slot voters e) [
     | inl i ↦ inr (c.grown slot voters i)
     | inr new ↦ inl (record {
-        from = new.0;
-        none = new.2;
-        asks = λ node mine. subst (Among (Asks now.course.ballot slot)) (sym (sends node))
-            (among-right (Asks now.course.ballot slot) (told_from at now.course now.course.newest b.executed node) (b.offers node) (b.asked slot node new.0 new.1 mine));
-      })
+      from = new.0;
+      none = new.2;
+      asks = λ node mine. subst (Among (Asks now.course.ballot slot)) (sym (sends node))
+          (among-right (Asks now.course.ballot slot) (told_from at now.course now.course.newest b.executed node) (b.offers node) (b.asked slot node new.0 new.1 mine));
+    })
   ]
 
   unvoted_then : after.0.running ≡ true → (ballot : Ballot) (slot : ℕ) → Among (Asks ballot slot) (b.offers r.me) → voters_of after.0 slot ≡ Some []

@@ -8,8 +8,6 @@ use Rattle.sc_base.specs.Same.{same_ballot}
 use Rattle.sc_base.specs.declared.names.Ballot.{Ballot}
 use Rattle.sc_base.proofs.NameLemmas.{ballot_is, ballot_itself}
 use Rattle.sc_cmd.specs.declared.commands.Command.{Command}
-use Rattle.sc_mail.specs.declared.bodies.Mail.{Mail}
-use Rattle.sc_mail.specs.declared.bodies.MailBody.TheVariants.{Accepted}
 use Rattle.sc_member.specs.Majority.{votes_of, is_majority}
 use Rattle.sc_member.specs.Roster.{IsRoster, is_member}
 use Rattle.sc_paxos_words.specs.declared.answers.Counted.{Counted}
@@ -19,15 +17,14 @@ use Rattle.sc_paxos_words.specs.declared.reports.Report.{Report}
 use Rattle.sc_paxos_words.specs.Leaders.{LeaderState, flight_at, without_flight, without_flight_at}
 use Rattle.sc_paxos_words.specs.Votes.{kept_voters, add_voter, voters_after, with_voters, tallied, vote_at, counted}
 use Rattle.sc_node_table.specs.Execute.{executed, has_room}
-use Rattle.sc_node_table.specs.Replica.{ReplicaState, Place, Executed, childless, listed, name_of, next, set_at, either, taken_at, flying}
-use Rattle.sc_node_table.specs.Rows.{mailed}
+use Rattle.sc_node_table.specs.Replica.{ReplicaState, Executed, childless, listed, next, set_at, either, taken_at, flying}
 use Rattle.sc_node_table.specs.Slots.{at_slot, with_slot}
 use Rattle.sc_node_table.specs.Voting.{leads, readied, vote_tallied, voted, accepted_row}
 use Rattle.sc_following_law.specs.Following.{Mark, Votes, Promises, Course, Progress, Sets}
 use Rattle.sc_following_law.specs.Counted.{IsLed}
 use Rattle.sc_following_law.specs.Leading.{voters_of, IsPolled, IsLeadOf, LeadsInto, StopsAlone, DecidesNext}
 use Rattle.sc_following_law.specs.Offers.{AreAt, MayOffer}
-use Rattle.sc_following_law.specs.Rows.{IsCount, IsElsewhere, IsCounted}
+use Rattle.sc_following_law.specs.Rows.{IsCount, IsCounted}
 use Rattle.sc_following_law.proofs.Executed.{none_leads, executions_lead}
 use Rattle.sc_following_law.proofs.InFlight.{flight_out, slot_in, slot_over, polled_here, polled_out}
 use Rattle.sc_following_law.proofs.Leading.{voters_fly, fly_voters, none_taken, Counts, leads_into}
