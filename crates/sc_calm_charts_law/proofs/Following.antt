@@ -20,11 +20,12 @@ use Rattle.sc_sound.specs.Players.{Player, player_table}
 use Rattle.sc_calm_law.specs.Charts.{players, Chart, SeeksNoMore, MayFollow}
 use Rattle.sc_calm_law.specs.Owed.{Ways, asked_owes, elsewhere_owes, body_owes, mail_owes}
 use Rattle.sc_calm_law.specs.Reach.{client_owes, search_owes}
+use Rattle.sc_calm_law.proofs.OwedResting.{quiet_mail}
 use Rattle.sc_calm_law.specs.Totals.{Rows, is_led}
 use Rattle.sc_calm_charts_law.specs.Charting.{all_replicas, asked_in, names_at, far_at, reach_in, chart_at}
 use Rattle.sc_calm_charts_law.specs.Following.{WaitsForNone, AreAllLed, AsksSame, ChartsFollow, QuietChartsRest}
 use Rattle.sc_calm_charts_law.specs.Fronts.{quiet_front}
-use Rattle.sc_calm_charts_law.proofs.Fronts.{front_stays, quiet_mail}
+use Rattle.sc_calm_charts_law.proofs.Fronts.{front_stays}
 use Rattle.sc_calm_charts_law.proofs.Names.{names_grow}
 
 -- ways where another is asked
