@@ -191,13 +191,13 @@ fn played<A: Actor, G: Gate, R: Threads + Wait + Sync>(
     rt: &R,
     alloc: Global,
     way: Way,
+    workers: u32,
+    limit: u32,
+    gate: &G,
     desk: &Office<Run<A>>,
     lender: &mut Lender<Run<A>>,
     net: &mut Port<A::Mail, A::Order>,
     shells: &mut Vec<Shell<A>>,
-    workers: u32,
-    limit: u32,
-    gate: &G,
 ) -> Rounds
     requires workers { (1 ≤ workers) × (workers ≤ 16) }
     requires crew { IsCrew net.old shells.old.items }
@@ -236,13 +236,13 @@ fn played_out<A: Actor, G: Gate, R: Threads + Wait + Sync>(
     rt: &R,
     alloc: Global,
     way: Way,
+    workers: u32,
+    limit: u32,
+    gate: &G,
     desk: &Office<Run<A>>,
     lender: &mut Lender<Run<A>>,
     net: &mut Port<A::Mail, A::Order>,
     shells: &mut Vec<Shell<A>>,
-    workers: u32,
-    limit: u32,
-    gate: &G,
 ) -> Rounds
     requires workers { (1 ≤ workers) × (workers ≤ 16) }
     requires crew { IsCrew net.old shells.old.items }
@@ -252,7 +252,7 @@ fn played_out<A: Actor, G: Gate, R: Threads + Wait + Sync>(
     ensures end { IsEnd result net.new shells.old.items shells.new.items (crew_numbers shells.old.items)
         limit }
 {
-    let end = played(rt, alloc, way, desk, lender, net, shells, workers, limit, gate);
+    let end = played(rt, alloc, way, workers, limit, gate, desk, lender, net, shells);
     desk.close();
     end
 }
@@ -262,14 +262,14 @@ fn helped<A: Actor, G: Gate, R: Threads + Wait + Sync>(
     rt: &R,
     alloc: Global,
     way: Way,
-    desk: &Office<Run<A>>,
-    lender: &mut Lender<Run<A>>,
-    helpers: &mut Vec<Helper<Run<A>>>,
-    net: &mut Port<A::Mail, A::Order>,
-    shells: &mut Vec<Shell<A>>,
     workers: u32,
     limit: u32,
     gate: &G,
+    desk: &Office<Run<A>>,
+    helpers: &mut Vec<Helper<Run<A>>>,
+    lender: &mut Lender<Run<A>>,
+    net: &mut Port<A::Mail, A::Order>,
+    shells: &mut Vec<Shell<A>>,
 ) -> Rounds
     requires workers { (1 ≤ workers) × (workers ≤ 16) }
     requires crew { IsCrew net.old shells.old.items }
@@ -281,17 +281,17 @@ fn helped<A: Actor, G: Gate, R: Threads + Wait + Sync>(
     ensures end { IsEnd result net.new shells.old.items shells.new.items (crew_numbers shells.old.items)
         limit }
 {
-    let mut helping = ||
-        requires { IsSync R.row × All (λ p. IsHelperOf desk.now p) helpers.now.items }
-    { help(rt, alloc, gate, desk, mem::replace(helpers, Vec::new(alloc))) };
     let mut playing = || -> Rounds
-        requires { IsSync R.row × (1 ≤ workers) × (workers ≤ 16) × IsCrew net.now shells.now.items
+        requires { IsSync R.row × IsSync G.row × (1 ≤ workers) × (workers ≤ 16) × IsCrew net.now shells.now.items
             × IsLenderOf desk.now lender.now }
         ensures { IfKept way (Some result)
             (AreLater net.entry.now net.exit.now shells.entry.now.items shells.exit.now.items)
             × IsEnd result net.exit.now shells.entry.now.items shells.exit.now.items
             (crew_numbers shells.entry.now.items) limit }
-    { played_out(rt, alloc, way, desk, lender, net, shells, workers, limit, gate) };
+    { played_out(rt, alloc, way, workers, limit, gate, desk, lender, net, shells) };
+    let mut helping = ||
+        requires { IsSync R.row × IsSync G.row × All (λ p. IsHelperOf desk.now p) helpers.now.items }
+    { help(rt, alloc, gate, desk, mem::replace(helpers, Vec::new(alloc))) };
     let (_, end) = join_mut(rt, &mut helping, &mut playing);
     end
 }
@@ -338,10 +338,10 @@ pub fn rounds_by<A: Actor, G: Gate, R: Threads + Wait + Sync>(
     };
     let lender = &mut lender;
     if helpers.is_empty() {
-        return played(rt, alloc, way, &desk, lender, net, shells, workers, limit, gate);
+        return played(rt, alloc, way, workers, limit, gate, &desk, lender, net, shells);
     }
     let helpers = &mut helpers;
-    helped(rt, alloc, way, &desk, lender, helpers, net, shells, workers, limit, gate)
+    helped(rt, alloc, way, workers, limit, gate, &desk, helpers, lender, net, shells)
 }
 
 /// Rounds in which each shell that is not spent takes a turn, runs of neighbours at the same time,
