@@ -114,7 +114,7 @@ fn fetch<A: Actor, G: Gate, R: Wait>(
 
 // A run is put behind the others. There is room, since it stood there before.
 fn join<A: Actor>(shells: &mut Vec<Shell<A>>, run: Run<A>)
-    requires { vec_len shells.old + vec_len run.shells ≤ vec_capacity shells.old }
+    requires fits { vec_len shells.old + vec_len run.shells ≤ vec_capacity shells.old }
     ensures items { shells.new.items ≡ shells.old.items ++ run.shells.items }
     ensures capacity { vec_capacity shells.old ≤ vec_capacity shells.new }
 {

@@ -7,8 +7,8 @@ use Rattle.sc_workers.proofs.Joining.{took_parts, parts_length}
 use Rattle.sc_workers.proofs.Sending.{sent_later}
 use Rattle.sc_workers.proofs.lending.+apart.Goals as goal
 
-pub join-requires : goal.join-requires
-join-requires g t c =
+pub join-requires-clause-fits : goal.join-requires-clause-fits
+join-requires-clause-fits g t c =
     let sent = sent_later (lent_by c.send-sent.new.lender) (lent_by c.apart.new.lender) (record { shells = c.in-Ok.last }) c.send-sent.result c.apart.ensures.later c.send-sent.ensures.sent in
     let run : RunTook (record { shells = c.in-Ok.last }) c.fetch-run.result = c.fetch-run.ensures.back (record { shells = c.in-Ok.last }) sent in
     omega (arith, run.len, c.fetch-run.result.shells.ok.0, c.in-Ok.last.ok.0, c.apart.ensures.len, c.apart.ensures.capacity, c.apart.new.shells.ok.0, c.split_off.new.self.ok.0, c.split_off.ensures.capacity, c.in-Ok.ensures.tail_len, c.in-Ok.ensures.len, c.args.shells.now.ok.1)
