@@ -119,6 +119,7 @@ module _ {T : Type 0} (leaves : T → T → Type 0) where
     where
       old : IsLoan leaves lent x
       old = last_held v w x t lent all
+
       left : (b : Bool) → x.done ≡ b → leaves old.was y.work
       left true e =
           let before : leaves old.was x.work = subst (λ b. MatchBool b (leaves old.was x.work) (x.work ≡ old.was)) e old.now in
@@ -127,6 +128,7 @@ module _ {T : Type 0} (leaves : T → T → Type 0) where
       left false e =
           let same : x.work ≡ old.was = subst (λ b. MatchBool b (leaves old.was x.work) (x.work ≡ old.was)) e old.now in
           subst (λ s. leaves s y.work) same (subst (λ b. MatchBool b (y.work ≡ x.work) (leaves x.work y.work)) e d.work)
+
       by : (b : Bool) → x.done ≡ b → IsLoan leaves lent y
       by b e = record {
         was = old.was;
@@ -140,8 +142,10 @@ module _ {T : Type 0} (leaves : T → T → Type 0) where
     where
       mine : IsLoan leaves v.lent x
       mine = t.1 may
+
       same : mine.was ≡ s
       same = some-injective mine.was s (sym mine.at ∙ (ap (get_elem? v.lent) (sym d.number) ∙ at))
+
       by : (b : Bool) → x.done ≡ b → leaves s y.work
       by true e =
           let before : leaves mine.was x.work = subst (λ b. MatchBool b (leaves mine.was x.work) (x.work ≡ mine.was)) e mine.now in

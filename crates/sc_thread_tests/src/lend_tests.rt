@@ -40,12 +40,7 @@ fn help<R: Threads + Wait + Sync>(rt: &R, office: &Office<Half>, helpers: Vec<He
     );
 }
 
-fn collect<R: Wait>(
-    rt: &R,
-    office: &Office<Half>,
-    lender: &mut Lender<Half>,
-    number: u64,
-) -> u32
+fn collect<R: Wait>(rt: &R, office: &Office<Half>, lender: &mut Lender<Half>, number: u64) -> u32
     requires { IsLenderOf office.now lender.old }
     ensures { IsLenderOf office.now lender.new }
 {

@@ -1,5 +1,5 @@
 -- Runs that were sent off.
-use Rattle.std.proofs.Common.{◌≡◌, ◌+◌, ℕ, List, length, subst, sym}
+use Rattle.std.proofs.Common.{List}
 use Rattle.sc_actor.specs.declared.actors.Actor.{Ghosts}
 use Rattle.sc_actor.specs.declared.actors.Parcel.{Ghosts as MailGhosts}
 use Rattle.sc_lend.specs.Lending.{IsLonger}

@@ -33,12 +33,7 @@ pub(crate) enum Sent<A: Actor> {
 }
 
 // The shells of a vector take their turns.
-fn turns_of<A: Actor, G: Gate, R: Wait>(
-    rt: &R,
-    alloc: Global,
-    gate: &G,
-    shells: &mut Vec<Shell<A>>,
-)
+fn turns_of<A: Actor, G: Gate, R: Wait>(rt: &R, alloc: Global, gate: &G, shells: &mut Vec<Shell<A>>)
     ensures len { length shells.new.items ≡ length shells.old.items }
     ensures capacity { vec_capacity shells.new ≡ vec_capacity shells.old }
     ensures took { AllTook shells.old.items shells.new.items }
@@ -48,12 +43,7 @@ fn turns_of<A: Actor, G: Gate, R: Wait>(
 }
 
 // The shells of a run take their turns.
-fn run_turns<A: Actor, G: Gate, R: Wait>(
-    rt: &R,
-    alloc: Global,
-    gate: &G,
-    run: Run<A>,
-) -> Run<A>
+fn run_turns<A: Actor, G: Gate, R: Wait>(rt: &R, alloc: Global, gate: &G, run: Run<A>) -> Run<A>
     ensures { RunTook run result }
 {
     let Run { mut shells } = run;
@@ -172,7 +162,15 @@ fn apart<A: Actor, G: Gate, R: Wait>(
         return;
     };
     let has_mail = mail_in(waits, cut, size);
-    let sent = send(rt, alloc, gate, desk, lender, has_mail, Run { shells: last });
+    let sent = send(
+        rt,
+        alloc,
+        gate,
+        desk,
+        lender,
+        has_mail,
+        Run { shells: last },
+    );
     apart(rt, alloc, gate, desk, lender, waits, size, shells);
     let run = fetch(rt, alloc, gate, desk, lender, sent);
     join(shells, run);

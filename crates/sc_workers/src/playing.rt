@@ -252,7 +252,9 @@ fn played_out<A: Actor, G: Gate, R: Threads + Wait + Sync>(
     ensures end { IsEnd result net.new shells.old.items shells.new.items (crew_numbers shells.old.items)
         limit }
 {
-    let end = played(rt, alloc, way, workers, limit, gate, desk, lender, net, shells);
+    let end = played(
+        rt, alloc, way, workers, limit, gate, desk, lender, net, shells,
+    );
     desk.close();
     end
 }
@@ -288,10 +290,22 @@ fn helped<A: Actor, G: Gate, R: Threads + Wait + Sync>(
             (AreLater net.entry.now net.exit.now shells.entry.now.items shells.exit.now.items)
             × IsEnd result net.exit.now shells.entry.now.items shells.exit.now.items
             (crew_numbers shells.entry.now.items) limit }
-    { played_out(rt, alloc, way, workers, limit, gate, desk, lender, net, shells) };
+    {
+        played_out(
+            rt, alloc, way, workers, limit, gate, desk, lender, net, shells,
+        )
+    };
     let mut helping = ||
         requires { IsSync R.row × IsSync G.row × All (λ p. IsHelperOf desk.now p) helpers.now.items }
-    { help(rt, alloc, gate, desk, mem::replace(helpers, Vec::new(alloc))) };
+    {
+        help(
+            rt,
+            alloc,
+            gate,
+            desk,
+            mem::replace(helpers, Vec::new(alloc)),
+        )
+    };
     let (_, end) = join_mut(rt, &mut helping, &mut playing);
     end
 }
@@ -338,10 +352,14 @@ pub fn rounds_by<A: Actor, G: Gate, R: Threads + Wait + Sync>(
     };
     let lender = &mut lender;
     if helpers.is_empty() {
-        return played(rt, alloc, way, workers, limit, gate, &desk, lender, net, shells);
+        return played(
+            rt, alloc, way, workers, limit, gate, &desk, lender, net, shells,
+        );
     }
     let helpers = &mut helpers;
-    helped(rt, alloc, way, workers, limit, gate, &desk, helpers, lender, net, shells)
+    helped(
+        rt, alloc, way, workers, limit, gate, &desk, helpers, lender, net, shells,
+    )
 }
 
 /// Rounds in which each shell that is not spent takes a turn, runs of neighbours at the same time,

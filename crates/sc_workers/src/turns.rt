@@ -36,7 +36,12 @@ fn one<A: Actor, G: Gate, R: Wait>(rt: &R, alloc: Global, gate: &G, shell: &mut 
 }
 
 /// Each takes a turn, one after the other.
-pub(crate) fn turns<A: Actor, G: Gate, R: Wait>(rt: &R, alloc: Global, gate: &G, part: &mut [Shell<A>])
+pub(crate) fn turns<A: Actor, G: Gate, R: Wait>(
+    rt: &R,
+    alloc: Global,
+    gate: &G,
+    part: &mut [Shell<A>],
+)
     ensures { AllTook part.old part.new }
 {
     for shell in part.iter_mut() {
