@@ -2,7 +2,7 @@
 use Rattle.std.proofs.Common.{◌≡◌, ◌≢◌, ℕ, zero, suc, Bool, true, false, true≢false, List, [], ◌∷◌, ◌++◌, length, set, sym, refl, ap, ◌∙◌, subst, ⊎_elim, MatchBool}
 use mathlib.Core.Option.{some, some-injective, some-ne-none}
 use lib.ListN.{get_elem?}
-use Rattle.crossbeam_queue.specs.Fifo.{Pushes, Pops, Forks, Learns}
+use Rattle.crossbeam_queue.specs.Fifo.{Pushes, Pops, Forks}
 use Rattle.crossbeam_queue.proofs.Lists.{at_set, at_snoc, at_longer, at_last}
 use Rattle.sc_lend.specs.declared.rule.Loan.{Loan}
 use Rattle.sc_lend.specs.declared.rule.Clerk.{Clerk}

@@ -1,11 +1,12 @@
 -- What those who use a queue of loans know of it.
-use Rattle.std.specs.Prelude.{◌≡◌, ℕ, Bool, true, false, List, [], ◌∷◌, ◌++◌, length, ⊤, MatchBool}
+use Rattle.std.specs.Prelude.{◌≡◌, ℕ, Bool, true, false, List, [], ◌∷◌, ◌++◌, ⊤, MatchBool}
 use mathlib.Core.Option.{some}
 use lib.ListN.{get_elem?}
 use Rattle.sc_lend.specs.declared.rule.Loan.{Loan}
 use Rattle.sc_lend.specs.declared.rule.Clerk.{Clerk}
 
 module _ {T : Type 0} where
+  -- what a pass knows: whether it lends, what it lent, and what it took
   abbrev pub clerk : Bool → List T → List (Loan T) → Clerk T
   clerk lends lent held = record { lends = lends; lent = lent; held = held }
 
@@ -17,9 +18,11 @@ module _ {T : Type 0} where
   abbrev pub helper : Clerk T
   helper = clerk false [] []
 
+  -- one that has lent one more
   abbrev pub with_lent : Clerk T → T → Clerk T
   with_lent v x = clerk v.lends (v.lent ++ x ∷ []) v.held
 
+  -- one that has taken one more
   abbrev pub with_held : Clerk T → Loan T → Clerk T
   with_held v x = clerk v.lends v.lent (v.held ++ x ∷ [])
 

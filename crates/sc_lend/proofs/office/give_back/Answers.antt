@@ -1,4 +1,4 @@
-use Rattle.std.proofs.Common.{◌≡◌, rules, subst, sym}
+use Rattle.std.proofs.Common.{subst, sym}
 use Rattle.crossbeam_queue.specs.Passes.{view}
 use Rattle.sc_lend.specs.Lending.{MayGiveBack}
 use Rattle.sc_lend.proofs.Keeps.{gives_back}

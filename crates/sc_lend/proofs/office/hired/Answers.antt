@@ -1,6 +1,6 @@
 use Rattle.std.proofs.Common.{subst, sym, rules, ◌∙◌, All}
 use Rattle.std.proofs.lemmas.List.Elements.{All-push}
-use Rattle.crossbeam_queue.specs.Passes.{view, IsPassOf}
+use Rattle.crossbeam_queue.specs.Passes.{IsPassOf}
 use Rattle.sc_lend.proofs.Keeps.{hires}
 use Rattle.sc_lend.proofs.office.hired.Goals as goal
 

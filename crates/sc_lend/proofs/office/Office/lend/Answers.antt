@@ -1,4 +1,4 @@
-use Rattle.std.proofs.Common.{◌≡◌, refl, subst, sym, [], ◌∷◌}
+use Rattle.std.proofs.Common.{refl, subst, sym, [], ◌∷◌}
 use Rattle.crossbeam_queue.specs.Passes.{view}
 use Rattle.crossbeam_queue.proofs.Lists.{at_last, at_longer}
 use Rattle.sc_lend.specs.declared.rule.Clerk.{Clerk}
