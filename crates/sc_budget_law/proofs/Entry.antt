@@ -1,7 +1,6 @@
 -- One entry of a plain journal, executed by the replica that leads, and by another.
-use Rattle.std.proofs.Common.{◌≡◌, ℕ, ◌+◌, ◌-◌, ◌≤◌, not, eqb, Bool, true, false, List, [], ◌∷◌, ◌++◌, length, map, filter, Option, Some, None, inl, inr, refl, sym, ◌∙◌, ap, arith, length-drop}
-use Rattle.std.proofs.lemmas.Bool.{cond-true, cond-false, eq-eqb}
-use Rattle.std.proofs.lemmas.List.{length_push}
+use Rattle.std.proofs.Common.{◌≡◌, ℕ, ◌+◌, ◌-◌, ◌≤◌, not, Bool, true, false, List, [], ◌∷◌, ◌++◌, map, filter, Option, Some, None, inl, inr, refl, sym, ◌∙◌, ap, arith}
+use Rattle.std.proofs.lemmas.Bool.{cond-true, cond-false}
 use Rattle.sc_base.specs.Among.{Among}
 use Rattle.sc_base.specs.declared.ops.Op.{Op}
 use Rattle.sc_cmd.specs.declared.commands.Command.{Command}
@@ -15,15 +14,13 @@ use Rattle.sc_mail.specs.declared.bodies.AnswerBody.{AnswerBody}
 use Rattle.sc_mail.specs.declared.bodies.Mail.{Mail}
 use Rattle.sc_mail.specs.declared.bodies.MailBody.TheVariants.{Learn}
 use Rattle.sc_member.specs.Roster.{is_member, least_of}
-use Rattle.sc_paxos_words.specs.declared.answers.Learnt.{Learnt}
-use Rattle.sc_paxos_words.specs.Logs.{LogState, next_of, log_cut}
 use Rattle.sc_machine_table.specs.Machine.{applied}
 use Rattle.sc_node_table.specs.declared.Before.{Before}
 use Rattle.sc_node_table.specs.Election.{stopped}
-use Rattle.sc_node_table.specs.Execute.{with_entry, entered, answer_of, told_call, told_effect, announced, learnt_to, welcomed, slot_lost, landed, left_gone, left, is_among, looked_for, looked, executed_one}
+use Rattle.sc_node_table.specs.Execute.{entered, answer_of, told_call, told_effect, announced, learnt_to, welcomed, slot_lost, landed, left_gone, left, is_among, looked_for, looked, executed_one}
 use Rattle.sc_node_table.specs.Install.{welcomed_all}
 use Rattle.sc_node_table.specs.Mails.{answer_to, sent_others}
-use Rattle.sc_node_table.specs.Replica.{ReplicaState, Place, name_of, next, members, flying, floor_of, forgotten, waits_in}
+use Rattle.sc_node_table.specs.Replica.{ReplicaState, Place, name_of, next, members, flying, forgotten, waits_in}
 use Rattle.sc_node_table.specs.Slots.{rest_of, numbers_from, slots_ahead}
 use Rattle.sc_node_table.specs.Spoken.{before_of, spoken, spoken_mails, told_begun, went_on}
 use Rattle.sc_law_lemmas.proofs.Entries.{floor_under, entered_next}

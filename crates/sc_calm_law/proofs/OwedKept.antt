@@ -1,18 +1,14 @@
 -- What a pump and an entry leave as it is.
-use Rattle.std.proofs.Common.{◌≡◌, ℕ, ◌+◌, ◌-◌, ◌≤◌, ◌&&◌, eqb, Bool, true, false, cond, List, [], ◌∷◌, ◌++◌, length, Option, Some, None, refl, sym, ◌∙◌, ap, subst, arith, length-drop}
+use Rattle.std.proofs.Common.{◌≡◌, ℕ, ◌+◌, ◌-◌, ◌≤◌, ◌&&◌, Bool, true, false, cond, List, [], ◌∷◌, ◌++◌, length, Option, Some, None, refl, sym, ◌∙◌, subst}
 use Rattle.std.specs.Prelude.{is_some, nat_le}
 use Rattle.std.specs.List.{list_any}
-use Rattle.std.proofs.lemmas.Bool.{cond-true, eq-eqb}
-use Rattle.std.proofs.lemmas.List.{length_push}
 use Rattle.sc_cmd.specs.declared.commands.Command.{Command}
-use Rattle.sc_paxos_words.specs.declared.answers.Learnt.{Learnt}
 use Rattle.sc_paxos_words.specs.declared.answers.Must.{Must}
 use Rattle.sc_paxos_words.specs.declared.answers.Must.TheVariants.{Value, Gap, Free as Open}
 use Rattle.sc_paxos_words.specs.Leaders.{must}
-use Rattle.sc_paxos_words.specs.Logs.{LogState, next_of, log_cut}
-use Rattle.sc_node_table.specs.Execute.{with_entry, entered}
+use Rattle.sc_node_table.specs.Execute.{entered}
 use Rattle.sc_node_table.specs.Pump.{Found, is_act, from_calls, from_acts, from_queues, found_by, found_for, offered, pumped_from, pumped}
-use Rattle.sc_node_table.specs.Replica.{ReplicaState, Place, next, members, settled, may_offer, taken_at, under_way, is_idle, floor_of, forgotten, last_slot}
+use Rattle.sc_node_table.specs.Replica.{ReplicaState, Place, next, members, settled, may_offer, taken_at, under_way, is_idle, forgotten, last_slot}
 use Rattle.sc_node_table.specs.Slots.{rest_of}
 use Rattle.sc_calm_law.specs.Executing.{MayGoOn}
 use Rattle.sc_calm_law.specs.Laws.{AreNines}

@@ -1,6 +1,5 @@
 -- The row of a Learn at a replica that does not run: the entry, and the pump where it is elected by it.
-use Rattle.std.proofs.Common.{◌≡◌, ℕ, ◌+◌, ◌-◌, ◌^◌, ◌≤◌, ◌&&◌, eqb, ltb, Bool, true, false, true≢false, cond, List, [], ◌∷◌, Option, Some, None, ◌⊎◌, inl, inr, refl, sym, ◌∙◌, ap, subst, arith}
-use Rattle.std.specs.Prelude.{nat_le}
+use Rattle.std.proofs.Common.{◌≡◌, ℕ, ◌+◌, ◌-◌, ◌^◌, ◌≤◌, eqb, ltb, Bool, true, false, true≢false, cond, List, [], ◌∷◌, Option, Some, None, ◌⊎◌, inl, inr, refl, sym, ◌∙◌, ap, subst, arith}
 use Rattle.std.proofs.lemmas.Bool.{ltb-true, eqb-true}
 use Rattle.sc_base.specs.declared.names.Ballot.{Ballot}
 use Rattle.sc_cmd.specs.declared.commands.Command.{Command}
@@ -12,12 +11,11 @@ use Rattle.sc_paxos_words.specs.declared.answers.Must.TheVariants.{Free as Open}
 use Rattle.sc_paxos_words.specs.declared.reports.Report.{Report}
 use Rattle.sc_paxos_words.specs.Leaders.{LeaderState, new_leader, must}
 use Rattle.sc_node_table.specs.Election.{open_nodes, elected}
-use Rattle.sc_node_table.specs.Execute.{is_among, looked_for, looked, executed_one, next_child, has_room, ending, executed_ready, all_ready, executed}
+use Rattle.sc_node_table.specs.Execute.{is_among, looked_for, looked, executed_one, executed_ready, all_ready, executed}
 use Rattle.sc_node_table.specs.Mails.{sent, sent_all}
-use Rattle.sc_node_table.specs.Pump.{pumped, pumped_from}
-use Rattle.sc_node_table.specs.Replica.{ReplicaState, Place, Executed, childless, name_of, next, members, first_set, may_offer, last_slot}
+use Rattle.sc_node_table.specs.Pump.{pumped}
+use Rattle.sc_node_table.specs.Replica.{ReplicaState, Place, Executed, childless, name_of, next, members, last_slot}
 use Rattle.sc_node_table.specs.Rows.{learn_row}
-use Rattle.sc_node_table.specs.Slots.{at_slot}
 use Rattle.sc_law_lemmas.proofs.Entries.{idle_ready, idle_pump}
 use Rattle.sc_calm_law.specs.Laws.{AreNines, Follows}
 use Rattle.sc_calm_law.specs.Owed.{Ways, place_owes}

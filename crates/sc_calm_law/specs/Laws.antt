@@ -1,5 +1,5 @@
 -- What is proved of what rows of a calm journal owe.
-use Rattle.std.specs.Prelude.{◌≡◌, ℕ, ◌+◌, ◌*◌, ◌≤◌, ◌&&◌, not, true, false, List, [], length, filter, sum_by, Option, None, Some}
+use Rattle.std.specs.Prelude.{◌≡◌, ℕ, ◌+◌, ◌*◌, ◌≤◌, not, true, false, List, [], length, filter, sum_by, Option, None, Some}
 use Rattle.sc_base.specs.Among.{Each}
 use Rattle.sc_cmd.specs.declared.commands.Command.{Command}
 use Rattle.sc_base.specs.Drawing.{Drawer}
@@ -19,7 +19,6 @@ use Rattle.sc_cmd.specs.declared.votes.Past.{Past}
 use Rattle.sc_cmd.specs.declared.votes.Vote.{Vote}
 use Rattle.sc_mail.specs.declared.bodies.MailBody.{MailBody}
 use Rattle.sc_mail.specs.declared.bodies.MailBody.TheVariants.{Request, Prepare, Promise, Accept, Accepted, Nack, Learn, Install, TxElsewhere, TxPrepare, TxVote, TxOutcome, TxWatch, TxWatched}
-use Rattle.sc_paxos_words.specs.Ballots.{below}
 use Rattle.sc_node_table.specs.Ordering.{ordered_row}
 use Rattle.sc_node_table.specs.Rows.{mailed}
 use Rattle.sc_cmd.specs.declared.commands.Command.TheVariants.{Noop, Call, Join, Leave, Split, Begin, Prepared, RecordVote, GiveUp, Finish, Watched, RecordWatch}

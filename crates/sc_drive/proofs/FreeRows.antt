@@ -1,9 +1,9 @@
 -- The rows of rounds are rows that the walk allows to a free line.
-use Rattle.std.proofs.Common.{◌≡◌, ℕ, zero, suc, ◌+◌, ◌-◌, ◌<◌, ◌≤◌, Bool, true, false, true≢false, eqb, eq-eqb, cond, ◌||◌, ◌&&◌, replicate, List, [], ◌∷◌, ◌++◌, length, get_or, refl, sym, ap, ◌∙◌, subst, arith, length-append, append_assoc, Option, Some, None, Contains}
-use Rattle.std.specs.Prelude.{slice_get, is_none, option_and_then}
+use Rattle.std.proofs.Common.{◌≡◌, ℕ, zero, suc, ◌+◌, ◌-◌, ◌<◌, ◌≤◌, Bool, true, false, true≢false, eqb, eq-eqb, ◌||◌, List, [], ◌∷◌, ◌++◌, length, get_or, refl, sym, ap, ◌∙◌, subst, arith, length-append, append_assoc, Some, Contains}
+use Rattle.std.specs.Prelude.{option_and_then}
 use Rattle.std.specs.List.{list_any}
 use Rattle.std.proofs.lemmas.List.{append-nil}
-use Rattle.std.proofs.lemmas.Bool.{eqb-true, ne_eqb, and_parts, or_parts}
+use Rattle.std.proofs.lemmas.Bool.{eqb-true, ne_eqb, or_parts}
 use Rattle.sc_turn.specs.Turn.{StartsWith}
 use Rattle.sc_actor.specs.declared.actors.Actor.{Ghosts}
 use Rattle.sc_actor.specs.declared.actors.Parcel.{Ghosts as MailGhosts}
@@ -11,10 +11,8 @@ use Rattle.sc_actor.specs.declared.actors.Seat.{Seat}
 use Rattle.sc_actor.specs.declared.rows.Row.{Row}
 use Rattle.sc_actor.specs.declared.rows.Event.TheVariants.{Deliver}
 use Rattle.sc_actor.specs.declared.schedules.Line.{Line}
-use Rattle.sc_actor.specs.Mail.{mails, copies, numbers, numbered, is_for, may_get}
 use Rattle.sc_actor.specs.Counted.{journal_bytes}
-use Rattle.sc_actor.specs.System.{System, numbers_of, row_of, acts, waiting, kth, has_gone, is_go}
-use Rattle.sc_actor.specs.Steps.{IsUnderWay}
+use Rattle.sc_actor.specs.System.{System, row_of, acts, waiting, kth, has_gone, is_go}
 use Rattle.sc_actor.specs.Walk.{Task, Frees, is_over, is_quiet, first_of}
 use Rattle.sc_actor.proofs.WalkLemmas.{Stands, Stands-row}
 use Rattle.sc_actor.proofs.PendingLemmas.{some_waits}

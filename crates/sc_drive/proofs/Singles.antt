@@ -1,6 +1,6 @@
 -- Lines of one row, over a company.
-use Rattle.std.proofs.Common.{◌≡◌, ℕ, ◌+◌, List, [], ◌∷◌, ◌++◌, Bool, true, false, Option, refl, sym, ◌∙◌, ap, subst}
-use Rattle.std.specs.Prelude.{option_and_then, IfSome, Result, Ok, Err}
+use Rattle.std.proofs.Common.{◌≡◌, ℕ, ◌+◌, [], ◌∷◌, ◌++◌, Bool, true, false, Option, refl, sym, ◌∙◌, ap, subst}
+use Rattle.std.specs.Prelude.{option_and_then, IfSome, Ok, Err}
 use Rattle.sc_actor.specs.declared.actors.Actor.{Ghosts}
 use Rattle.sc_actor.specs.declared.actors.Parcel.{Ghosts as MailGhosts}
 use Rattle.sc_actor.specs.declared.rows.Event.TheVariants.{Go as GoEvent}
@@ -11,12 +11,11 @@ use Rattle.sc_actor.specs.Walk.{Once, Storms, line_row}
 use Rattle.sc_drive.specs.declared.company.Company.{Company}
 use Rattle.sc_drive.specs.declared.company.Score.{Score}
 use Rattle.sc_drive.specs.declared.company.Stop.{Stop}
-use Rattle.sc_drive.specs.declared.company.Stop.TheVariants.{Full, OutOfMemory}
+use Rattle.sc_drive.specs.declared.company.Stop.TheVariants.{Full}
 use Rattle.sc_drive.specs.Goings.{Goes, IsCalm}
 use Rattle.sc_drive.specs.Numbers.{is_in}
 use Rattle.sc_drive.specs.Storming.{IsStormLine}
-use Rattle.sc_drive.specs.Working.{AreTogether, HasRested, LineEnded, LineRefused, RowEnded, RowEnds, RowRefused}
-use Rattle.sc_drive.proofs.Kept.{on_same}
+use Rattle.sc_drive.specs.Working.{HasRested, LineEnded, LineRefused, RowEnded, RowEnds, RowRefused}
 use Rattle.sc_drive.proofs.Settled.{line_refused_then, line_rested, line_then}
 use Rattle.sc_drive.proofs.SingleSteps.{fills_full, go_pushed, go_steps, goes_go, goes_made, goes_skipped}
 use Rattle.sc_drive.proofs.StormSteps.{storms_full, storms_made, storms_skipped}

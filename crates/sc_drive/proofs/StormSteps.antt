@@ -1,6 +1,6 @@
 -- A storm takes the walk on, step by step.
 use Rattle.std.proofs.Common.{◌≡◌, ℕ, ◌+◌, ◌-◌, ◌%◌, ◌<◌, ◌≤◌, Bool, true, false, ◌||◌, List, [], ◌∷◌, ◌++◌, length, get_or, sym, ap, ◌∙◌, subst, arith, Option, None, Some}
-use Rattle.std.specs.Prelude.{is_none, option_and_then, IfSome, Result, Ok, Err}
+use Rattle.std.specs.Prelude.{is_none, option_and_then, IfSome, Ok, Err}
 use Rattle.std.proofs.Math.Bool.{or-false}
 use Rattle.sc_actor.specs.declared.actors.Actor.{Ghosts}
 use Rattle.sc_actor.specs.declared.actors.Parcel.{Ghosts as MailGhosts}
@@ -24,7 +24,7 @@ use Rattle.sc_sched.specs.Laws.{AreWithin, MakesItsRow}
 use Rattle.sc_shell.specs.declared.shells.Shell.{Shell}
 use Rattle.sc_workers.proofs.Lists.{one_of}
 use Rattle.sc_drive.specs.declared.company.Score.{Score}
-use Rattle.sc_drive.specs.declared.company.Stop.TheVariants.{Full, OutOfMemory}
+use Rattle.sc_drive.specs.declared.company.Stop.TheVariants.{Full}
 use Rattle.sc_drive.specs.Companies.{IsCompany}
 use Rattle.sc_drive.specs.Goings.{HasReached, Goes, Fills, DeedMade, IsCalm}
 use Rattle.sc_drive.specs.Storming.{IsStormLine}

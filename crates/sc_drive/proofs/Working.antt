@@ -1,5 +1,5 @@
 -- What acts of actors and of the network make of a company.
-use Rattle.std.proofs.Common.{◌≡◌, ◌≤◌, ℕ, Bool, true, false, true≢false, Option, Some, None, refl, sym, ◌∙◌, subst}
+use Rattle.std.proofs.Common.{◌≡◌, ℕ, Bool, true, false, true≢false, Option, Some, None, refl, sym, ◌∙◌, subst}
 use Rattle.std.specs.Prelude.{Result, Ok, Err}
 use Rattle.std.specs.Result.{IsErrAnd}
 use Rattle.sc_actor.specs.declared.actors.Actor.{Ghosts}
@@ -25,7 +25,6 @@ use Rattle.sc_drive.specs.declared.company.Company.{Company}
 use Rattle.sc_drive.specs.declared.company.Stop.{Stop}
 use Rattle.sc_drive.specs.declared.company.Stop.TheVariants.{Full, OutOfMemory}
 use Rattle.sc_drive.specs.Changing.{Changes}
-use Rattle.sc_drive.specs.Companies.{IsCompany}
 use Rattle.sc_drive.specs.Goings.{IsOn}
 use Rattle.sc_drive.specs.Rows.{row_made}
 use Rattle.sc_drive.specs.Stepping.{IsNowhere, IsPlace, unless_crashed}

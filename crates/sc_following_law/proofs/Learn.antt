@@ -1,5 +1,5 @@
 -- A replica that does not run takes an entry that it is told as its mark says, and so the table follows.
-use Rattle.std.proofs.Common.{◌≡◌, ℕ, max, ◌≤◌, ◌&&◌, eqb, ltb, Bool, true, false, true≢false, cond, List, [], ◌∷◌, Option, Some, None, inl, inr, refl, sym, ◌∙◌, ap, subst, arith}
+use Rattle.std.proofs.Common.{◌≡◌, ℕ, max, ◌≤◌, eqb, ltb, Bool, true, false, true≢false, cond, List, [], Option, Some, None, inl, inr, refl, sym, ◌∙◌, ap, subst, arith}
 use Rattle.std.specs.Option.{option_map}
 use Rattle.std.proofs.lemmas.Bool.{eqb-true, eq-eqb, le-ltb}
 use Rattle.sc_base.specs.declared.names.Draw.{Draw}
@@ -16,12 +16,12 @@ use Rattle.sc_paxos_words.specs.Leaders.{LeaderState, flight_at, without_flight_
 use Rattle.sc_machine_table.specs.Machine.{applied}
 use Rattle.sc_node_table.specs.declared.Before.{Before}
 use Rattle.sc_node_table.specs.Election.{elected}
-use Rattle.sc_node_table.specs.Execute.{entered, order_result, told_effect, announced, learnt_to, welcomed, slot_lost, landed, left_gone, left, is_among, looked_for, looked, executed_one, next_child, has_room, ending, executed_ready, executed}
+use Rattle.sc_node_table.specs.Execute.{entered, order_result, told_effect, announced, learnt_to, welcomed, slot_lost, landed, left_gone, left, is_among, looked_for, looked, executed_one, executed_ready, executed}
 use Rattle.sc_node_table.specs.Mails.{sent, told_order, told_desk, order_number}
 use Rattle.sc_node_table.specs.Pump.{pumped}
 use Rattle.sc_node_table.specs.Replica.{ReplicaState, Place, Executed, childless, name_of, next, members, last_slot, floor_of, forgotten}
 use Rattle.sc_node_table.specs.Rows.{learn_row, mailed}
-use Rattle.sc_node_table.specs.Slots.{at_slot, without_slot}
+use Rattle.sc_node_table.specs.Slots.{without_slot}
 use Rattle.sc_node_table.specs.Spoken.{before_of, begun_result, spoken_number, told_result, told_begun, spoken_mails, spoken}
 use Rattle.sc_following_law.specs.Following.{Tells}
 use Rattle.sc_following_law.specs.Tables.{marks_for, StepsBy, IsInTime, Stays, TablesFollow}

@@ -1,5 +1,5 @@
 -- A replica's table takes the mail of its group as the marks of it say.
-use Rattle.std.proofs.Common.{◌≡◌, ℕ, suc, ◌+◌, ◌-◌, ◌<◌, ◌≤◌, ◌&&◌, ◌||◌, not, max, eqb, ltb, Bool, true, false, true≢false, cond, List, [], ◌∷◌, ◌++◌, length, Option, Some, None, inl, inr, refl, sym, ◌∙◌, ap, subst, arith, length-drop}
+use Rattle.std.proofs.Common.{◌≡◌, ℕ, suc, ◌<◌, ◌≤◌, ◌&&◌, ◌||◌, not, max, eqb, ltb, Bool, true, false, true≢false, cond, List, [], ◌∷◌, ◌++◌, length, Option, Some, None, inl, inr, refl, sym, ◌∙◌, ap, subst, arith}
 use Rattle.std.specs.List.{filter}
 use Rattle.std.proofs.lemmas.Bool.{cases_eq, cond_both, cond-true, cond-false, eq-eqb, ne_eqb, lt-leb, le-ltb, or_from, not_from_true}
 use Rattle.sc_base.specs.declared.names.Ballot.{Ballot}
@@ -18,7 +18,7 @@ use Rattle.sc_paxos_words.specs.declared.reports.Report.{Report}
 use Rattle.sc_paxos_words.specs.Accepting.{accepted as accepted_by}
 use Rattle.sc_paxos_words.specs.Acceptors.{after_accept, after_promise, reports_from}
 use Rattle.sc_paxos_words.specs.Ballots.{below}
-use Rattle.sc_paxos_words.specs.Logs.{LogState, next_of, log_cut, installed}
+use Rattle.sc_paxos_words.specs.Logs.{installed}
 use Rattle.sc_paxos_words.specs.Preparing.{prepared}
 use Rattle.sc_paxos_words.proofs.BallotLemmas.{at_least_itself, same_from_at_least}
 use Rattle.sc_node_table.specs.Election.{saw, stopped}

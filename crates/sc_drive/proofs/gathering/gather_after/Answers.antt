@@ -1,6 +1,6 @@
-use Rattle.std.proofs.Common.{◌≡◌, ◌∙◌, set, get_or, subst, sym}
+use Rattle.std.proofs.Common.{set, subst, sym}
 use Rattle.sc_exchange.specs.Ports.{SameExchange}
-use Rattle.sc_workers.specs.Crews.{AreStill, Met}
+use Rattle.sc_workers.specs.Crews.{AreStill}
 use Rattle.sc_workers.proofs.Crews.{all_met_later, all_of_on, are_still_looked, are_still_then, still_later}
 use Rattle.sc_workers.proofs.Ending.{first_so, gathered_so}
 use Rattle.sc_drive.proofs.OneMet.{one_met, all_met}

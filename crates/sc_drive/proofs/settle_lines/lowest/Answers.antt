@@ -1,6 +1,5 @@
 use Rattle.std.proofs.Common.{refl}
 use Rattle.std.proofs.lemmas.Result.{IfOk-weaker}
-use Rattle.sc_drive.specs.declared.company.Company.{Company}
 use Rattle.sc_drive.proofs.Working.{found_then, rested, together_rested}
 use Rattle.sc_drive.proofs.settle_lines.lowest.Goals as goal
 

@@ -1,4 +1,4 @@
-use Rattle.std.proofs.Common.{rules, ◌≡◌, ◌-◌, Option, Result, Err, None, Some, [], ◌∷◌, ap, subst, ℕ}
+use Rattle.std.proofs.Common.{rules, ◌≡◌, ◌-◌, Option, Result, Err, None, [], ◌∷◌, ap, subst, ℕ}
 use Rattle.sc_actor.specs.Walk.{Settles}
 use Rattle.sc_drive.specs.declared.company.Stop.{Stop}
 use Rattle.sc_drive.specs.declared.company.Stop.TheVariants.{Full}

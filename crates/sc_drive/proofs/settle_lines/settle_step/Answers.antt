@@ -1,6 +1,4 @@
-use Rattle.std.proofs.Common.{◌-◌, [], ◌∷◌, inl, inr, refl, sym, subst}
-use Rattle.sc_actor.specs.Walk.{Settles}
-use Rattle.sc_shell.specs.declared.turns.Turn.TheVariants.{Did, Full}
+use Rattle.std.proofs.Common.{◌-◌, inl, inr, subst}
 use Rattle.sc_drive.specs.Acts.{Served}
 use Rattle.sc_drive.specs.Working.{ActServed}
 use Rattle.sc_drive.proofs.SettleSteps.{never_empty, never_spent}
