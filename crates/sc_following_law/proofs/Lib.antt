@@ -4,6 +4,8 @@ pub mod Elected
 pub mod Elects
 pub mod Entries
 pub mod Executed
+pub mod Heeding
+pub mod Hints
 pub mod InFlight
 pub mod InQuiet
 pub mod Keeps
@@ -15,4 +17,5 @@ pub mod Nodes
 pub mod Offers
 pub mod Polled
 pub mod Spoken
+pub mod TableHints
 pub mod Voted

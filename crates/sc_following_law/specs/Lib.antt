@@ -1,6 +1,8 @@
 pub mod Counted
 pub mod Executed
 pub mod Following
+pub mod Heeding
+pub mod Hints
 pub mod Leading
 pub mod Offers
 pub mod Rows

@@ -5,6 +5,8 @@
 
 ghost use Rattle.sc_following_law.specs.Counted.{EntriesLead};
 ghost use Rattle.sc_following_law.specs.Executed.{ExecutionsLead};
+ghost use Rattle.sc_following_law.specs.Heeding.{HeirsElect, HintsFollow};
+ghost use Rattle.sc_following_law.specs.Hints.{HintsAreKept, NodesHeed};
 ghost use Rattle.sc_following_law.specs.Leading.{RowsLead};
 ghost use Rattle.sc_following_law.specs.Offers.{PumpsOffer};
 ghost use Rattle.sc_following_law.specs.Rows.{GroupsBeginFollowing, IdleRowsKeep, LeadersKeep, ElectionsKeep, TakersKeep, QuietGroupsAreEven};
@@ -100,4 +102,28 @@ pub fn executions_lead()
 /// executes are the next ones, and where it stops only when all that was offered is executed.
 pub fn rows_lead()
     ensures { RowsLead }
+{}
+
+/// Whom each node takes for the leader is kept by each kind of row: while one leads, all others
+/// that decide an open slot take it for that once they have taken their mail, and each is told an
+/// entry by the one that it takes for the leader then.
+pub fn hints_are_kept()
+    ensures { HintsAreKept }
+{}
+
+/// So a node that is told an entry takes a member for the leader after it, or is not the least
+/// member, or the entry is the last one and none leads; and then it takes no member for it.
+pub fn nodes_heed()
+    ensures { NodesHeed }
+{}
+
+/// A replica's table that does not run takes for the leader whom the mark of a mail says.
+pub fn hints_follow()
+    ensures { HintsFollow }
+{}
+
+/// So a replica that is told an entry by which it is to lead next elects itself, if it has a later
+/// round, and by any other entry it does not.
+pub fn heirs_elect()
+    ensures { HeirsElect }
 {}
