@@ -1,5 +1,6 @@
 pub mod Asides
 pub mod Counted
+pub mod Dated
 pub mod Elected
 pub mod Elects
 pub mod Entries
@@ -15,6 +16,7 @@ pub mod Learn
 pub mod Marks
 pub mod Nodes
 pub mod Offers
+pub mod Own
 pub mod Polled
 pub mod Spoken
 pub mod TableHints

@@ -1,4 +1,5 @@
 pub mod Counted
+pub mod Dated
 pub mod Executed
 pub mod Following
 pub mod Heeding

@@ -4,10 +4,11 @@
 #![tactic(auto)]
 
 ghost use Rattle.sc_following_law.specs.Counted.{EntriesLead};
+ghost use Rattle.sc_following_law.specs.Dated.{PreparesAreKnown, SlotsAreKept};
 ghost use Rattle.sc_following_law.specs.Executed.{ExecutionsLead};
 ghost use Rattle.sc_following_law.specs.Heeding.{HeirsElect, HintsFollow};
 ghost use Rattle.sc_following_law.specs.Hints.{HintsAreKept, NodesHeed};
-ghost use Rattle.sc_following_law.specs.Leading.{RowsLead};
+ghost use Rattle.sc_following_law.specs.Leading.{OwnRowsKeep, RowsLead};
 ghost use Rattle.sc_following_law.specs.Offers.{PumpsOffer};
 ghost use Rattle.sc_following_law.specs.Rows.{GroupsBeginFollowing, IdleRowsKeep, LeadersKeep, ElectionsKeep, TakersKeep, QuietGroupsAreEven};
 ghost use Rattle.sc_following_law.specs.Tables.{EntriesTell, StatesMake, TablesElect, TablesFollow};
@@ -126,4 +127,20 @@ pub fn hints_follow()
 /// round, and by any other entry it does not.
 pub fn heirs_elect()
     ensures { HeirsElect }
+{}
+
+/// One that leads does so still after it took an Accept or a Prepare of its own.
+pub fn own_rows_keep()
+    ensures { OwnRowsKeep }
+{}
+
+/// Each kind of row keeps it that no node is asked to promise a ballot from below its next slot.
+pub fn slots_are_kept()
+    ensures { SlotsAreKept }
+{}
+
+/// So an acceptor that has forgotten nothing from its next slot on is asked from above what it has
+/// forgotten.
+pub fn prepares_are_known()
+    ensures { PreparesAreKnown }
 {}
