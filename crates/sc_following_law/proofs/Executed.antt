@@ -351,14 +351,14 @@ step_leads at course command place es led ready is_next rest =
           (subst (LeadsBy at course place) (sym (idle_pump mid still)) (last_one at course command place mid led ready is_next past off)))
     ]
 
-ready_of : (command : Command) (r : ReplicaState) → next_ready r ≡ Some command → at_slot r.ready (next r) ≡ Some command
+pub ready_of : (command : Command) (r : ReplicaState) → next_ready r ≡ Some command → at_slot r.ready (next r) ≡ Some command
 ready_of command r e = by (r.running && has_room r) e
   where
     by : (b : Bool) → cond b (at_slot r.ready (next r)) None ≡ Some command → at_slot r.ready (next r) ≡ Some command
     by true i = i
     by false i = cc
 
-ready_leads : (at : Sets) (course : Course) (es : List (ℕ × Command)) (place : Place) → IsLed at course place.0 → AreNext at es place → LeadsBy at course place (executed_ready es place).0
+pub ready_leads : (at : Sets) (course : Course) (es : List (ℕ × Command)) (place : Place) → IsLed at course place.0 → AreNext at es place → LeadsBy at course place (executed_ready es place).0
 unfolding executed_ready
 ready_leads at course [] place led are = none_leads at course place led
 ready_leads at course (e ∷ es) place led are = by (next_ready place.0) refl are (λ q l a. ready_leads at course es q l a)

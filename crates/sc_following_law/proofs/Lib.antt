@@ -1,3 +1,4 @@
+pub mod Alone
 pub mod Asides
 pub mod Counted
 pub mod Dated

@@ -1,5 +1,5 @@
 -- A leader's whole rows in the table, as rows of what stands between it and its nodes.
-use Rattle.std.specs.Prelude.{◌≡◌, ℕ, suc, ◌+◌, ◌<◌, ◌≤◌, ◌==◌, ◌||◌, not, nat_lt, Bool, true, false, List, [], length, if◌then◌else◌, Option, Some, None, is_some}
+use Rattle.std.specs.Prelude.{◌≡◌, ℕ, suc, ◌+◌, ◌<◌, ◌≤◌, ◌==◌, ◌||◌, not, nat_lt, Bool, true, false, List, [], length, if◌then◌else◌, Option, Some, None, is_some, ◌⊎◌}
 use Rattle.std.specs.Option.{option_map}
 use Rattle.sc_base.specs.Drawing.{Drawer}
 use Rattle.sc_base.specs.declared.names.Ballot.{Ballot}
@@ -15,7 +15,8 @@ use Rattle.sc_paxos_words.specs.Leaders.{LeaderState, flight_at}
 use Rattle.sc_paxos_words.specs.Votes.{kept_voters, counted}
 use Rattle.sc_node_table.specs.declared.ReplicaInput.TheVariants as Given
 use Rattle.sc_node_table.specs.Execute.{executed_one}
-use Rattle.sc_node_table.specs.Replica.{ReplicaState, Place, name_of, next}
+use Rattle.sc_node_table.specs.Pump.{is_act}
+use Rattle.sc_node_table.specs.Replica.{ReplicaState, Place, name_of, next, flying}
 use Rattle.sc_node_table.specs.Rows.{mailed, stepped}
 use Rattle.sc_node_table.specs.Slots.{at_slot, with_slot}
 use Rattle.sc_law_lemmas.specs.Steps.{GoesOn}
@@ -118,3 +119,14 @@ pub record OwnRowsKeep : Type 0 where
       → (let after : Place = (mailed ballot.node (Accept (name_of r) ballot slot command) (r, [])).0 in IsLeadOf at (promised_by now after.0) after.0)
   pub prepare : (at : Sets) (now : Progress) (ballot : Ballot) (from_slot : ℕ) (r : ReplicaState) → IsLeadOf at now r → GoesOn ballot r → r.acceptor.floor < from_slot
       → (let after : Place = (mailed ballot.node (Prepare (name_of r) ballot from_slot) (r, [])).0 in IsLeadOf at (promised_by now after.0) after.0)
+
+-- where anything but a call or a filler is in flight or ready, nothing else is
+abbrev pub ActsAlone : Course → ReplicaState → Type 0
+ActsAlone course r =
+    (slot : ℕ) (command : Command) → next r ≤ slot → (flying r slot ≡ Some command) ⊎ (at_slot r.ready slot ≡ Some command) → is_act command ≡ true → course.bound ≡ next r + 1
+
+-- so a leader stops by nothing else that it executes by a vote
+abbrev pub ActsStopAlone : Type 0
+ActsStopAlone =
+    (at : Sets) (now : Progress) (from : ℕ) (ballot : Ballot) (slot : ℕ) (r : ReplicaState) → ((s : ℕ) → IsRoster (at s)) → IsLeadOf at now r → DecidesNext at from ballot slot r → ActsAlone now.course r
+    → StopsAlone now.course (mailed from (Accepted (name_of r) ballot slot) (r, [])).0.0

@@ -8,7 +8,7 @@ ghost use Rattle.sc_following_law.specs.Dated.{PreparesAreKnown, SlotsAreKept};
 ghost use Rattle.sc_following_law.specs.Executed.{ExecutionsLead};
 ghost use Rattle.sc_following_law.specs.Heeding.{HeirsElect, HintsFollow};
 ghost use Rattle.sc_following_law.specs.Hints.{HintsAreKept, NodesHeed};
-ghost use Rattle.sc_following_law.specs.Leading.{OwnRowsKeep, RowsLead};
+ghost use Rattle.sc_following_law.specs.Leading.{ActsStopAlone, OwnRowsKeep, RowsLead};
 ghost use Rattle.sc_following_law.specs.Offers.{PumpsOffer};
 ghost use Rattle.sc_following_law.specs.Rows.{GroupsBeginFollowing, IdleRowsKeep, LeadersKeep, ElectionsKeep, TakersKeep, QuietGroupsAreEven};
 ghost use Rattle.sc_following_law.specs.Tables.{EntriesTell, StatesMake, TablesElect, TablesFollow};
@@ -143,4 +143,10 @@ pub fn slots_are_kept()
 /// forgotten.
 pub fn prepares_are_known()
     ensures { PreparesAreKnown }
+{}
+
+/// Where anything but a call or a filler is in flight or ready only alone, a leader that stops by a
+/// vote has executed all that it offered.
+pub fn acts_stop_alone()
+    ensures { ActsStopAlone }
 {}
