@@ -1,8 +1,7 @@
 -- A leader stops by what is offered alone, and so has executed all that it offered.
-use Rattle.std.proofs.Common.{◌≡◌, ℕ, ◌+◌, ◌≤◌, eqb, ltb, Bool, true, false, true≢false, List, [], ◌∷◌, Option, Some, None, ◌⊎◌, inl, inr, refl, sym, ◌∙◌, ap, subst, arith}
+use Rattle.std.proofs.Common.{◌≡◌, ℕ, ◌+◌, ◌≤◌, eqb, ltb, true, false, true≢false, List, [], ◌∷◌, Option, Some, None, inl, inr, refl, sym, ◌∙◌, ap, subst, arith}
 use Rattle.std.specs.FinMap.{get}
 use Rattle.std.proofs.lemmas.Bool.{cond_both}
-use Rattle.sc_base.specs.declared.names.Ballot.{Ballot}
 use Rattle.sc_base.specs.declared.ops.Noted.{Noted}
 use Rattle.sc_base.specs.declared.ops.Op.{Op}
 use Rattle.sc_ideal.specs.IdealStore.{key_of, holds_key}
@@ -15,18 +14,18 @@ use Rattle.sc_cmd.specs.declared.effects.Effect.{Effect}
 use Rattle.sc_cmd.specs.declared.links.Route.{Route}
 use Rattle.sc_machine_table.specs.Group.{Group}
 use Rattle.sc_machine_table.specs.Machine.{served_by_note, served, called, applied}
-use Rattle.sc_member.specs.Roster.{IsRoster, is_member}
+use Rattle.sc_member.specs.Roster.{is_member}
 use Rattle.sc_node_table.specs.Execute.{entered, executed_one, next_child, next_ready, ending, executed_ready, executed}
 use Rattle.sc_node_table.specs.Pump.{is_act, pumped}
-use Rattle.sc_node_table.specs.Replica.{ReplicaState, Place, Executed, childless, next, members, forgotten, flying, taken_at}
+use Rattle.sc_node_table.specs.Replica.{ReplicaState, Place, Executed, childless, next, forgotten}
 use Rattle.sc_node_table.specs.Rows.{mailed}
 use Rattle.sc_node_table.specs.Slots.{at_slot}
 use Rattle.sc_law_lemmas.specs.Steps.{IfThere}
 use Rattle.sc_law_lemmas.proofs.Entries.{entered_next, idle_ready, idle_pump}
-use Rattle.sc_following_law.specs.Following.{Course, Progress, Sets}
+use Rattle.sc_following_law.specs.Following.{Course, Sets}
 use Rattle.sc_following_law.specs.Counted.{IsLed, IsNext, IsOn, IsOff, LeadsPast}
 use Rattle.sc_following_law.specs.Executed.{AreNext, LeadsBy}
-use Rattle.sc_following_law.specs.Leading.{IsLeadOf, StopsAlone, DecidesNext, ActsAlone, ActsStopAlone}
+use Rattle.sc_following_law.specs.Leading.{StopsAlone, ActsStopAlone}
 use Rattle.sc_following_law.proofs.Counted.{entries_lead}
 use Rattle.sc_following_law.proofs.Executed.{stays_led, ready_of, ready_leads}
 use Rattle.sc_following_law.proofs.InFlight.{slot_out}
@@ -148,6 +147,6 @@ executed_alone at course command place led ready is_next are alone =
 pub acts_stop_alone : ActsStopAlone
 unfolding mailed
 acts_stop_alone at now from ballot slot r rosters was decides alone =
-    vote_row at now from ballot slot r rosters was decides (λ e. StopsAlone now.course e.0.0) (λ mid c off. absurd (true≢false (sym c.led.running ∙ off)))
-    (λ command mid c ready entries before. executed_alone at now.course command (mid, []) c.led ready entries.0 entries.1
+    vote_row at now from ballot slot r rosters was decides (λ e. StopsAlone now.course e.0.0) (λ mid c keeps off. absurd (true≢false (sym c.led.running ∙ off)))
+    (λ command mid c ready entries before keeps. executed_alone at now.course command (mid, []) c.led ready entries.0 entries.1
     (λ s other least e act. (let same = c.same_next in let bound = alone s other (omega (arith, least, same)) (before s other e) act in omega (arith, bound, same))))

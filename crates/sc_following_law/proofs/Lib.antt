@@ -17,6 +17,8 @@ pub mod Learn
 pub mod Marks
 pub mod Nodes
 pub mod Offers
+pub mod Ordered
+pub mod Orderly
 pub mod Own
 pub mod Polled
 pub mod Spoken

@@ -24,10 +24,12 @@ use Rattle.sc_following_law.specs.Following.{Mark, Votes, Promises, Course, Prog
 use Rattle.sc_following_law.specs.Counted.{IsLed}
 use Rattle.sc_following_law.specs.Leading.{voters_of, IsPolled, IsLeadOf, LeadsInto, AreEntries, StopsAlone, DecidesNext}
 use Rattle.sc_following_law.specs.Offers.{AreAt, MayOffer}
+use Rattle.sc_following_law.specs.Orderly.{IsOrderly}
 use Rattle.sc_following_law.specs.Rows.{IsCount, IsCounted}
 use Rattle.sc_following_law.proofs.Executed.{none_leads, executions_lead}
 use Rattle.sc_following_law.proofs.InFlight.{flight_out, slot_in, slot_over, polled_here, polled_out}
 use Rattle.sc_following_law.proofs.Leading.{voters_fly, fly_voters, none_taken, Counts, leads_into}
+use Rattle.sc_following_law.proofs.Orderly.{decided_orderly, polled_orderly}
 use Rattle.sc_following_law.proofs.Polled.{HasVoted, vote_kept}
 
 -- ---- nothing changes for what is in flight
@@ -110,9 +112,9 @@ module _ (at : Sets) (course : Course) (r : ReplicaState) (led : IsLed at course
 -- ---- the vote
 
 module _ (at : Sets) (now : Progress) (from : ℕ) (ballot : Ballot) (slot : ℕ) (r : ReplicaState) (rosters : (s : ℕ) → IsRoster (at s)) (was : IsLeadOf at now r) (decides : DecidesNext at from ballot slot r)
-    (P : Executed → Type 0) (plain : (mid : ReplicaState) → Counts at now (Some (Votes from ballot slot)) r mid → P (childless (mid, [])))
+    (P : Executed → Type 0) (plain : (mid : ReplicaState) → Counts at now (Some (Votes from ballot slot)) r mid → (IsOrderly r → IsOrderly mid) → P (childless (mid, [])))
     (executes : (command : Command) (mid : ReplicaState) → Counts at now (Some (Votes from ballot slot)) r mid → at_slot mid.ready (next mid) ≡ Some command → AreEntries at command (mid, [])
-    → ((s : ℕ) (c : Command) → at_slot mid.ready s ≡ Some c → (flying r s ≡ Some c) ⊎ (at_slot r.ready s ≡ Some c)) → P (executed true command (mid, []))) where
+    → ((s : ℕ) (c : Command) → at_slot mid.ready s ≡ Some c → (flying r s ≡ Some c) ⊎ (at_slot r.ready s ≡ Some c)) → (IsOrderly r → IsOrderly mid) → P (executed true command (mid, []))) where
   abbrev vote : Option Mark
   vote = Some (Votes from ballot slot)
 
@@ -121,7 +123,7 @@ module _ (at : Sets) (now : Progress) (from : ℕ) (ballot : Ballot) (slot : ℕ
 
   -- it is none for what is in flight
   stays : (ballot ≡ now.course.ballot → (voters : List ℕ) → voters_of r slot ≡ Some voters → ⊥) → P (childless (r, []))
-  stays none = plain r (counts_beside at now vote r was (tt, tt) (λ s voters e node t. other s voters e node t) r.top r.leader.promisers r.leader.reports r.acts r.calls (λ who m. m) no_promise)
+  stays none = plain r (counts_beside at now vote r was (tt, tt) (λ s voters e node t. other s voters e node t) r.top r.leader.promisers r.leader.reports r.acts r.calls (λ who m. m) no_promise) (λ o. o)
     where
       other : (s : ℕ) (voters : List ℕ) → voters_of r s ≡ Some voters → (node : ℕ) → vote ≡ Some (Votes node now.course.ballot s) → ⊥
       other s voters e node t =
@@ -305,8 +307,8 @@ module _ (at : Sets) (now : Progress) (from : ℕ) (ballot : Ballot) (slot : ℕ
         by : (b : Bool) → (eqb slot (next r) && has_room r) ≡ b → P (cond b (executed true flight.value (deciding, [])) (childless (deciding, [])))
         by true t =
             let is : slot ≡ next r = eqb-true slot (next r) (and_parts (eqb slot (next r)) (has_room r) t).0 in
-            executes flight.value deciding counts_deciding (ready_next is) (decides flight.value (without_flight_at slot r.leader) is chosen) ready_before
-        by false f = plain deciding counts_deciding
+            executes flight.value deciding counts_deciding (ready_next is) (decides flight.value (without_flight_at slot r.leader) is chosen) ready_before (λ o. decided_orderly r o slot flight found)
+        by false f = plain deciding counts_deciding (λ o. decided_orderly r o slot flight found)
 
     tallies : counted from ballot slot (at slot) r.leader ≡ tallied slot flight.value (at slot) voters2 r.leader → P (vote_tallied slot (tallied slot flight.value (at slot) voters2 r.leader) (r, []))
     tallies is = by (is_majority (at slot) (kept_voters voters2)) refl is
@@ -317,7 +319,7 @@ module _ (at : Sets) (now : Progress) (from : ℕ) (ballot : Ballot) (slot : ℕ
         by : (b : Bool) → is_majority (at slot) (kept_voters voters2) ≡ b → counted from ballot slot (at slot) r.leader ≡ cond b (Chosen flight.value, without_flight_at slot r.leader) yet
             → P (vote_tallied slot (cond b (Chosen flight.value, without_flight_at slot r.leader) yet) (r, []))
         by true t chosen = decided chosen
-        by false f chosen = plain polling (counts_polling f)
+        by false f chosen = plain polling (counts_polling f) (λ o. polled_orderly r o slot flight found voters2)
 
   -- ---- the whole
 
@@ -383,5 +385,5 @@ pub vote_leads : (at : Sets) (now : Progress) (from : ℕ) (ballot : Ballot) (sl
     → StopsAlone now.course (accepted_row from ballot slot (r, [])).0.0 → LeadsInto at now (Some (Votes from ballot slot)) r (accepted_row from ballot slot (r, [])).0
 vote_leads at now from ballot slot r rosters was decides =
     vote_row at now from ballot slot r rosters was decides (λ e. StopsAlone now.course e.0.0 → LeadsInto at now (Some (Votes from ballot slot)) r e.0)
-    (λ mid c alone. leads_into at now (Some (Votes from ballot slot)) r mid [] (mid, []) was c (λ who. refl) (none_leads at now.course (mid, []) c.led) alone)
-    (λ command mid c ready entries before alone. leads_into at now (Some (Votes from ballot slot)) r mid [] (executed true command (mid, [])).0 was c (λ who. refl) (executions_lead at now.course command (mid, []) c.led ready entries.0 entries.1) alone)
+    (λ mid c keeps alone. leads_into at now (Some (Votes from ballot slot)) r mid [] (mid, []) was c (λ who. refl) (none_leads at now.course (mid, []) c.led) alone)
+    (λ command mid c ready entries before keeps alone. leads_into at now (Some (Votes from ballot slot)) r mid [] (executed true command (mid, [])).0 was c (λ who. refl) (executions_lead at now.course command (mid, []) c.led ready entries.0 entries.1) alone)

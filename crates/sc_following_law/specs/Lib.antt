@@ -6,5 +6,6 @@ pub mod Heeding
 pub mod Hints
 pub mod Leading
 pub mod Offers
+pub mod Orderly
 pub mod Rows
 pub mod Tables

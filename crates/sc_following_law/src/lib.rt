@@ -10,6 +10,7 @@ ghost use Rattle.sc_following_law.specs.Heeding.{HeirsElect, HintsFollow};
 ghost use Rattle.sc_following_law.specs.Hints.{HintsAreKept, NodesHeed};
 ghost use Rattle.sc_following_law.specs.Leading.{ActsStopAlone, OwnRowsKeep, RowsLead};
 ghost use Rattle.sc_following_law.specs.Offers.{PumpsOffer};
+ghost use Rattle.sc_following_law.specs.Orderly.{OrderIsKept};
 ghost use Rattle.sc_following_law.specs.Rows.{GroupsBeginFollowing, IdleRowsKeep, LeadersKeep, ElectionsKeep, TakersKeep, QuietGroupsAreEven};
 ghost use Rattle.sc_following_law.specs.Tables.{EntriesTell, StatesMake, TablesElect, TablesFollow};
 
@@ -149,4 +150,10 @@ pub fn prepares_are_known()
 /// vote has executed all that it offered.
 pub fn acts_stop_alone()
     ensures { ActsStopAlone }
+{}
+
+/// What a leader has in flight and ready stays one command at a slot, and anything but a call or a
+/// filler alone, by each of its rows after which it leads on, where promises have no reports.
+pub fn order_is_kept()
+    ensures { OrderIsKept }
 {}
