@@ -54,7 +54,7 @@ counts_low : (next : ℕ) (dated : List Dated) → Each IsCount (marks_in dated)
 counts_low next [] e = tt
 counts_low next (d ∷ dated) e = (no_prepare next d.1 d.0 (count_none d.0 e.0), counts_low (next_by next d.0) dated e.1)
 
-nothing : (dated : List Dated) → marks_in dated ≡ [] → dated ≡ []
+pub nothing : (dated : List Dated) → marks_in dated ≡ [] → dated ≡ []
 nothing [] e = refl
 nothing (d ∷ dated) e = cc
 

@@ -2,6 +2,7 @@ pub mod Alone
 pub mod Asides
 pub mod Counted
 pub mod Dated
+pub mod DatedTables
 pub mod Elected
 pub mod Elects
 pub mod Entries

@@ -26,7 +26,7 @@ use Rattle.sc_node_table.specs.Voting.{promise_to, promised, prepare_row, accept
 use Rattle.sc_law_lemmas.specs.Steps.{GoesOn}
 use Rattle.sc_law_lemmas.proofs.Entries.{idle_ready, idle_pump}
 use Rattle.sc_following_law.specs.Following.{Asks, Installs, members_at}
-use Rattle.sc_following_law.specs.Heeding.{HintsFollow, IsHeir, HeirsElect}
+use Rattle.sc_following_law.specs.Heeding.{HintsFollow, IsHeir, HeirsElect, LeadersLeaveLast}
 use Rattle.sc_following_law.specs.Tables.{IsInTime, Stays}
 use Rattle.sc_following_law.proofs.Heeding.{nodes_heed}
 use Rattle.sc_following_law.proofs.Learn.{over, place2, over_off, looks, looked_same, told_is}
@@ -185,3 +185,12 @@ heirs_elect at by now hints marks slot rest command r h is told = elim (nodes_he
             };
           }))
     ]
+
+-- ---- a leader leaves last
+
+pub leaders_leave_last : LeadersLeaveLast
+leaders_leave_last at by now taken r after was l counts alone = record {
+  counts = counts;
+  stayed = λ slot least most. ap (is_member (members_at at (slot + 1))) was.led.mine ∙ l.stayed slot (let is = was.newest in omega (arith, least, is)) most;
+  alone = alone;
+}

@@ -1,16 +1,19 @@
 -- From which slot on each node is asked to promise a ballot: from none below its next one, and so from above what its acceptor has forgotten.
-use Rattle.std.specs.Prelude.{◌≡◌, ℕ, ◌<◌, ◌≤◌, ◌==◌, List, [], ◌∷◌, ◌++◌, map, filter, Option, Some, None}
+use Rattle.std.specs.Prelude.{◌≡◌, ℕ, suc, ◌<◌, ◌≤◌, ◌==◌, false, List, [], ◌∷◌, ◌++◌, map, filter, Option, Some, None}
 use Rattle.std.specs.Option.{option_map}
 use Rattle.sc_base.specs.Among.{Each}
 use Rattle.sc_base.specs.declared.names.Ballot.{Ballot}
 use Rattle.sc_base.specs.declared.names.Draw.{Draw}
+use Rattle.sc_cmd.specs.declared.commands.Command.{Command}
 use Rattle.sc_mail.specs.declared.bodies.Mail.{Mail}
 use Rattle.sc_mail.specs.declared.bodies.MailBody.{MailBody}
 use Rattle.sc_mail.specs.declared.bodies.MailBody.TheVariants.{Request, Answer, Prepare, Promise, Accept, Accepted, Nack, Learn, Ask, Install, TxPrepare, TxVote, TxOutcome, TxElsewhere, TxWatch, TxWatched, Told}
-use Rattle.sc_node_table.specs.Replica.{ReplicaState, listed, next}
+use Rattle.sc_node_table.specs.Execute.{entered}
+use Rattle.sc_node_table.specs.Replica.{ReplicaState, listed, name_of, next, last_slot}
+use Rattle.sc_node_table.specs.Rows.{mailed}
 use Rattle.sc_following_law.specs.Following.{Mark, Asks, Votes, Tells, Installs, Prepares, Promises, mark_of, next_by, Progress, Sets, IsFollowing}
 use Rattle.sc_following_law.specs.Rows.{IsIdle, Takes, Leads, Elects}
-use Rattle.sc_following_law.specs.Tables.{marks_for}
+use Rattle.sc_following_law.specs.Tables.{marks_for, IsInTime, MayElect}
 
 -- a mark, and the slot from which on it asks what was accepted, which counts where it asks to promise a ballot
 abbrev pub Dated : Type 0
@@ -111,3 +114,9 @@ pub record PreparesAreKnown : Type 0 where
   pub above : (now : Progress) (dated : ℕ → List Dated) (node : ℕ) (ballot : Ballot) (from_slot : ℕ) (rest : List Dated) (r : ReplicaState) → IsAskedLow now dated → dated node ≡ (Prepares ballot, from_slot) ∷ rest → next r ≡ now.next node
       → r.acceptor.floor < next r → r.acceptor.floor < from_slot
   pub same : (name : Draw) (who : ℕ) (mails : List Mail) → marks_in (dated_for name who mails) ≡ marks_for name who mails
+
+-- the table of one that elects itself by the last entry asks from the slot after it on
+abbrev pub ElectionsAskNext : Type 0
+ElectionsAskNext =
+    (from slot : ℕ) (command : Command) (r : ReplicaState) → IsInTime (Tells slot) r → r.running ≡ false → r.leader.flights ≡ [] → slot ≤ last_slot → MayElect (entered command r) → name_of (entered command r) ≡ name_of r
+    → (who : ℕ) → Each (λ d. suc slot ≤ d.1) (dated_for (name_of r) who (mailed from (Learn (name_of r) slot command) (r, [])).0.1)

@@ -7,11 +7,12 @@ use Rattle.sc_cmd.specs.declared.cores.Base.{Base}
 use Rattle.sc_mail.specs.declared.bodies.MailBody.TheVariants.{Prepare, Accept, Learn, Install}
 use Rattle.sc_member.specs.Roster.{is_member}
 use Rattle.sc_node_table.specs.Execute.{entered}
-use Rattle.sc_node_table.specs.Replica.{ReplicaState, name_of, next, members, last_slot}
+use Rattle.sc_node_table.specs.Replica.{ReplicaState, Place, name_of, next, members, last_slot}
 use Rattle.sc_node_table.specs.Rows.{mailed, made_by}
 use Rattle.sc_law_lemmas.specs.Steps.{GoesOn}
 use Rattle.sc_following_law.specs.Following.{Mark, Asks, Tells, Installs, Prepares, Progress, Sets, members_at}
-use Rattle.sc_following_law.specs.Hints.{Tellers, hint_by, IsOther, IsHeeding}
+use Rattle.sc_following_law.specs.Hints.{Tellers, hint_by, IsOther, IsHeeding, LeavesLast}
+use Rattle.sc_following_law.specs.Leading.{IsLeadOf, progress_by, LeadsInto}
 use Rattle.sc_following_law.specs.Tables.{IsInTime, Stays, MayElect}
 
 -- one that does not run takes for the leader whom the mark of a mail that comes in time says: of an entry that leaves the group standing, and by which it does not elect itself, and of a state that a member sends
@@ -47,3 +48,12 @@ abbrev pub HeirsElect : Type 0
 HeirsElect =
     (at : Sets) (by : Tellers) (now : Progress) (hints : ℕ → Option ℕ) (marks : ℕ → List Mark) (slot : ℕ) (rest : List Mark) (command : Command) (r : ReplicaState)
     → IsHeeding at by now hints marks → marks r.me ≡ Tells slot ∷ rest → IsTold at now hints slot command r → Stays (entered command r) ⊎ IsHeir now slot command r
+
+-- a leader's row in the table is one after each entry of which but the last it is a member; so where it counts those entries, and nobody comes by one by which it goes, it leaves last
+abbrev pub LeadersLeaveLast : Type 0
+LeadersLeaveLast =
+    (at : Sets) (by : Tellers) (now : Progress) (taken : Option Mark) (r : ReplicaState) (after : Place) → IsLeadOf at now r → (l : LeadsInto at now taken r after)
+    → ((slot : ℕ) → now.course.newest ≤ slot → slot < next after.0 → by slot ≡ now.course.ballot.node)
+    → ((slot : ℕ) → now.course.newest ≤ slot → suc slot ≡ next after.0
+    → (is_member (members_at at (slot + 1)) now.course.ballot.node ≡ true) ⊎ ((who : ℕ) → is_member (members_at at (slot + 1)) who ≡ true → is_member (members_at at slot) who ≡ true))
+    → LeavesLast at by now (progress_by l.bound now after.0)

@@ -4,9 +4,9 @@
 #![tactic(auto)]
 
 ghost use Rattle.sc_following_law.specs.Counted.{EntriesLead};
-ghost use Rattle.sc_following_law.specs.Dated.{PreparesAreKnown, SlotsAreKept};
+ghost use Rattle.sc_following_law.specs.Dated.{ElectionsAskNext, PreparesAreKnown, SlotsAreKept};
 ghost use Rattle.sc_following_law.specs.Executed.{ExecutionsLead};
-ghost use Rattle.sc_following_law.specs.Heeding.{HeirsElect, HintsFollow};
+ghost use Rattle.sc_following_law.specs.Heeding.{HeirsElect, HintsFollow, LeadersLeaveLast};
 ghost use Rattle.sc_following_law.specs.Hints.{HintsAreKept, NodesHeed};
 ghost use Rattle.sc_following_law.specs.Leading.{ActsStopAlone, OwnRowsKeep, RowsLead};
 ghost use Rattle.sc_following_law.specs.Offers.{PumpsOffer};
@@ -156,4 +156,16 @@ pub fn acts_stop_alone()
 /// filler alone, by each of its rows after which it leads on, where promises have no reports.
 pub fn order_is_kept()
     ensures { OrderIsKept }
+{}
+
+/// A leader's row in the table is one of a leader that leaves last, where it counts the entries that
+/// it executes, and nobody comes by one by which it goes.
+pub fn leaders_leave_last()
+    ensures { LeadersLeaveLast }
+{}
+
+/// A replica that elects itself by the last entry asks to promise its ballot from the slot after it
+/// on.
+pub fn elections_ask_next()
+    ensures { ElectionsAskNext }
 {}
