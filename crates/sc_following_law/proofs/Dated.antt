@@ -16,7 +16,7 @@ use Rattle.sc_following_law.proofs.Keeps.{counts_of}
 
 -- ---- lists
 
-low-append : (next : ℕ) (xs ys : List Dated) → AreLow next xs → AreLow (reached next (marks_in xs)) ys → AreLow next (xs ++ ys)
+pub low-append : (next : ℕ) (xs ys : List Dated) → AreLow next xs → AreLow (reached next (marks_in xs)) ys → AreLow next (xs ++ ys)
 low-append next [] ys f g = g
 low-append next (d ∷ xs) ys f g = (f.0, low-append (next_by next d.0) xs ys f.1 g)
 
@@ -29,7 +29,7 @@ no_prepare next from (Tells slot) n = tt
 no_prepare next from (Installs slot) n = tt
 no_prepare next from (Promises node ballot) n = tt
 
-none_low : (next : ℕ) (dated : List Dated) → Each (λ d. IsNoPrepare d.0) dated → AreLow next dated
+pub none_low : (next : ℕ) (dated : List Dated) → Each (λ d. IsNoPrepare d.0) dated → AreLow next dated
 none_low next [] e = tt
 none_low next (d ∷ dated) e = (no_prepare next d.1 d.0 e.0, none_low (next_by next d.0) dated e.1)
 

@@ -1,5 +1,6 @@
 pub mod Alone
 pub mod Asides
+pub mod AsksNext
 pub mod Counted
 pub mod Dated
 pub mod DatedTables

@@ -1,18 +1,24 @@
 -- From which slot on each node is asked to promise a ballot: from none below its next one, and so from above what its acceptor has forgotten.
-use Rattle.std.specs.Prelude.{◌≡◌, ℕ, suc, ◌<◌, ◌≤◌, ◌==◌, false, List, [], ◌∷◌, ◌++◌, map, filter, Option, Some, None}
+use Rattle.std.specs.Prelude.{◌≡◌, ℕ, suc, ◌<◌, ◌≤◌, ◌==◌, Bool, false, List, [], ◌∷◌, ◌++◌, map, filter, Option, Some, None}
 use Rattle.std.specs.Option.{option_map}
 use Rattle.sc_base.specs.Among.{Each}
+use Rattle.sc_base.specs.Drawing.{Drawer}
 use Rattle.sc_base.specs.declared.names.Ballot.{Ballot}
 use Rattle.sc_base.specs.declared.names.Draw.{Draw}
 use Rattle.sc_cmd.specs.declared.commands.Command.{Command}
+use Rattle.sc_cmd.specs.declared.orders.OrderLine.{OrderLine}
 use Rattle.sc_mail.specs.declared.bodies.Mail.{Mail}
 use Rattle.sc_mail.specs.declared.bodies.MailBody.{MailBody}
 use Rattle.sc_mail.specs.declared.bodies.MailBody.TheVariants.{Request, Answer, Prepare, Promise, Accept, Accepted, Nack, Learn, Ask, Install, TxPrepare, TxVote, TxOutcome, TxElsewhere, TxWatch, TxWatched, Told}
+use Rattle.sc_member.specs.Roster.{IsRoster}
+use Rattle.sc_paxos_words.specs.declared.reports.Report.{Report}
+use Rattle.sc_node_table.specs.declared.ReplicaInput.TheVariants as Given
 use Rattle.sc_node_table.specs.Execute.{entered}
 use Rattle.sc_node_table.specs.Replica.{ReplicaState, listed, name_of, next, last_slot}
-use Rattle.sc_node_table.specs.Rows.{mailed}
+use Rattle.sc_node_table.specs.Rows.{mailed, stepped}
 use Rattle.sc_following_law.specs.Following.{Mark, Asks, Votes, Tells, Installs, Prepares, Promises, mark_of, next_by, Progress, Sets, IsFollowing}
 use Rattle.sc_following_law.specs.Rows.{IsIdle, Takes, Leads, Elects}
+use Rattle.sc_following_law.specs.Leading.{IsLeadOf, IsAside, DecidesNext}
 use Rattle.sc_following_law.specs.Tables.{marks_for, IsInTime, MayElect}
 
 -- a mark, and the slot from which on it asks what was accepted, which counts where it asks to promise a ballot
@@ -120,3 +126,15 @@ abbrev pub ElectionsAskNext : Type 0
 ElectionsAskNext =
     (from slot : ℕ) (command : Command) (r : ReplicaState) → IsInTime (Tells slot) r → r.running ≡ false → r.leader.flights ≡ [] → slot ≤ last_slot → MayElect (entered command r) → name_of (entered command r) ≡ name_of r
     → (who : ℕ) → Each (λ d. suc slot ≤ d.1) (dated_for (name_of r) who (mailed from (Learn (name_of r) slot command) (r, [])).0.1)
+
+-- whatever these mails ask of each node, each promise is asked for right behind a state, from the slot after it on
+abbrev pub AsksLow : Draw → List Mail → Type 0
+AsksLow name mails = (who next : ℕ) → AreLow next (dated_for name who mails)
+
+-- each row of a replica that leads asks so
+pub record RowsAskNext : Type 0 where
+  pub votes : (at : Sets) (now : Progress) (from : ℕ) (ballot : Ballot) (slot : ℕ) (r : ReplicaState) → ((s : ℕ) → IsRoster (at s)) → IsLeadOf at now r → DecidesNext at from ballot slot r
+      → AsksLow (name_of r) (mailed from (Accepted (name_of r) ballot slot) (r, [])).0.1
+  pub promises : (at : Sets) (now : Progress) (from : ℕ) (ballot : Ballot) (reports : List (Report Command)) (r : ReplicaState) → IsLeadOf at now r → AsksLow (name_of r) (mailed from (Promise (name_of r) ballot reports) (r, [])).0.1
+  pub asides : (at : Sets) (now : Progress) (from : ℕ) (body : MailBody) (r : ReplicaState) → IsLeadOf at now r → IsAside r body → AsksLow (name_of r) (mailed from body (r, [])).0.1
+  pub orders : (at : Sets) (now : Progress) (on : Bool) (drawer : Drawer) (line : OrderLine) (r : ReplicaState) → IsLeadOf at now r → AsksLow (name_of r) (stepped on drawer (Given.Told line) (r, [])).0.1

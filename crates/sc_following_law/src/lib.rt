@@ -4,7 +4,7 @@
 #![tactic(auto)]
 
 ghost use Rattle.sc_following_law.specs.Counted.{EntriesLead};
-ghost use Rattle.sc_following_law.specs.Dated.{ElectionsAskNext, PreparesAreKnown, SlotsAreKept};
+ghost use Rattle.sc_following_law.specs.Dated.{ElectionsAskNext, PreparesAreKnown, RowsAskNext, SlotsAreKept};
 ghost use Rattle.sc_following_law.specs.Executed.{ExecutionsLead};
 ghost use Rattle.sc_following_law.specs.Heeding.{HeirsElect, HintsFollow, LeadersLeaveLast};
 ghost use Rattle.sc_following_law.specs.Hints.{HintsAreKept, NodesHeed};
@@ -168,4 +168,10 @@ pub fn leaders_leave_last()
 /// on.
 pub fn elections_ask_next()
     ensures { ElectionsAskNext }
+{}
+
+/// Each row of a replica that leads asks to promise its ballot right behind a state that it sends,
+/// from the slot after it on.
+pub fn rows_ask_next()
+    ensures { RowsAskNext }
 {}
