@@ -183,7 +183,7 @@ module _ (command : Command) (r : ReplicaState) (off : r.running ≡ false) (non
       named_so : mark_of (name_of r) last.me (Prepare (name_of last) (next_ballot last) (next last)) ≡ Some (Prepares (next_ballot r))
       named_so = ap (λ n. mark_of (name_of r) last.me (Prepare n (next_ballot last) (next last))) name_is ∙ (same_mark (name_of r) (Prepares (next_ballot last)) ∙ ap (λ b. Some (Prepares b)) ballot_is)
 
-  elects : ElectsBy slot (entered command r).sets r leading
+  pub elects : ElectsBy slot (entered command r).sets r leading
   elects = record {
     reaches = next_is;
     promises = (entered_keeps command r).0;

@@ -5,6 +5,7 @@ pub mod Counted
 pub mod Dated
 pub mod DatedTables
 pub mod Elected
+pub mod Electing
 pub mod Elects
 pub mod Entries
 pub mod Executed

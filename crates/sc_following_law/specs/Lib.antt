@@ -1,5 +1,6 @@
 pub mod Counted
 pub mod Dated
+pub mod Electing
 pub mod Executed
 pub mod Following
 pub mod Heeding

@@ -5,6 +5,7 @@
 
 ghost use Rattle.sc_following_law.specs.Counted.{EntriesLead};
 ghost use Rattle.sc_following_law.specs.Dated.{ElectionsAskNext, PreparesAreKnown, RowsAskNext, SlotsAreKept};
+ghost use Rattle.sc_following_law.specs.Electing.{ElectionsLead};
 ghost use Rattle.sc_following_law.specs.Executed.{ExecutionsLead};
 ghost use Rattle.sc_following_law.specs.Heeding.{HeirsElect, HintsFollow, LeadersLeaveLast};
 ghost use Rattle.sc_following_law.specs.Hints.{HintsAreKept, NodesHeed};
@@ -174,4 +175,10 @@ pub fn elections_ask_next()
 /// from the slot after it on.
 pub fn rows_ask_next()
     ensures { RowsAskNext }
+{}
+
+/// A replica's row by which it elects itself is such a row, and it leads in the progress after it,
+/// where its next ballot is later than the group's and it has the members of the open slots.
+pub fn elections_lead()
+    ensures { ElectionsLead }
 {}

@@ -1,0 +1,49 @@
+-- A replica's row in the table by which it elects itself, as such a row of what stands between a leader and its nodes.
+use Rattle.std.specs.Prelude.{◌≡◌, ℕ, suc, ◌≤◌, ◌==◌, true, false, [], length, if◌then◌else◌, Some, is_some}
+use Rattle.sc_base.specs.Limits.{most_nodes}
+use Rattle.sc_cmd.specs.declared.commands.Command.{Command}
+use Rattle.sc_mail.specs.declared.bodies.MailBody.TheVariants.{Learn}
+use Rattle.sc_member.specs.Roster.{IsRoster, is_member}
+use Rattle.sc_paxos_words.specs.Ballots.{below}
+use Rattle.sc_node_table.specs.Execute.{entered}
+use Rattle.sc_node_table.specs.Replica.{ReplicaState, Place, name_of, next, members, last_slot}
+use Rattle.sc_node_table.specs.Rows.{mailed}
+use Rattle.sc_node_table.specs.Slots.{slots_ahead}
+use Rattle.sc_following_law.specs.Following.{Tells, Progress, Sets, members_at}
+use Rattle.sc_following_law.specs.Leading.{voters_of, IsLeadOf}
+use Rattle.sc_following_law.specs.Offers.{AreAt}
+use Rattle.sc_following_law.specs.Rows.{Elects}
+use Rattle.sc_following_law.specs.Tables.{marks_for, IsInTime, MayElect, next_ballot}
+
+-- a replica is where its group's progress says, where none leads; it has the members of the open slots after the last entry, which are nodes; and its next ballot is later than that of the group
+pub record MayLeadNext (at : Sets) (now : Progress) (slot : ℕ) (command : Command) (r : ReplicaState) : Type 0 where
+  pub idle : now.course.runs ≡ false
+  pub stands : now.course.gone ≡ false
+  pub last : suc slot ≡ now.course.newest
+  pub bound : now.course.bound ≡ now.course.newest
+  pub promise : now.promise r.me ≡ r.acceptor.promised
+  pub later : below now.course.ballot (next_ballot r) ≡ true
+  pub sets : AreAt at (suc slot) (entered command r).sets
+  pub ahead : length (entered command r).sets ≡ slots_ahead
+  pub members_are : members_at at (suc slot) ≡ members (entered command r)
+  pub roster : IsRoster (members (entered command r))
+  pub nodes : (s who : ℕ) → is_member (at s) who ≡ true → (1 ≤ who) × (who ≤ most_nodes)
+
+-- the progress after it elected itself: all others are where they were
+abbrev pub elected_by : ℕ → Progress → ReplicaState → Progress
+elected_by me now r = record {
+  next = λ who. if who == me then next r else now.next who;
+  promise = λ who. if who == me then r.acceptor.promised else now.promise who;
+  course = record { newest = next r; bound = now.course.bound; ballot = r.leader.ballot; is_first = false; runs = true; gone = is_some r.group.core.gone; voters = voters_of r; counted = λ node. is_member r.leader.promisers node };
+}
+
+-- its row is that of one that elects itself, and it leads in the progress after it
+pub record ElectsInto (at : Sets) (now : Progress) (slot : ℕ) (r : ReplicaState) (after : Place) : Type 0 where
+  pub elects : Elects at now (elected_by r.me now after.0) r.me (Some (Tells slot)) (λ who. marks_for (name_of r) who after.1)
+  pub leads : IsLeadOf at (elected_by r.me now after.0) after.0
+
+-- so it is for one that is told the last entry and may lead next
+abbrev pub ElectionsLead : Type 0
+ElectionsLead =
+    (at : Sets) (now : Progress) (from slot : ℕ) (command : Command) (r : ReplicaState) → IsInTime (Tells slot) r → r.running ≡ false → r.leader.flights ≡ [] → slot ≤ last_slot → MayElect (entered command r) → name_of (entered command r) ≡ name_of r
+    → MayLeadNext at now slot command r → ElectsInto at now slot r (mailed from (Learn (name_of r) slot command) (r, [])).0
