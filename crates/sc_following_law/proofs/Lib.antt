@@ -1,6 +1,7 @@
 pub mod Alone
 pub mod Asides
 pub mod AsksNext
+pub mod Beginning
 pub mod Counted
 pub mod Dated
 pub mod DatedTables

@@ -1,18 +1,20 @@
 -- A replica's row in the table by which it elects itself, as such a row of what stands between a leader and its nodes.
-use Rattle.std.specs.Prelude.{◌≡◌, ℕ, suc, ◌≤◌, ◌==◌, true, false, [], length, if◌then◌else◌, Some, is_some}
+use Rattle.std.specs.Prelude.{◌≡◌, ℕ, suc, ◌+◌, ◌<◌, ◌≤◌, ◌==◌, true, false, List, [], length, if◌then◌else◌, Some, None, is_some}
 use Rattle.sc_base.specs.Limits.{most_nodes}
 use Rattle.sc_cmd.specs.declared.commands.Command.{Command}
+use Rattle.sc_cmd.specs.declared.cores.Base.{Base}
 use Rattle.sc_mail.specs.declared.bodies.MailBody.TheVariants.{Learn}
 use Rattle.sc_member.specs.Roster.{IsRoster, is_member}
 use Rattle.sc_paxos_words.specs.Ballots.{below}
 use Rattle.sc_node_table.specs.Execute.{entered}
-use Rattle.sc_node_table.specs.Replica.{ReplicaState, Place, name_of, next, members, last_slot}
+use Rattle.sc_node_table.specs.Replica.{ReplicaState, Place, name_of, next, members, first_ballot, born_replica, last_slot}
 use Rattle.sc_node_table.specs.Rows.{mailed}
 use Rattle.sc_node_table.specs.Slots.{slots_ahead}
 use Rattle.sc_following_law.specs.Following.{Tells, Progress, Sets, members_at}
 use Rattle.sc_following_law.specs.Leading.{voters_of, IsLeadOf}
 use Rattle.sc_following_law.specs.Offers.{AreAt}
-use Rattle.sc_following_law.specs.Rows.{Elects}
+use Rattle.sc_following_law.specs.Orderly.{IsOrderly}
+use Rattle.sc_following_law.specs.Rows.{Elects, begun}
 use Rattle.sc_following_law.specs.Tables.{marks_for, IsInTime, MayElect, next_ballot}
 
 -- a replica is where its group's progress says, where none leads; it has the members of the open slots after the last entry, which are nodes; and its next ballot is later than that of the group
@@ -47,3 +49,9 @@ abbrev pub ElectionsLead : Type 0
 ElectionsLead =
     (at : Sets) (now : Progress) (from slot : ℕ) (command : Command) (r : ReplicaState) → IsInTime (Tells slot) r → r.running ≡ false → r.leader.flights ≡ [] → slot ≤ last_slot → MayElect (entered command r) → name_of (entered command r) ≡ name_of r
     → MayLeadNext at now slot command r → ElectsInto at now slot r (mailed from (Learn (name_of r) slot command) (r, [])).0
+
+-- so does the first leader of a group that begins, with nothing in flight or ready
+abbrev pub LeadersBegin : Type 0
+LeadersBegin =
+    (at : Sets) (me : ℕ) (base : Base) → ((slot : ℕ) → slot < 1 + slots_ahead → at slot ≡ base.core.members) → base.core.first ≡ me → is_member base.core.members me ≡ true → base.core.gone ≡ None → IsRoster base.core.members
+    → IsLeadOf at (begun base.core.members (first_ballot base.core)) (born_replica slots_ahead me base) × IsOrderly (born_replica slots_ahead me base)

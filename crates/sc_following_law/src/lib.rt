@@ -5,7 +5,7 @@
 
 ghost use Rattle.sc_following_law.specs.Counted.{EntriesLead};
 ghost use Rattle.sc_following_law.specs.Dated.{ElectionsAskNext, PreparesAreKnown, RowsAskNext, SlotsAreKept};
-ghost use Rattle.sc_following_law.specs.Electing.{ElectionsLead};
+ghost use Rattle.sc_following_law.specs.Electing.{ElectionsLead, LeadersBegin};
 ghost use Rattle.sc_following_law.specs.Executed.{ExecutionsLead};
 ghost use Rattle.sc_following_law.specs.Heeding.{HeirsElect, HintsFollow, LeadersLeaveLast};
 ghost use Rattle.sc_following_law.specs.Hints.{HintsAreKept, NodesHeed};
@@ -181,4 +181,10 @@ pub fn rows_ask_next()
 /// where its next ballot is later than the group's and it has the members of the open slots.
 pub fn elections_lead()
     ensures { ElectionsLead }
+{}
+
+/// The first leader of a group leads in its progress from its birth on, with nothing in flight or
+/// ready.
+pub fn leaders_begin()
+    ensures { LeadersBegin }
 {}
