@@ -1,14 +1,10 @@
 -- The first leader of a group leads in its progress from its birth on.
-use Rattle.std.proofs.Common.{◌≡◌, ℕ, ◌+◌, ◌<◌, ◌||◌, not, eqb, ltb, Bool, true, false, true≢false, cond, List, [], ◌∷◌, Option, Some, None, refl, sym, ◌∙◌, ap, subst, arith}
-use Rattle.std.specs.Prelude.{is_some}
+use Rattle.std.proofs.Common.{◌≡◌, ℕ, ◌||◌, not, eqb, ltb, Bool, true, false, true≢false, cond, List, Option, Some, None, refl, sym, arith}
 use Rattle.std.proofs.lemmas.Bool.{cond-true, eq-eqb}
-use Rattle.sc_cmd.specs.declared.commands.Command.{Command}
-use Rattle.sc_cmd.specs.declared.cores.Base.{Base}
-use Rattle.sc_member.specs.Roster.{IsRoster, is_member}
+use Rattle.sc_member.specs.Roster.{is_member}
 use Rattle.sc_node_table.specs.Replica.{ReplicaState, next, first_ballot, born_replica}
 use Rattle.sc_node_table.specs.Slots.{slots_ahead}
 use Rattle.sc_following_law.specs.Electing.{LeadersBegin}
-use Rattle.sc_following_law.specs.Following.{Sets}
 use Rattle.sc_following_law.specs.Leading.{voters_of, IsLeadOf}
 use Rattle.sc_following_law.specs.Orderly.{IsOrderly}
 use Rattle.sc_following_law.specs.Rows.{begun}

@@ -13,11 +13,12 @@ use Rattle.sc_node_table.specs.Pump.{pumped}
 use Rattle.sc_node_table.specs.Replica.{ReplicaState, Place, name_of, next, members, forgotten}
 use Rattle.sc_node_table.specs.Rows.{mailed}
 use Rattle.sc_node_table.specs.Slots.{numbers_from}
-use Rattle.sc_following_law.specs.Electing.{MayLeadNext, elected_by, ElectsInto, ElectionsLead}
-use Rattle.sc_following_law.specs.Following.{Tells, Prepares, Progress, Sets, members_at, IsOpen}
+use Rattle.sc_following_law.specs.Electing.{MayLeadNext, elected_by, ElectsInto, ElectionsLead, StepsTake}
+use Rattle.sc_following_law.specs.Following.{Tells, Prepares, next_by, promise_by, Progress, Sets, members_at, IsOpen}
 use Rattle.sc_following_law.specs.Leading.{voters_of, IsLeadOf}
 use Rattle.sc_following_law.specs.Offers.{AreAt}
-use Rattle.sc_following_law.specs.Rows.{Elects}
+use Rattle.sc_following_law.specs.Orderly.{IsOrderly}
+use Rattle.sc_following_law.specs.Rows.{answered, Elects}
 use Rattle.sc_following_law.specs.Tables.{marks_for, MayElect, next_ballot, ElectsBy}
 use Rattle.sc_following_law.proofs.Elected.{last, leading, one_is, no_pump, elects}
 use Rattle.sc_following_law.proofs.Entries.{passes, fails}
@@ -174,13 +175,30 @@ module _ (at : Sets) (now : Progress) (command : Command) (r : ReplicaState) (of
       none_some : {x : List ℕ} (o : Option (List ℕ)) → o ≡ None → o ≡ Some x → ⊥
       none_some o e f = cc
 
+  orderly_then : IsOrderly place.0
+  orderly_then = record { apart = tt; single = λ s from some. refl; alone = λ s other c from e act from_other some. absurd (true≢false (sym some)); plain = refl }
+
   executed_into : ElectsInto at now slot r (executed false command (r, [])).0
   unfolding executed executed_ready
   executed_into =
       let before = last command r off none slot is_next may name_is in
       subst (λ (p : Place). ElectsInto at now slot r (pumped (executed_ready p.0.ready p).0)) (sym (one_is command r off none slot is_next may name_is))
-      (subst (ElectsInto at now slot r) (sym (no_pump place.0 place.1 (next_ballot before) (next before))) (record { elects = goes; leads = leads_then }))
+      (subst (ElectsInto at now slot r) (sym (no_pump place.0 place.1 (next_ballot before) (next before))) (record { elects = goes; leads = leads_then; orderly = orderly_then }))
 
 pub elections_lead : ElectionsLead
 unfolding mailed
 elections_lead at now from slot command r fit off none low may name m = told_is (ElectsInto at now slot r) from slot command r fit.1 low (executed_into at now command r off none slot fit.1 may name m)
+
+-- ---- a mail that is taken
+
+pub steps_take : StepsTake
+steps_take at now mark r after next_is promise_is s counts waits = record {
+  mark = mark;
+  takes = refl;
+  next = cond-true (eqb r.me r.me) (next after.0) (now.next r.me) (eq-eqb r.me r.me refl) ∙ (s.reaches ∙ ap (λ n. next_by n mark) (sym next_is));
+  promise = cond-true (eqb r.me r.me) after.0.acceptor.promised (now.promise r.me) (eq-eqb r.me r.me refl) ∙ (s.promises ∙ ap (λ p. promise_by p mark) (sym promise_is));
+  course = refl;
+  sends = λ who. s.answers who ∙ ap (λ p. answered r.me p mark who) (sym promise_is);
+  counts = counts;
+  waits = λ off stands mine. subst (λ n. n < now.course.newest) (sym (cond-true (eqb r.me r.me) (next after.0) (now.next r.me) (eq-eqb r.me r.me refl))) (waits off stands mine);
+}

@@ -5,7 +5,7 @@
 
 ghost use Rattle.sc_following_law.specs.Counted.{EntriesLead};
 ghost use Rattle.sc_following_law.specs.Dated.{ElectionsAskNext, PreparesAreKnown, RowsAskNext, SlotsAreKept};
-ghost use Rattle.sc_following_law.specs.Electing.{ElectionsLead, LeadersBegin};
+ghost use Rattle.sc_following_law.specs.Electing.{ElectionsLead, LeadersBegin, StepsTake};
 ghost use Rattle.sc_following_law.specs.Executed.{ExecutionsLead};
 ghost use Rattle.sc_following_law.specs.Heeding.{HeirsElect, HintsFollow, LeadersLeaveLast};
 ghost use Rattle.sc_following_law.specs.Hints.{HintsAreKept, NodesHeed};
@@ -187,4 +187,10 @@ pub fn elections_lead()
 /// ready.
 pub fn leaders_begin()
     ensures { LeadersBegin }
+{}
+
+/// A row that is as its mark says, of a replica that is where its group's progress says, is that of
+/// a node that takes the mail.
+pub fn steps_take()
+    ensures { StepsTake }
 {}
