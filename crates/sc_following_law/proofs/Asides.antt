@@ -205,7 +205,7 @@ module _ (P : Place → Type 0) (r : ReplicaState) (running : r.running ≡ true
       to = next_asked hint (asked_link r.group.core body heard).members from
 
       by : (b : Bool) → P (r, cond b (asked_node r.me r.group.core tx body heard to []) [])
-      by true = said to (question r.me r.group.core tx body heard) (λ who. one_same (name_of r) who r.me to (question r.me r.group.core tx body heard) [] (question_none (name_of r) who r.me r.group.core tx body heard))
+      by true = said to (question r.me r.group.core tx body heard) (λ who. one_same (name_of r) who r.me to (question r.me r.group.core tx body heard) [] (question_none (name_of r) r.me r.group.core tx body heard))
       by false = silent
 
   -- ---- each of them

@@ -15,7 +15,7 @@ use Rattle.sc_paxos_words.specs.Votes.{kept_voters}
 use Rattle.sc_paxos_words.proofs.ListLemmas.{Each-among, Each-weaker, find_found}
 use Rattle.sc_node_table.specs.Replica.{ReplicaState, Place, listed, name_of, next, members, either, taken_at, flying}
 use Rattle.sc_node_table.specs.Slots.{at_slot}
-use Rattle.sc_following_law.specs.Following.{Mark, Asks, Promises, Course, Progress, Sets, IsInFlight}
+use Rattle.sc_following_law.specs.Following.{Mark, Asks, Promises, Course, Progress, Sets, IsInFlight, members_at}
 use Rattle.sc_following_law.specs.Counted.{IsLed}
 use Rattle.sc_following_law.specs.Executed.{IsStill, IsStopped, LeadsBy}
 use Rattle.sc_following_law.specs.Leading.{voters_of, IsPolled, IsLeadOf, progress_by, LeadsInto, StopsAlone}
@@ -269,6 +269,7 @@ module _ (at : Sets) (now : Progress) (taken : Option Mark) (r mid : ReplicaStat
     me = same_me;
     named = b.named ∙ c.same_name;
     bound = b.bound;
+    stayed = λ slot least most. ap (is_member (members_at at (slot + 1))) (sym c.same_me) ∙ b.stayed slot (let same = c.same_next in omega (arith, least, same)) most;
     leads = leads_then;
     goes_on = λ on. record {
       led = led_then (still_of on).led;
