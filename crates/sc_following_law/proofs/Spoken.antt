@@ -24,16 +24,17 @@ use Rattle.sc_cmd.specs.Effects.{decided_in, cast_in, is_changed}
 use Rattle.sc_mail.specs.declared.bodies.AnswerBody.{AnswerBody}
 use Rattle.sc_mail.specs.declared.bodies.Mail.{Mail}
 use Rattle.sc_mail.specs.declared.bodies.MailBody.{MailBody}
-use Rattle.sc_mail.specs.declared.bodies.MailBody.TheVariants.{Answer, TxOutcome}
+use Rattle.sc_mail.specs.declared.bodies.MailBody.TheVariants.{Answer, TxPrepare, TxOutcome}
 use Rattle.sc_machine_table.specs.Group.{Group}
+use Rattle.sc_member.specs.Roster.{least_of}
 use Rattle.sc_node_table.specs.declared.Before.{Before}
 use Rattle.sc_node_table.specs.Election.{ended}
 use Rattle.sc_node_table.specs.Execute.{answer_of, order_result, told_call, told_effect, announced}
 use Rattle.sc_node_table.specs.Mails.{sent, sent_all, answered_all, dismissed, dismissed_all, order_number}
-use Rattle.sc_node_table.specs.Questions.{question, asked_first}
+use Rattle.sc_node_table.specs.Questions.{offer_of, question, asked_first}
 use Rattle.sc_node_table.specs.Queues.{put_back}
 use Rattle.sc_node_table.specs.Replica.{ReplicaState, Place, name_of, under_way}
-use Rattle.sc_node_table.specs.Spoken.{asked_on, vote_sent, watch_sent, aborted_to, aborted_watcher, given_up_by, vote_answered, released_to, watch_answered_by, went_on, told_begun, spoken_mails, spoken}
+use Rattle.sc_node_table.specs.Spoken.{asked_on, begun_asks, vote_sent, watch_sent, aborted_to, aborted_watcher, given_up_by, vote_answered, released_to, watch_answered_by, went_on, told_begun, spoken_mails, spoken}
 use Rattle.sc_node_table.specs.Transactions.{told_outcome}
 use Rattle.sc_following_law.specs.Following.{mark_of}
 use Rattle.sc_following_law.specs.Tables.{marks_for}
@@ -76,6 +77,13 @@ module _ (name : Draw) (who : ℕ) where
     where
       by : (b : Bool) → Same mails (cond b (asked_first core.lock me core mails) mails)
       by true = asked_same core.lock me core mails
+      by false = refl
+
+  begun_same : (effect : Effect) (me : ℕ) (core : Core) (tx : Draw) (body : Body) (mails : List Mail) → Same mails (begun_asks effect me core tx body mails)
+  begun_same effect me core tx body mails = by (is_changed effect)
+    where
+      by : (b : Bool) → Same mails (cond b (sent me (least_of core.succ.members) (TxPrepare tx (offer_of me core body)) mails) mails)
+      by true = one_same me (least_of core.succ.members) (TxPrepare tx (offer_of me core body)) mails refl
       by false = refl
 
   vote_same : (o : Option Past) (me : ℕ) (group : Group) (tx : Draw) (offer : Offer) (mails : List Mail) → Same mails (vote_sent o me group tx offer mails)
@@ -124,7 +132,7 @@ module _ (name : Draw) (who : ℕ) where
   went_same : (me : ℕ) (group : Group) (before : Before) (effect : Effect) (command : Command) (mails : List Mail) → Same mails (went_on me group before effect command mails)
   unfolding went_on
   went_same me group before effect (Split at child order) mails = on_same effect me group.core mails
-  went_same me group before effect (Begin tx body order) mails = on_same effect me group.core mails
+  went_same me group before effect (Begin tx body order) mails = begun_same effect me group.core tx body mails
   went_same me group before effect (Prepared tx offer) mails = vote_same (cast_in effect) me group tx offer mails
   went_same me group before effect (RecordVote tx vote by) mails = decided_same (decided_in effect) vote me before tx by (asked_on effect me group.core mails) ∙ on_same effect me group.core mails
   went_same me group before effect (GiveUp tx) mails = given_same (decided_in effect) me before tx mails
