@@ -1,0 +1,9 @@
+pub mod Beginning
+pub mod Executing
+pub mod Hearing
+pub mod Mailing
+pub mod Marking
+pub mod Silent
+pub mod Stepping
+pub mod Turning
+pub mod Viewing

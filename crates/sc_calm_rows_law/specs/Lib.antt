@@ -1,0 +1,4 @@
+pub mod Begun
+pub mod Groups
+pub mod Steps
+pub mod Turns

@@ -1,0 +1,77 @@
+//! From the tables of players, row by row, to what is said of a group's leader and its nodes: the
+//! marks of the mail that is under way, and how far each node of the group has come. Definitions
+//! and laws, no logic.
+#![tactic(auto)]
+
+ghost use Rattle.sc_calm_rows_law.specs.Begun.{ChildrenBeginFollowing, ScenariosBeginFollowing};
+ghost use Rattle.sc_calm_rows_law.specs.Steps.{StatesTake, StepsElect, StepsTake, StillIdle, UncountedPass};
+ghost use Rattle.sc_calm_rows_law.specs.Turns.{NamesStay, OthersHearNothing, OthersRowsAreIdle, RowsAreOfGroups, RowsAreReplicas};
+
+/// Each row that comes in time is a row of each group: what is delivered is the first of its
+/// receiver's mail, what is sent to each comes behind its mail, and the other nodes stay where they
+/// are.
+pub fn rows_are_of_groups()
+    ensures { RowsAreOfGroups }
+{}
+
+/// A replica keeps its group's name, whatever it takes.
+pub fn names_stay()
+    ensures { NamesStay }
+{}
+
+/// What a replica sends is nothing to another group than its own, and what a client sends, or a
+/// node without replica answers, is nothing to any.
+pub fn others_hear_nothing()
+    ensures { OthersHearNothing }
+{}
+
+/// A row does nothing in any group but that of its mail or order, and in those whose child is born
+/// in it; a client's row does nothing in any.
+pub fn others_rows_are_idle()
+    ensures { OthersRowsAreIdle }
+{}
+
+/// In the group of a mail or of an order the replica of the node does what its own table says, and
+/// what is sent of the group is what that sends; where there is none, it may be made of a state.
+pub fn rows_are_replicas()
+    ensures { RowsAreReplicas }
+{}
+
+/// A replica that takes a mail as its mark says takes it so in its group, where no leader takes a
+/// vote or a promise, and none that is to lead next executes the last entry.
+pub fn steps_take()
+    ensures { StepsTake }
+{}
+
+/// So does a node that makes a replica of a state that a member sends.
+pub fn states_take()
+    ensures { StatesTake }
+{}
+
+/// A vote and a promise that no leader counts change nothing, and are not answered.
+pub fn uncounted_pass()
+    ensures { UncountedPass }
+{}
+
+/// One that is to lead a group, and elects itself by the last entry, does so in the group: it asks
+/// each node that decides an open slot to promise its ballot.
+pub fn steps_elect()
+    ensures { StepsElect }
+{}
+
+/// A replica that stays where it is, and sends nothing of its group, does nothing in it.
+pub fn still_rows_are_idle()
+    ensures { StillIdle }
+{}
+
+/// Each group of a scenario begins with a replica at each member's node and its first member
+/// leading, so each that decides an open slot follows it.
+pub fn scenarios_begin_following()
+    ensures { ScenariosBeginFollowing }
+{}
+
+/// So does the child of a split, before any node has a replica of it: each of its members is where
+/// the child begins, as it will be once it has learnt of the split.
+pub fn children_begin_following()
+    ensures { ChildrenBeginFollowing }
+{}
