@@ -38,6 +38,7 @@ use Rattle.sc_budget_law.specs.PlainClient.{way_of, IsBegun, IsPlainClient}
 use Rattle.sc_budget_law.specs.PlainMail.{Requests}
 use Rattle.sc_budget_law.specs.PlainNode.{AreTaken, IsPlainReplica, IsSettled, IsPlainAt, IsPlainNode}
 use Rattle.sc_budget_law.proofs.BetweenStage.{frames_of, stage, of_groups}
+use Rattle.sc_budget_law.proofs.Sums.{shares, sum_mapped, none_together}
 use Rattle.sc_budget_law.specs.BetweenJournal.{replica_at, next_in, votes_in, IsGroupAt}
 use Rattle.sc_budget_law.proofs.BetweenAll.{owing_of, IsPlainJournal}
 use Rattle.sc_budget_law.proofs.Leading.{in_range, range_before, range_behind}
@@ -150,26 +151,6 @@ client_share groups (suc requests) some =
     let thirty = times_low requests (4 * groups) in
     let most = cond_both (ltb 0 (suc requests)) (2 * (groups - 1)) 0 (λ x. x ≤ 2 * (groups - 1)) (λ _. omega arith) (λ _. omega arith) in
     omega (arith, product, thirty, most, some)
-
--- all of some owe no more than a share of each
-shares : {X : Type 0} (f g : X → ℕ) (c : ℕ) (xs : List X) → ((x : X) → Among x xs → f x ≤ g x * c) → sum_by f xs ≤ sum_by g xs * c
-shares f g c [] low = omega arith
-shares f g c (x ∷ xs) low =
-    let one = sum_by-cons f x xs in
-    let other = sum_by-cons g x xs in
-    let here = low x (inl refl) in
-    let rest = shares f g c xs (λ y a. low y (inr a)) in
-    let both = add-mul (g x) (sum_by g xs) c in
-    let same = ap (λ n. n * c) other in
-    omega (arith, one, here, rest, both, same)
-
-sum_mapped : {X Y : Type 0} (f : Y → ℕ) (g : X → Y) (xs : List X) → sum_by f (map g xs) ≡ sum_by (λ x. f (g x)) xs
-sum_mapped f g [] = refl
-sum_mapped f g (x ∷ xs) = (let a = sum_by-cons f (g x) (map g xs) in let b = sum_by-cons (λ y. f (g y)) x xs in let rest = sum_mapped f g xs in omega (arith, a, b, rest))
-
-none_together : {X : Type 0} (f : X → ℕ) (xs : List X) → ((x : X) → f x ≡ 0) → sum_by f xs ≡ 0
-none_together f [] none = refl
-none_together f (x ∷ xs) none = (let a = sum_by-cons f x xs in let here = none x in let rest = none_together f xs none in omega (arith, a, here, rest))
 
 -- ---- few groups and clients
 

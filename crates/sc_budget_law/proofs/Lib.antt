@@ -1,4 +1,5 @@
 mod Lists
+pub mod Sums
 mod Made
 pub mod Spaced
 pub mod BetweenWhole

@@ -114,7 +114,7 @@ no_votes : (members : List ℕ) → votes_of members [] ≡ 0
 no_votes [] = refl
 no_votes (x ∷ members) = no_votes members
 
-none_decided : (members : List ℕ) → is_majority members [] ≡ false
+pub none_decided : (members : List ℕ) → is_majority members [] ≡ false
 none_decided members = (let none = no_votes members in le-ltb (length members) (2 * votes_of members []) (omega (arith, none)))
 
 no_pump : (r : ReplicaState) (mails : List Mail) (ballot : Ballot) (from : ℕ) → pumped (record r { leader = new_leader ballot from }, mails) ≡ (record r { leader = new_leader ballot from }, mails)

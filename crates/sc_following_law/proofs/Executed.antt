@@ -1,8 +1,8 @@
 -- All that a leader executes at once, and what it then offers, is what the abstract row says.
-use Rattle.std.proofs.Common.{◌≡◌, ℕ, suc, ◌+◌, ◌<◌, ◌≤◌, ◌&&◌, eqb, Bool, true, false, cond, List, [], ◌∷◌, ◌++◌, length, Option, Some, None, ◌⊎◌, inl, inr, refl, sym, ◌∙◌, ap, subst, arith, append-nil}
+use Rattle.std.proofs.Common.{◌≡◌, ℕ, suc, ◌+◌, ◌<◌, ◌≤◌, ◌&&◌, eqb, Bool, true, false, true≢false, cond, List, [], ◌∷◌, ◌++◌, length, Option, Some, None, ◌⊎◌, inl, inr, refl, sym, ◌∙◌, ap, subst, arith, append-nil}
 use Rattle.std.specs.Prelude.{is_some}
 use Rattle.std.specs.Option.{option_map}
-use Rattle.std.proofs.lemmas.Bool.{cases_lt, ne_eqb, eqb-true}
+use Rattle.std.proofs.lemmas.Bool.{cases_eq, cases_lt}
 use Rattle.std.proofs.lemmas.List.{length_push}
 use Rattle.sc_base.specs.Among.{Each}
 use Rattle.sc_cmd.specs.declared.commands.Command.{Command}
@@ -24,27 +24,10 @@ use Rattle.sc_following_law.specs.Offers.{AreAt, MayOffer, IsBegun, to_bound, Of
 use Rattle.sc_following_law.specs.Rows.{IsOffer, told_of, told_from}
 use Rattle.sc_following_law.proofs.Counted.{entered_keeps, entries_lead}
 use Rattle.sc_following_law.proofs.Elected.{append_one}
+use Rattle.sc_following_law.proofs.InFlight.{flight_out, slot_out}
 use Rattle.sc_following_law.proofs.Marks.{among-left, among-right}
 use Rattle.sc_following_law.proofs.Offers.{pumps_offer}
 use Rattle.sc_law_lemmas.proofs.Entries.{entered_next, idle_ready, idle_pump}
-
--- ---- what is in flight or ready but for one slot
-
-flight_out : (slot other : ℕ) (fs : List (Flight Command)) → (other ≡ slot → ⊥) → flight_at other (without_flight slot fs) ≡ flight_at other fs
-flight_out slot other [] ne = refl
-flight_out slot other (f ∷ fs) ne = by (eqb f.slot slot) refl (flight_out slot other fs ne)
-  where
-    by : (b : Bool) → eqb f.slot slot ≡ b → flight_at other (without_flight slot fs) ≡ flight_at other fs → flight_at other (cond b fs (f ∷ without_flight slot fs)) ≡ cond (eqb f.slot other) (Some f) (flight_at other fs)
-    by true t rest = sym (ap (λ b. cond b (Some f) (flight_at other fs)) (ne_eqb f.slot other (λ e. ne (sym e ∙ eqb-true f.slot slot t))))
-    by false t rest = ap (λ o. cond (eqb f.slot other) (Some f) o) rest
-
-slot_out : (slot other : ℕ) (es : List (ℕ × Command)) → (other ≡ slot → ⊥) → at_slot (without_slot es slot) other ≡ at_slot es other
-slot_out slot other [] ne = refl
-slot_out slot other (e ∷ es) ne = by (eqb e.0 slot) refl (slot_out slot other es ne)
-  where
-    by : (b : Bool) → eqb e.0 slot ≡ b → at_slot (without_slot es slot) other ≡ at_slot es other → at_slot (cond b es (e ∷ without_slot es slot)) other ≡ cond (eqb e.0 other) (Some e.1) (at_slot es other)
-    by true t rest = sym (ap (λ b. cond b (Some e.1) (at_slot es other)) (ne_eqb e.0 other (λ is. ne (sym is ∙ eqb-true e.0 slot t))))
-    by false t rest = ap (λ o. cond (eqb e.0 other) (Some e.1) o) rest
 
 -- ---- the members of the open slots
 
@@ -112,13 +95,17 @@ module _ (at : Sets) (course : Course) (command : Command) (r : ReplicaState) (l
 
 -- ---- nothing is executed
 
-none_leads : (at : Sets) (course : Course) (place : Place) → IsLed at course place.0 → LeadsBy at course place place
+pub none_leads : (at : Sets) (course : Course) (place : Place) → IsLed at course place.0 → LeadsBy at course place place
 none_leads at course place led = record {
   executed = 0;
   within = (let l = led.may.low in omega (arith, l));
   reaches = omega arith;
+  me = refl;
   named = refl;
   promise = refl;
+  was = led.was;
+  drawn = λ slot least most. absurd (omega (arith, least, most));
+  ready = λ on slot least. refl;
   bound = course.bound;
   up = omega arith;
   offers = λ who. [];
@@ -168,8 +155,13 @@ module _ (at : Sets) (course : Course) (place mid : Place) (b : LeadsBy at cours
     executed = b.executed;
     within = b.within;
     reaches = ap (λ (q : ReplicaState). next q) o.is ∙ b.reaches;
+    me = ap (λ (q : ReplicaState). q.me) o.is ∙ b.me;
     named = ap (λ (q : ReplicaState). name_of q) o.is ∙ b.named;
     promise = ap (λ (q : ReplicaState). q.acceptor.promised) o.is ∙ b.promise;
+    was = subst (λ (q : ReplicaState). members_at at (next q) ≡ members q) (sym o.is) b.was;
+    drawn = λ slot least most. b.drawn slot least (let same = ap (λ (q : ReplicaState). next q) o.is in omega (arith, most, same));
+    ready = λ on slot least. ap (λ (q : ReplicaState). at_slot q.ready slot) o.is
+        ∙ b.ready (sym (ap (λ (q : ReplicaState). q.running) o.is) ∙ on) slot (let same = ap (λ (q : ReplicaState). next q) o.is in omega (arith, least, same));
     bound = o.bound;
     up = (let u = b.up in let v = o.up in omega (arith, u, v));
     offers = more_offers after o;
@@ -214,7 +206,7 @@ module _ (at : Sets) (course : Course) (place mid : Place) (b : LeadsBy at cours
       }
 
 -- what a pump adds
-pump_leads : (at : Sets) (course : Course) (place mid : Place) → LeadsBy at course place mid → LeadsBy at course place (pumped mid)
+pub pump_leads : (at : Sets) (course : Course) (place mid : Place) → LeadsBy at course place mid → LeadsBy at course place (pumped mid)
 pump_leads at course place mid b = elim (b.state) [
   | inl still ↦ pumped_on at course place mid b (pumped mid) still (pumps_offer at (to_bound b.bound course) mid still.led.may)
   | inr stopped ↦ subst (LeadsBy at course place) (sym (idle_pump mid stopped.0.running)) b
@@ -236,6 +228,16 @@ module _ (at : Sets) (course : Course) (command : Command) (place mid : Place) (
     | inr off ↦ ap next off.is ∙ entered_next command place.0
   ]
 
+  me_mid : mid.0.me ≡ place.0.me
+  me_mid = elim (past.state) [
+    | inl on ↦ ap (λ (q : ReplicaState). q.me) on.is ∙ (entered_keeps command place.0).3
+    | inr off ↦ ap (λ (q : ReplicaState). q.me) off.is ∙ (entered_keeps command place.0).3
+  ]
+
+  -- the entry of the next slot was ready
+  drawn_one : (slot : ℕ) → slot ≡ next place.0 → is_some (at_slot place.0.ready slot) ≡ true
+  drawn_one slot e = ap (λ s. is_some (at_slot place.0.ready s)) e ∙ ap is_some ready
+
   promise_mid : mid.0.acceptor.promised ≡ place.0.acceptor.promised
   promise_mid = elim (past.state) [
     | inl on ↦ ap (λ (q : ReplicaState). q.acceptor.promised) on.is ∙ entered_promise command place.0
@@ -248,8 +250,15 @@ module _ (at : Sets) (course : Course) (command : Command) (place mid : Place) (
     executed = suc b.executed;
     within = (let w = b.within in let n = next_mid in omega (arith, w, n));
     reaches = (let e = b.reaches in let n = next_mid in omega (arith, e, n));
+    me = b.me ∙ me_mid;
     named = b.named ∙ name_mid;
     promise = b.promise ∙ promise_mid;
+    was = b.was;
+    drawn = λ slot least most. elim (cases_eq slot (next place.0)) [
+      | inl e ↦ drawn_one slot e
+      | inr ne ↦ ap is_some (sym (ready_same slot ne)) ∙ b.drawn slot (past_next slot least ne) most
+    ];
+    ready = λ goes slot least. b.ready goes slot least ∙ ready_same slot (λ e. (let up = b.reaches in let n = next_mid in omega (arith, least, up, n, e)));
     bound = b.bound;
     up = b.up;
     offers = b.offers;
@@ -262,6 +271,12 @@ module _ (at : Sets) (course : Course) (command : Command) (place mid : Place) (
     ];
   }
     where
+      ready_same : (slot : ℕ) → (slot ≡ next place.0 → ⊥) → at_slot mid.0.ready slot ≡ at_slot place.0.ready slot
+      ready_same slot ne = ap (λ (q : ReplicaState). at_slot q.ready slot) on.is ∙ slot_out (next place.0) slot place.0.ready ne
+
+      past_next : (slot : ℕ) → next place.0 ≤ slot → (slot ≡ next place.0 → ⊥) → next mid.0 ≤ slot
+      past_next slot least ne = elim (cases_lt (next place.0) slot) [ inl lt ↦ (let n = next_mid in omega (arith, n, lt)) | inr ge ↦ absurd (ne (omega (arith, least, ge))) ]
+
       sends_then : (who : ℕ) → marks_for (name_of place.0) who after.1 ≡ marks_for (name_of place.0) who place.1 ++ ((told_of at course (next place.0) who ++ told_from at course (next place.0 + 1) b.executed who) ++ b.offers who)
       sends_then who =
           let old = marks_for (name_of place.0) who place.1 in
@@ -292,8 +307,12 @@ module _ (at : Sets) (course : Course) (command : Command) (place mid : Place) (
     executed = 1;
     within = (let lt = below_bound at course command place.0 led ready is_next in omega (arith, lt));
     reaches = next_mid;
+    me = me_mid;
     named = name_mid;
     promise = promise_mid;
+    was = subst (λ (q : ReplicaState). members_at at (next q) ≡ members q) (sym off.is) (ap (members_at at) (entered_next command place.0) ∙ is_next.is);
+    drawn = λ slot least most. drawn_one slot (let n = next_mid in omega (arith, least, most, n));
+    ready = λ goes slot least. absurd (true≢false (sym goes ∙ ap (λ (q : ReplicaState). q.running) off.is));
     bound = course.bound;
     up = omega arith;
     offers = λ who. [];

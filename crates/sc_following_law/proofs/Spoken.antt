@@ -47,7 +47,7 @@ module _ (name : Draw) (who : ℕ) where
   abbrev pub Same : List Mail → List Mail → Type 0
   Same mails after = marks_for name who after ≡ marks_for name who mails
 
-  one_same : (me to : ℕ) (body : MailBody) (mails : List Mail) → mark_of name me body ≡ None → Same mails (sent me to body mails)
+  pub one_same : (me to : ℕ) (body : MailBody) (mails : List Mail) → mark_of name me body ≡ None → Same mails (sent me to body mails)
   one_same me to body mails e = marks-push name who mails (record { from = me; to = to; body = body }) e
 
   all_same : (me : ℕ) (nodes : List ℕ) (body : MailBody) (mails : List Mail) → mark_of name me body ≡ None → Same mails (sent_all me nodes body mails)
@@ -57,7 +57,7 @@ module _ (name : Draw) (who : ℕ) where
 
   -- ---- transactions
 
-  question_none : (me : ℕ) (core : Core) (tx : Draw) (body : Body) (heard : Option Heard) → mark_of name me (question me core tx body heard) ≡ None
+  pub question_none : (me : ℕ) (core : Core) (tx : Draw) (body : Body) (heard : Option Heard) → mark_of name me (question me core tx body heard) ≡ None
   question_none me core tx At.Merge None = refl
   question_none me core tx At.Merge (Some heard) = refl
   question_none me core tx (At.Repart at) None = refl

@@ -1,5 +1,5 @@
 -- What a leader's table does by all that it executes at once, and by what it then offers, as the marks of it say.
-use Rattle.std.specs.Prelude.{◌≡◌, ℕ, ◌+◌, ◌<◌, ◌≤◌, true, false, List, [], ◌∷◌, ◌++◌, Some, None, ◌⊎◌}
+use Rattle.std.specs.Prelude.{◌≡◌, ℕ, ◌+◌, ◌<◌, ◌≤◌, true, false, List, [], ◌∷◌, ◌++◌, Some, None, is_some, ◌⊎◌}
 use Rattle.sc_base.specs.Among.{Among, Each}
 use Rattle.sc_cmd.specs.declared.commands.Command.{Command}
 use Rattle.sc_cmd.specs.declared.links.Route.{Route}
@@ -10,7 +10,7 @@ use Rattle.sc_node_table.specs.Slots.{at_slot}
 use Rattle.sc_paxos_words.specs.declared.flights.Flight.{Flight}
 use Rattle.sc_paxos_words.specs.Leaders.{flight_at}
 use Rattle.sc_law_lemmas.specs.Steps.{IfThere}
-use Rattle.sc_following_law.specs.Following.{Mark, Asks, Course, Sets}
+use Rattle.sc_following_law.specs.Following.{Mark, Asks, Course, Sets, members_at}
 use Rattle.sc_following_law.specs.Counted.{IsLed, IsNext}
 use Rattle.sc_following_law.specs.Tables.{marks_for}
 use Rattle.sc_following_law.specs.Offers.{IsBegun, to_bound}
@@ -37,13 +37,17 @@ pub record IsStopped (after : ReplicaState) : Type 0 where
   pub running : after.running ≡ false
   pub over : ((into : Route) × (after.group.core.gone ≡ Some into)) ⊎ ((after.group.core.gone ≡ None) × (is_member (members after) after.me ≡ false))
 
--- It executes so many entries, tells what is told of them, and then offers at the slots from the bound to another one, if it leads on.
+-- It executes so many entries, each of which was ready, tells what is told of them, and then offers at the slots from the bound to another one, if it leads on.
 pub record LeadsBy (at : Sets) (course : Course) (place after : Place) : Type 0 where
   pub executed : ℕ
   pub within : next place.0 + executed ≤ course.bound
   pub reaches : next after.0 ≡ next place.0 + executed
+  pub me : after.0.me ≡ place.0.me
   pub named : name_of after.0 ≡ name_of place.0
   pub promise : after.0.acceptor.promised ≡ place.0.acceptor.promised
+  pub was : members_at at (next after.0) ≡ members after.0
+  pub drawn : (slot : ℕ) → next place.0 ≤ slot → slot < next after.0 → is_some (at_slot place.0.ready slot) ≡ true
+  pub ready : after.0.running ≡ true → (slot : ℕ) → next after.0 ≤ slot → at_slot after.0.ready slot ≡ at_slot place.0.ready slot
   pub bound : ℕ
   pub up : course.bound ≤ bound
   pub offers : ℕ → List Mark

@@ -5,6 +5,7 @@
 
 ghost use Rattle.sc_following_law.specs.Counted.{EntriesLead};
 ghost use Rattle.sc_following_law.specs.Executed.{ExecutionsLead};
+ghost use Rattle.sc_following_law.specs.Leading.{RowsLead};
 ghost use Rattle.sc_following_law.specs.Offers.{PumpsOffer};
 ghost use Rattle.sc_following_law.specs.Rows.{GroupsBeginFollowing, IdleRowsKeep, LeadersKeep, ElectionsKeep, TakersKeep, QuietGroupsAreEven};
 ghost use Rattle.sc_following_law.specs.Tables.{EntriesTell, StatesMake, TablesElect, TablesFollow};
@@ -91,4 +92,12 @@ pub fn entries_lead()
 /// entries, and then asks for what it offers behind what is in flight, if it leads on.
 pub fn executions_lead()
     ensures { ExecutionsLead }
+{}
+
+/// Each whole row of a replica that leads is a leader's row, and if it leads on, it leads in the
+/// progress after it: whatever it takes of votes, by which it executes and offers, of promises,
+/// requests, orders and mails of transactions. Of a vote it is said where the entries that it
+/// executes are the next ones, and where it stops only when all that was offered is executed.
+pub fn rows_lead()
+    ensures { RowsLead }
 {}

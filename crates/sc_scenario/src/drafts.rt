@@ -16,7 +16,7 @@ pub type GroupLines = Sequence<GroupLine>;
 /// The version, the number of nodes (0 before its line), the groups, the clients whose sections
 /// were ended, by number, the schedule, and how many orders it has.
 #[derive(Drop)]
-pub(crate) struct Draft {
+pub struct Draft {
     pub version: u8,
     pub nodes: u16,
     pub groups: GroupLines,
@@ -28,7 +28,7 @@ pub(crate) struct Draft {
 
 /// Nothing; a draft; or a draft and the client whose section is open.
 #[derive(Drop)]
-pub(crate) enum Reading {
+pub enum Reading {
     Fresh,
     Outside(Draft),
     Within(Draft, Asks),

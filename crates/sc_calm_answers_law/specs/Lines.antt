@@ -1,0 +1,28 @@
+-- That the lines of a calm scenario at its budget end quiet, where its journals keep what they need.
+use Rattle.std.specs.Prelude.{◌≡◌, ℕ, ◌×◌, false, List, []}
+use Rattle.sc_cmd.specs.declared.orders.OrderLine.{OrderLine}
+use Rattle.sc_mail.specs.declared.bodies.Mail.{Mail}
+use Rattle.sc_actor.specs.declared.rows.Row.{Row}
+use Rattle.sc_actor.specs.Walk.{unsettled}
+use Rattle.sc_scenario.specs.declared.scenarios.Scenario.{Scenario}
+use Rattle.sc_scenario.specs.Valid.{IsValid}
+use Rattle.sc_sound.specs.Players.{births, schedule, as_nodes, system_of, Lawful}
+use Rattle.sc_calm_law.specs.Charts.{Chart, players}
+use Rattle.sc_calm_law.specs.Keeping.{KeepCalm}
+use Rattle.sc_calm_law.specs.Resting.{RestCalm}
+use Rattle.sc_calm_law.specs.Totals.{Rows}
+use Rattle.sc_budget_law.specs.Calm.{orders_of, IsCalmAtBudget}
+use Rattle.sc_calm_answers_law.specs.Covered.{IsFirstChart}
+
+-- There are charts, one for each journal of a scenario with no more orders than it gives, by which each row finds what it needs, and by which quiet journals rest.
+pub record AreCharted (words : ℕ → ℕ → ℕ × ℕ) (scenario : Scenario) (charts : Rows → Chart) : Type 0 where
+  pub first : IsFirstChart scenario (charts [])
+  pub keeps : KeepCalm (players words (births as_nodes scenario)) charts (orders_of scenario)
+  pub rests : RestCalm words (births as_nodes scenario) charts (orders_of scenario)
+
+-- In each lawful journal of a valid calm scenario at its budget that has such charts no line is cut off with mail pending.
+abbrev pub CalmLinesEndQuiet : Type 0
+CalmLinesEndQuiet =
+    (words : ℕ → ℕ → ℕ × ℕ) (scenario : Scenario) (charts : Rows → Chart) (journal : List (Row Mail OrderLine))
+    → IsValid scenario → IsCalmAtBudget scenario → AreCharted words scenario charts → Lawful as_nodes words scenario journal
+    → unsettled (system_of as_nodes words scenario) (schedule scenario) journal ≡ false

@@ -1,0 +1,108 @@
+-- A leader's whole rows in the table, as rows of what stands between it and its nodes.
+use Rattle.std.specs.Prelude.{◌≡◌, ℕ, ◌≤◌, ◌==◌, ◌||◌, not, nat_lt, Bool, true, false, List, [], length, if◌then◌else◌, Option, Some, None, is_some}
+use Rattle.std.specs.Option.{option_map}
+use Rattle.sc_base.specs.Drawing.{Drawer}
+use Rattle.sc_base.specs.declared.names.Ballot.{Ballot}
+use Rattle.sc_cmd.specs.declared.commands.Command.{Command}
+use Rattle.sc_cmd.specs.declared.orders.OrderLine.{OrderLine}
+use Rattle.sc_mail.specs.declared.bodies.MailBody.{MailBody}
+use Rattle.sc_mail.specs.declared.bodies.MailBody.TheVariants.{Request, Answer, Prepare, Promise, Accept, Accepted, Nack, Learn, Ask, Install, TxPrepare, TxVote, TxOutcome, TxElsewhere, TxWatch, TxWatched, Told}
+use Rattle.sc_member.specs.Majority.{votes_of, is_majority}
+use Rattle.sc_member.specs.Roster.{IsRoster, is_member}
+use Rattle.sc_paxos_words.specs.declared.answers.Counted.TheVariants.{Chosen}
+use Rattle.sc_paxos_words.specs.declared.reports.Report.{Report}
+use Rattle.sc_paxos_words.specs.Leaders.{LeaderState, flight_at}
+use Rattle.sc_paxos_words.specs.Votes.{kept_voters, counted}
+use Rattle.sc_node_table.specs.declared.ReplicaInput.TheVariants as Given
+use Rattle.sc_node_table.specs.Execute.{executed_one}
+use Rattle.sc_node_table.specs.Replica.{ReplicaState, Place, name_of, next}
+use Rattle.sc_node_table.specs.Rows.{mailed, stepped}
+use Rattle.sc_node_table.specs.Slots.{at_slot, with_slot}
+use Rattle.sc_law_lemmas.specs.Steps.{GoesOn}
+use Rattle.sc_following_law.specs.Following.{Mark, Votes, Promises, Course, Progress, Sets}
+use Rattle.sc_following_law.specs.Counted.{IsLed, IsNext}
+use Rattle.sc_following_law.specs.Executed.{AreNext}
+use Rattle.sc_following_law.specs.Tables.{marks_for}
+use Rattle.sc_following_law.specs.Rows.{Leads}
+
+-- who voted for what is in flight at a slot, at one that runs: nothing flies there where the slot is executed or ready
+abbrev pub voters_of : ReplicaState → ℕ → Option (List ℕ)
+voters_of r slot =
+    if not r.running || (nat_lt slot (next r) || is_some (at_slot r.ready slot)) then None
+    else option_map (λ flight. kept_voters flight.voters) (flight_at slot r.leader.flights)
+
+-- the votes that are kept are no majority of these members, and each is the vote of another one of them
+pub record IsPolled (members voters : List ℕ) : Type 0 where
+  pub few : length voters ≤ votes_of members voters
+  pub undecided : is_majority members voters ≡ false
+
+-- A replica leads in the progress of its group, and what that says of the leader is so: where it is, what it has promised, who voted for what it has in flight, and whose promises it has counted.
+pub record IsLeadOf (at : Sets) (now : Progress) (r : ReplicaState) : Type 0 where
+  pub led : IsLed at now.course r
+  pub newest : now.course.newest ≡ next r
+  pub runs : now.course.runs ≡ true
+  pub stands : now.course.gone ≡ false
+  pub executed : now.next r.me ≡ next r
+  pub promise : now.promise r.me ≡ r.acceptor.promised
+  pub voters : (slot : ℕ) → now.course.voters slot ≡ voters_of r slot
+  pub polled : (slot : ℕ) (voters : List ℕ) → voters_of r slot ≡ Some voters → IsPolled (at slot) voters
+  pub counted : (node : ℕ) → now.course.counted node ≡ is_member r.leader.promisers node
+
+-- the progress after a row that leaves the leader so, with this bound: all others are where they were
+abbrev pub progress_by : ℕ → Progress → ReplicaState → Progress
+progress_by bound now r = record {
+  next = λ who. if who == r.me then next r else now.next who;
+  promise = λ who. if who == r.me then r.acceptor.promised else now.promise who;
+  course = record now.course { newest = next r; bound = bound; runs = r.running; gone = is_some r.group.core.gone; voters = voters_of r; counted = λ node. is_member r.leader.promisers node };
+}
+
+-- A row of a replica that leads is a leader's row in the progress of its group; and if it leads on, it leads in the progress after it.
+pub record LeadsInto (at : Sets) (now : Progress) (taken : Option Mark) (r : ReplicaState) (after : Place) : Type 0 where
+  pub me : after.0.me ≡ r.me
+  pub named : name_of after.0 ≡ name_of r
+  pub bound : ℕ
+  pub leads : Leads at now (progress_by bound now after.0) r.me taken (λ who. marks_for (name_of r) who after.1)
+  pub goes_on : after.0.running ≡ true → IsLeadOf at (progress_by bound now after.0) after.0
+
+-- the entries from this one on that are ready are the next ones, one after another
+abbrev pub AreEntries : Sets → Command → Place → Type 0
+AreEntries at command place = IsNext at command place.0 × AreNext at (executed_one true command place).0.ready (executed_one true command place)
+
+-- where it runs no longer, all that was offered is executed: what takes a leader out of its group, or ends the group, is offered alone
+abbrev pub StopsAlone : Course → ReplicaState → Type 0
+StopsAlone course after = after.running ≡ false → next after ≡ course.bound
+
+-- a mail that is no part of the agreement of a group, or a Nack for which no leader stops
+abbrev pub IsAside : ReplicaState → MailBody → Type 0
+IsAside r (Request group client seq op) = Unit {0}
+IsAside r (Answer group seq answer) = Unit {0}
+IsAside r (TxPrepare tx offer) = Unit {0}
+IsAside r (TxVote tx coord part vote) = Unit {0}
+IsAside r (TxOutcome tx part outcome) = Unit {0}
+IsAside r (TxElsewhere tx coord hint) = Unit {0}
+IsAside r (TxWatch tx watch) = Unit {0}
+IsAside r (TxWatched tx coord part vote) = Unit {0}
+IsAside r (Told order result) = Unit {0}
+IsAside r (Nack group promised) = GoesOn promised r
+IsAside r (Prepare group ballot from_slot) = ⊥
+IsAside r (Promise group ballot reports) = ⊥
+IsAside r (Accept group ballot slot command) = ⊥
+IsAside r (Accepted group ballot slot) = ⊥
+IsAside r (Learn group slot command) = ⊥
+IsAside r (Ask group from_slot) = ⊥
+IsAside r (Install group slot base sets) = ⊥
+
+-- a vote that decides the next slot makes its command ready, and from it on the ready entries are the next ones
+abbrev pub DecidesNext : Sets → ℕ → Ballot → ℕ → ReplicaState → Type 0
+DecidesNext at from ballot slot r =
+    (command : Command) (leader : LeaderState Command) → slot ≡ next r → counted from ballot slot (at slot) r.leader ≡ (Chosen command, leader)
+    → AreEntries at command (record r { leader = leader; ready = with_slot r.ready slot command }, [])
+
+-- whatever a replica that leads takes of votes, promises, requests, mails of transactions and orders, its row is a leader's
+pub record RowsLead : Type 0 where
+  pub votes : (at : Sets) (now : Progress) (from : ℕ) (ballot : Ballot) (slot : ℕ) (r : ReplicaState) → ((s : ℕ) → IsRoster (at s)) → IsLeadOf at now r → DecidesNext at from ballot slot r
+      → StopsAlone now.course (mailed from (Accepted (name_of r) ballot slot) (r, [])).0.0 → LeadsInto at now (Some (Votes from ballot slot)) r (mailed from (Accepted (name_of r) ballot slot) (r, [])).0
+  pub promises : (at : Sets) (now : Progress) (from : ℕ) (ballot : Ballot) (reports : List (Report Command)) (r : ReplicaState) → IsLeadOf at now r
+      → LeadsInto at now (Some (Promises from ballot)) r (mailed from (Promise (name_of r) ballot reports) (r, [])).0
+  pub asides : (at : Sets) (now : Progress) (from : ℕ) (body : MailBody) (r : ReplicaState) → IsLeadOf at now r → IsAside r body → LeadsInto at now None r (mailed from body (r, [])).0
+  pub orders : (at : Sets) (now : Progress) (on : Bool) (drawer : Drawer) (line : OrderLine) (r : ReplicaState) → IsLeadOf at now r → LeadsInto at now None r (stepped on drawer (Given.Told line) (r, [])).0
