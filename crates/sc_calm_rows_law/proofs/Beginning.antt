@@ -1,6 +1,8 @@
 -- How the groups of a scenario begin, over its players.
-use Rattle.std.proofs.Common.{◌≡◌, ℕ, zero, suc, ◌+◌, ◌-◌, ◌<◌, ◌≤◌, ◌||◌, eqb, Bool, true, false, true≢false, cond, List, [], ◌∷◌, ◌++◌, length, map, find, replicate, Option, Some, None, inl, inr, refl, sym, ◌∙◌, ap, subst, arith}
+use Rattle.std.proofs.Common.{◌≡◌, ℕ, zero, suc, ◌+◌, ◌-◌, ◌<◌, ◌≤◌, ◌||◌, not, nat_lt, eqb, Bool, true, false, true≢false, cond, List, [], ◌∷◌, ◌++◌, length, map, find, replicate, Option, Some, None, inl, inr, refl, sym, ◌∙◌, ap, subst, arith}
 use Rattle.std.specs.List.{filter}
+use Rattle.std.specs.Option.{option_map}
+use Rattle.std.specs.Prelude.{is_some}
 use Rattle.std.proofs.lemmas.Bool.{cases_Bool, cases_eq, cond_both, cond-true, cond-false, eq-eqb, ne_eqb, eqb-true, both_ways}
 use Rattle.sc_base.specs.Among.{Among, Each}
 use Rattle.sc_base.specs.Same.{same_draw}
@@ -9,10 +11,14 @@ use Rattle.sc_base.proofs.NameLemmas.{draw_is, same_name}
 use Rattle.sc_cmd.specs.declared.cores.Base.{Base}
 use Rattle.sc_member.specs.Roster.{IsRoster, is_member}
 use Rattle.sc_actor.specs.declared.actors.Seat.{Seat}
+use Rattle.sc_cmd.specs.declared.commands.Command.{Command}
+use Rattle.sc_paxos_words.specs.declared.flights.Flight.{Flight}
+use Rattle.sc_paxos_words.specs.Leaders.{flight_at}
+use Rattle.sc_paxos_words.specs.Votes.{kept_voters}
 use Rattle.sc_paxos_words.proofs.ListLemmas.{Each-among, Each-from_All}
 use Rattle.sc_node_table.specs.Node.{born_replicas, replica_of}
-use Rattle.sc_node_table.specs.Replica.{ReplicaState, name_of, first_ballot, born_replica}
-use Rattle.sc_node_table.specs.Slots.{slots_ahead, numbers_from}
+use Rattle.sc_node_table.specs.Replica.{ReplicaState, next, first_ballot, born_replica}
+use Rattle.sc_node_table.specs.Slots.{slots_ahead, numbers_from, at_slot}
 use Rattle.sc_scenario.specs.Groups.{base_at, bases_up_to, group_at}
 use Rattle.sc_scenario.specs.Valid.{IsBounded, IsBoundedGroup, IsUpTo}
 use Rattle.sc_scenario.specs.declared.drafts.GroupLine.{GroupLine}
@@ -22,14 +28,14 @@ use Rattle.sc_sound.specs.Players.{Player, node_seat, client_seat, client_seats,
 use Rattle.sc_calm_law.specs.Charts.{players}
 use Rattle.sc_following_law.specs.Following.{Mark, Sets, Progress, IsFollowing}
 use Rattle.sc_following_law.specs.Rows.{begun}
-use Rattle.sc_following_law.specs.Counted.{IsLed}
-use Rattle.sc_following_law.specs.Offers.{AreAt, MayOffer}
+use Rattle.sc_following_law.specs.Leading.{voters_of, IsLeadOf}
+use Rattle.sc_following_law.specs.Offers.{AreAt}
 use Rattle.sc_following_law.proofs.InQuiet.{begins}
 use Rattle.sc_following_law.proofs.Keeps.{idle-keeps}
 use Rattle.sc_following_law.proofs.Leads.{least_in}
 use Rattle.sc_following_law.proofs.Marks.{among-either}
 use Rattle.sc_calm_rows_law.specs.Begun.{BeginsFollowing, ScenariosBeginFollowing, ChildrenBeginFollowing}
-use Rattle.sc_calm_rows_law.specs.Groups.{replica_in, view_at, next_in, promise_in, progress_at, marks_at, GivesCourse, begun_course, IsLedBy, IsCourseOf}
+use Rattle.sc_calm_rows_law.specs.Groups.{replica_in, view_at, next_in, promise_in, progress_at, marks_at, begun_course, IsLedBy, IsCourseOf}
 
 -- ---- the groups of a bounded scenario
 
@@ -199,10 +205,22 @@ module _ (scenario : Scenario) (bounded : IsBounded scenario) (base : Base) (a :
   sets_at zero from = tt
   sets_at (suc count) from = (refl, sets_at count (from + 1))
 
+  abbrev now : Progress
+  now = progress_at (births as_nodes scenario) [] base (begun_course base)
+
+  none_flies : (r : ReplicaState) → r.leader.flights ≡ [] → (slot : ℕ) → voters_of r slot ≡ None
+  none_flies r e slot =
+      cond_both (not r.running || (nat_lt slot (next r) || is_some (at_slot r.ready slot))) None (option_map (λ (flight : Flight Command). kept_voters flight.voters) (flight_at slot r.leader.flights)) (λ o. o ≡ None)
+      (λ _. refl) (λ _. ap (λ (fs : List (Flight Command)). option_map (λ (flight : Flight Command). kept_voters flight.voters) (flight_at slot fs)) e)
+
+  none_some : {X : Type 0} {x : X} → None ≡ Some x → ⊥
+  none_some e = cc
+
   -- the first member leads
-  gives : GivesCourse sets (begun_course base) (born_replica slots_ahead base.core.first base)
+  gives : IsLeadOf sets now (born_replica slots_ahead base.core.first base)
   gives =
       let born = born_is scenario bounded base a in
+      let first : ReplicaState = born_replica slots_ahead base.core.first base in
       record {
         led = record {
           running = eq-eqb base.core.first base.core.first refl;
@@ -217,22 +235,26 @@ module _ (scenario : Scenario) (bounded : IsBounded scenario) (base : Base) (a :
         };
         newest = refl;
         runs = refl;
-        voters = λ slot. refl;
+        stands = refl;
+        executed = next_born base.core.first ∙ cond-true (is_member base.core.members base.core.first) 1 0 born.first;
+        promise = promise_born base.core.first;
+        voters = λ slot. sym (none_flies first refl slot);
+        polled = λ slot voters e. absurd (none_some (sym (none_flies first refl slot) ∙ e));
         counted = λ node. refl;
       }
 
-  led_by : (node : ℕ) (o : Option ReplicaState) (r : ReplicaState) → o ≡ own_replica node base → o ≡ Some r → r.running ≡ true → GivesCourse sets (begun_course base) r × (node ≡ base.core.first)
+  led_by : (node : ℕ) (o : Option ReplicaState) (r : ReplicaState) → o ≡ own_replica node base → o ≡ Some r → r.running ≡ true → IsLeadOf sets now r × (node ≡ base.core.first)
   led_by node o r is e runs =
       let there : cond (is_member base.core.members node) (Some (born_replica slots_ahead node base)) None ≡ Some r = sym is ∙ e in
       elim (cases_Bool (is_member base.core.members node)) [
-        | inr f ↦ (let none : None ≡ Some r = sym (cond-false (is_member base.core.members node) (Some (born_replica slots_ahead node base)) None f) ∙ there in cc)
+        | inr f ↦ absurd (none_some (sym (cond-false (is_member base.core.members node) (Some (born_replica slots_ahead node base)) None f) ∙ there))
         | inl t ↦ (let some : Some (born_replica slots_ahead node base) ≡ Some r = sym (cond-true (is_member base.core.members node) (Some (born_replica slots_ahead node base)) None t) ∙ there in
             let same : born_replica slots_ahead node base ≡ r = cc in
             let first : base.core.first ≡ node = eqb-true base.core.first node (ap (λ (x : ReplicaState). x.running) same ∙ runs) in
-            (subst (GivesCourse sets (begun_course base)) (ap (λ n. born_replica slots_ahead n base) first ∙ same) gives, sym first))
+            (subst (IsLeadOf sets now) (ap (λ n. born_replica slots_ahead n base) first ∙ same) gives, sym first))
       ]
 
-  course_is : IsCourseOf sets base (view_at (births as_nodes scenario) [] base.core.id) (begun_course base)
+  course_is : IsCourseOf sets (births as_nodes scenario) [] base (begun_course base)
   course_is = record {
     gives = λ node r e runs. led_by node (view_at (births as_nodes scenario) [] base.core.id node) r (view_born node) e runs;
     runs = λ _. subst (IsLedBy base (begun_course base))

@@ -1,6 +1,7 @@
 pub mod Beginning
 pub mod Executing
 pub mod Hearing
+pub mod Leading
 pub mod Mailing
 pub mod Marking
 pub mod Silent

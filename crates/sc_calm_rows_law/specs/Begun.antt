@@ -15,7 +15,7 @@ use Rattle.sc_calm_rows_law.specs.Groups.{view_at, progress_at, marks_at, begun_
 -- a group follows its leader after some rows, by the course of its birth, and that is its course
 pub record BeginsFollowing (words : ℕ → ℕ → ℕ × ℕ) (seats : List (Seat Player)) (rows : Rows) (base : Base) : Type 0 where
   pub follows : IsFollowing (λ slot. base.core.members) (progress_at seats rows base (begun_course base)) (marks_at (players words seats) rows base.core.id)
-  pub course : IsCourseOf (λ slot. base.core.members) base (view_at seats rows base.core.id) (begun_course base)
+  pub course : IsCourseOf (λ slot. base.core.members) seats rows base (begun_course base)
 
 -- Each group of a bounded scenario begins so: its members' nodes have replicas, with nothing executed, its first member leads, and no mail is under way.
 abbrev pub ScenariosBeginFollowing : Type 0

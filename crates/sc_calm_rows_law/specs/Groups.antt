@@ -1,9 +1,7 @@
 -- A group after some rows of players: its replicas, the marks of its mail that is under way, and how far it has come.
 use Rattle.std.specs.Prelude.{◌≡◌, ℕ, ◌==◌, true, List, [], ◌∷◌, find, if◌then◌else◌, Option, Some, None}
-use Rattle.std.specs.Option.{option_map}
 use Rattle.sc_base.specs.declared.names.Ballot.{Ballot}
 use Rattle.sc_base.specs.declared.names.Draw.{Draw}
-use Rattle.sc_cmd.specs.declared.commands.Command.{Command}
 use Rattle.sc_cmd.specs.declared.cores.Base.{Base}
 use Rattle.sc_cmd.specs.declared.orders.OrderLine.{OrderLine}
 use Rattle.sc_mail.specs.declared.bodies.Mail.{Mail}
@@ -16,16 +14,13 @@ use Rattle.sc_actor.specs.Mail.{numbered}
 use Rattle.sc_actor.specs.Replay.{value}
 use Rattle.sc_actor.specs.System.{System}
 use Rattle.sc_orderly_law.specs.Orderly.{rest}
-use Rattle.sc_paxos_words.specs.declared.flights.Flight.{Flight}
-use Rattle.sc_paxos_words.specs.Leaders.{flight_at}
-use Rattle.sc_paxos_words.specs.Votes.{kept_voters}
 use Rattle.sc_node_table.specs.Node.{replica_of}
 use Rattle.sc_node_table.specs.Replica.{ReplicaState, next, first_ballot}
 use Rattle.sc_sound.specs.Players.{Player, player_table}
 use Rattle.sc_calm_law.specs.Quiet.{View}
 use Rattle.sc_calm_law.specs.Totals.{Rows}
-use Rattle.sc_following_law.specs.Counted.{IsLed}
 use Rattle.sc_following_law.specs.Following.{Mark, mark_of, marks_of, Course, Progress, Sets}
+use Rattle.sc_following_law.specs.Leading.{IsLeadOf}
 use Rattle.sc_following_law.specs.Rows.{begun}
 
 -- the replicas of a player: a client has none
@@ -79,18 +74,6 @@ taken_mark name sent Crash = None
 taken_mark name sent (Drop mail) = None
 taken_mark name sent (Again mail) = None
 
--- who voted for what is in flight at a slot
-abbrev pub voters_in : List (Flight Command) → ℕ → Option (List ℕ)
-voters_in flights slot = option_map (λ (flight : Flight Command). kept_voters flight.voters) (flight_at slot flights)
-
--- A replica that runs gives its group's course: its ballot, its next slot, who voted for what is in flight, and whose promises it counted.
-pub record GivesCourse (at : Sets) (course : Course) (r : ReplicaState) : Type 0 where
-  pub led : IsLed at course r
-  pub newest : course.newest ≡ next r
-  pub runs : course.runs ≡ true
-  pub voters : (slot : ℕ) → course.voters slot ≡ voters_in r.leader.flights slot
-  pub counted : (node : ℕ) → course.counted node ≡ is_member r.leader.promisers node
-
 -- the course of a group at its birth
 abbrev pub begun_course : Base → Course
 begun_course base = (begun base.core.members (first_ballot base.core)).course
@@ -100,7 +83,7 @@ abbrev pub IsLedBy : Base → Course → Option ReplicaState → Type 0
 IsLedBy base course None = course ≡ begun_course base
 IsLedBy base course (Some r) = r.running ≡ true
 
--- This is the course of a group that began so and whose replicas are these: each that runs gives it, at the node of its ballot; and where it says that one runs, that does so, or is yet to be made.
-pub record IsCourseOf (at : Sets) (base : Base) (replicas : ℕ → Option ReplicaState) (course : Course) : Type 0 where
-  pub gives : (node : ℕ) (r : ReplicaState) → replicas node ≡ Some r → r.running ≡ true → GivesCourse at course r × (node ≡ course.ballot.node)
-  pub runs : course.runs ≡ true → IsLedBy base course (replicas course.ballot.node)
+-- This is the course of a group that began so, after some rows: each replica that runs leads in it, at the node of its ballot; and where it says that one runs, that does so, or is yet to be made.
+pub record IsCourseOf (at : Sets) (births : List (Seat Player)) (rows : Rows) (base : Base) (course : Course) : Type 0 where
+  pub gives : (node : ℕ) (r : ReplicaState) → view_at births rows base.core.id node ≡ Some r → r.running ≡ true → IsLeadOf at (progress_at births rows base course) r × (node ≡ course.ballot.node)
+  pub runs : course.runs ≡ true → IsLedBy base course (view_at births rows base.core.id course.ballot.node)

@@ -1,5 +1,5 @@
 -- A row of a replica's table as one of its group's progress: its node takes a mail, elects itself, or does nothing.
-use Rattle.std.specs.Prelude.{◌≡◌, ℕ, suc, ◌<◌, true, false, List, [], length, Option, Some, None}
+use Rattle.std.specs.Prelude.{◌≡◌, ℕ, suc, ◌<◌, true, false, List, [], length, Option, Some, None, is_some}
 use Rattle.sc_base.specs.declared.names.Ballot.{Ballot}
 use Rattle.sc_cmd.specs.declared.cores.Base.{Base}
 use Rattle.sc_cmd.specs.declared.orders.OrderLine.{OrderLine}
@@ -19,11 +19,12 @@ use Rattle.sc_node_table.specs.Voting.{leads}
 use Rattle.sc_sound.specs.Players.{Player}
 use Rattle.sc_calm_law.specs.Totals.{Rows}
 use Rattle.sc_following_law.specs.Following.{Mark, Votes, Tells, Installs, Promises, Course, Sets, members_at}
+use Rattle.sc_following_law.specs.Leading.{voters_of, IsLeadOf, LeadsInto}
 use Rattle.sc_following_law.specs.Offers.{AreAt}
-use Rattle.sc_following_law.specs.Rows.{IsCount, IsIdle, Takes, Elects}
+use Rattle.sc_following_law.specs.Rows.{IsCount, IsIdle, Takes, Leads, Elects}
 use Rattle.sc_following_law.specs.Tables.{marks_for, StepsBy, ElectsBy, next_ballot}
-use Rattle.sc_calm_rows_law.specs.Groups.{taken_mark}
-use Rattle.sc_calm_rows_law.specs.Turns.{IsKind, IsReplicasRow}
+use Rattle.sc_calm_rows_law.specs.Groups.{progress_at, taken_mark}
+use Rattle.sc_calm_rows_law.specs.Turns.{with_event, IsKind, IsReplicasRow}
 
 -- one that is to lead next has not executed all, also after it
 abbrev pub WaitsStill : Sets → Course → ℕ → ℕ → Type 0
@@ -78,3 +79,20 @@ StillIdle =
     (births : List (Seat Player)) (rows : Rows) (seat : Seat Player) (event : Event OrderLine) (base : Base) (course : Course) (r : ReplicaState) (after : Place)
     → IsReplicasRow births rows seat event base.core.id (Some r) after → taken_mark base.core.id (mails rows) event ≡ None → next after.0 ≡ next r → after.0.acceptor.promised ≡ r.acceptor.promised → ((who : ℕ) → marks_for base.core.id who after.1 ≡ [])
     → IsKind IsIdle births rows seat event base course course
+
+-- the course of a group after a row that leaves its leader so, with this bound
+abbrev pub led_course : ℕ → Course → ReplicaState → Course
+led_course bound course r = record course { newest = next r; bound = bound; runs = r.running; gone = is_some r.group.core.gone; voters = voters_of r; counted = λ node. is_member r.leader.promisers node }
+
+-- a leader's row in its table is one in its group; and where it leads on, it leads in the group's course after it
+pub record LedBy (at : Sets) (births : List (Seat Player)) (rows : Rows) (seat : Seat Player) (event : Event OrderLine) (base : Base) (course : Course) (after : Place) : Type 0 where
+  pub bound : ℕ
+  pub leads : IsKind (Leads at) births rows seat event base course (led_course bound course after.0)
+  pub goes_on : after.0.running ≡ true → IsLeadOf at (progress_at births (with_event rows seat event) base (led_course bound course after.0)) after.0
+
+-- .. whatever it takes
+abbrev pub StepsLead : Type 0
+StepsLead =
+    (at : Sets) (births : List (Seat Player)) (rows : Rows) (seat : Seat Player) (event : Event OrderLine) (base : Base) (course : Course) (r : ReplicaState) (after : Place)
+    → IsReplicasRow births rows seat event base.core.id (Some r) after → name_of r ≡ base.core.id → r.me ≡ seat.who
+    → LeadsInto at (progress_at births rows base course) (taken_mark base.core.id (mails rows) event) r after → LedBy at births rows seat event base course after

@@ -4,7 +4,7 @@
 #![tactic(auto)]
 
 ghost use Rattle.sc_calm_rows_law.specs.Begun.{ChildrenBeginFollowing, ScenariosBeginFollowing};
-ghost use Rattle.sc_calm_rows_law.specs.Steps.{StatesTake, StepsElect, StepsTake, StillIdle, UncountedPass};
+ghost use Rattle.sc_calm_rows_law.specs.Steps.{StatesTake, StepsElect, StepsLead, StepsTake, StillIdle, UncountedPass};
 ghost use Rattle.sc_calm_rows_law.specs.Turns.{NamesStay, OthersHearNothing, OthersRowsAreIdle, RowsAreOfGroups, RowsAreReplicas};
 
 /// Each row that comes in time is a row of each group: what is delivered is the first of its
@@ -57,6 +57,12 @@ pub fn uncounted_pass()
 /// each node that decides an open slot to promise its ballot.
 pub fn steps_elect()
     ensures { StepsElect }
+{}
+
+/// A leader's row in its table is one in its group, whatever it takes; and where it leads on, it leads
+/// in the group's course after it.
+pub fn steps_lead()
+    ensures { StepsLead }
 {}
 
 /// A replica that stays where it is, and sends nothing of its group, does nothing in it.
