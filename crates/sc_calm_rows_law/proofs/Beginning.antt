@@ -26,7 +26,8 @@ use Rattle.sc_scenario.specs.declared.scenarios.Asks.{Asks}
 use Rattle.sc_scenario.specs.declared.scenarios.Scenario.{Scenario}
 use Rattle.sc_sound.specs.Players.{Player, node_seat, client_seat, client_seats, route_of, births, as_nodes}
 use Rattle.sc_calm_law.specs.Charts.{players}
-use Rattle.sc_following_law.specs.Following.{Mark, Sets, Progress, IsFollowing}
+use Rattle.sc_following_law.specs.Counted.{IsLed}
+use Rattle.sc_following_law.specs.Following.{Mark, Sets, Course, Progress, IsFollowing}
 use Rattle.sc_following_law.specs.Rows.{begun}
 use Rattle.sc_following_law.specs.Leading.{voters_of, IsLeadOf}
 use Rattle.sc_following_law.specs.Offers.{AreAt}
@@ -36,6 +37,47 @@ use Rattle.sc_following_law.proofs.Leads.{least_in}
 use Rattle.sc_following_law.proofs.Marks.{among-either}
 use Rattle.sc_calm_rows_law.specs.Begun.{BeginsFollowing, ScenariosBeginFollowing, ChildrenBeginFollowing}
 use Rattle.sc_calm_rows_law.specs.Groups.{replica_in, view_at, next_in, promise_in, progress_at, marks_at, begun_course, IsLedBy, IsCourseOf}
+
+-- ---- the first member at its birth
+
+none_some : {X : Type 0} {x : X} → None ≡ Some x → ⊥
+none_some e = cc
+
+none_flies : (r : ReplicaState) → r.leader.flights ≡ [] → (slot : ℕ) → voters_of r slot ≡ None
+none_flies r e slot =
+    cond_both (not r.running || (nat_lt slot (next r) || is_some (at_slot r.ready slot))) None (option_map (λ (flight : Flight Command). kept_voters flight.voters) (flight_at slot r.leader.flights)) (λ o. o ≡ None)
+    (λ _. refl) (λ _. ap (λ (fs : List (Flight Command)). option_map (λ (flight : Flight Command). kept_voters flight.voters) (flight_at slot fs)) e)
+
+sets_at : (at : Sets) (members : List ℕ) (count from : ℕ) → ((slot : ℕ) → slot < from + count → at slot ≡ members) → AreAt at from (replicate count members)
+sets_at at members zero from same = tt
+sets_at at members (suc count) from same = (same from (omega arith), sets_at at members count (from + 1) (λ slot low. same slot (omega (arith, low))))
+
+-- it leads as the course of the birth says
+pub born_leads : (at : Sets) (base : Base) (now : Progress) → ((slot : ℕ) → slot < 1 + slots_ahead → at slot ≡ base.core.members) → IsRoster base.core.members → is_member base.core.members base.core.first ≡ true → base.core.gone ≡ None
+    → now.course ≡ begun_course base → now.next base.core.first ≡ 1 → now.promise base.core.first ≡ first_ballot base.core → IsLeadOf at now (born_replica slots_ahead base.core.first base)
+born_leads at base now same roster first stands course executed promise =
+    let r : ReplicaState = born_replica slots_ahead base.core.first base in
+    record {
+      led = subst (λ (c : Course). IsLed at c r) (sym course) (record {
+        running = eq-eqb base.core.first base.core.first refl;
+        stands = stands;
+        first = refl;
+        mine = refl;
+        member = first;
+        was = same 4 (omega arith);
+        ahead = refl;
+        roster = roster;
+        may = record { ballot = refl; sets = sets_at at base.core.members slots_ahead 1 same; low = omega arith; high = omega arith; taken = λ slot low high. absurd (omega (arith, low, high)); free = λ slot low. refl };
+      });
+      newest = ap (λ (c : Course). c.newest) course;
+      runs = ap (λ (c : Course). c.runs) course;
+      stands = ap (λ (c : Course). c.gone) course;
+      executed = executed;
+      promise = promise;
+      voters = λ slot. ap (λ (c : Course). c.voters slot) course ∙ sym (none_flies r refl slot);
+      polled = λ slot voters e. absurd (none_some (sym (none_flies r refl slot) ∙ e));
+      counted = λ node. ap (λ (c : Course). c.counted node) course;
+    }
 
 -- ---- the groups of a bounded scenario
 
@@ -201,47 +243,14 @@ module _ (scenario : Scenario) (bounded : IsBounded scenario) (base : Base) (a :
   promise_born : (who : ℕ) → promise_in base (view_at (births as_nodes scenario) [] base.core.id who) ≡ first_ballot base.core
   promise_born who = ap (promise_in base) (view_born who) ∙ cond_both (is_member base.core.members who) (Some (born_replica slots_ahead who base)) None (λ o. promise_in base o ≡ first_ballot base.core) (λ _. refl) (λ _. refl)
 
-  sets_at : (count from : ℕ) → AreAt sets from (replicate count base.core.members)
-  sets_at zero from = tt
-  sets_at (suc count) from = (refl, sets_at count (from + 1))
-
   abbrev now : Progress
   now = progress_at (births as_nodes scenario) [] base (begun_course base)
-
-  none_flies : (r : ReplicaState) → r.leader.flights ≡ [] → (slot : ℕ) → voters_of r slot ≡ None
-  none_flies r e slot =
-      cond_both (not r.running || (nat_lt slot (next r) || is_some (at_slot r.ready slot))) None (option_map (λ (flight : Flight Command). kept_voters flight.voters) (flight_at slot r.leader.flights)) (λ o. o ≡ None)
-      (λ _. refl) (λ _. ap (λ (fs : List (Flight Command)). option_map (λ (flight : Flight Command). kept_voters flight.voters) (flight_at slot fs)) e)
-
-  none_some : {X : Type 0} {x : X} → None ≡ Some x → ⊥
-  none_some e = cc
 
   -- the first member leads
   gives : IsLeadOf sets now (born_replica slots_ahead base.core.first base)
   gives =
       let born = born_is scenario bounded base a in
-      let first : ReplicaState = born_replica slots_ahead base.core.first base in
-      record {
-        led = record {
-          running = eq-eqb base.core.first base.core.first refl;
-          stands = born.stands;
-          first = refl;
-          mine = refl;
-          member = born.first;
-          was = refl;
-          ahead = refl;
-          roster = born.roster;
-          may = record { ballot = refl; sets = sets_at slots_ahead 1; low = omega arith; high = omega arith; taken = λ slot low high. absurd (omega (arith, low, high)); free = λ slot low. refl };
-        };
-        newest = refl;
-        runs = refl;
-        stands = refl;
-        executed = next_born base.core.first ∙ cond-true (is_member base.core.members base.core.first) 1 0 born.first;
-        promise = promise_born base.core.first;
-        voters = λ slot. sym (none_flies first refl slot);
-        polled = λ slot voters e. absurd (none_some (sym (none_flies first refl slot) ∙ e));
-        counted = λ node. refl;
-      }
+      born_leads sets base now (λ slot low. refl) born.roster born.first born.stands refl (next_born base.core.first ∙ cond-true (is_member base.core.members base.core.first) 1 0 born.first) (promise_born base.core.first)
 
   led_by : (node : ℕ) (o : Option ReplicaState) (r : ReplicaState) → o ≡ own_replica node base → o ≡ Some r → r.running ≡ true → IsLeadOf sets now r × (node ≡ base.core.first)
   led_by node o r is e runs =
@@ -276,17 +285,14 @@ pub scenarios_begin : ScenariosBeginFollowing
 scenarios_begin words scenario base bounded a = record {
   follows = born_follows base (progress_at (births as_nodes scenario) [] base (begun_course base)) (marks_at (players words (births as_nodes scenario)) [] base.core.id) (born_is scenario bounded base a).first
       (next_born scenario bounded base a) (promise_born scenario bounded base a) refl (λ who. refl);
-  course = course_is scenario bounded base a;
+  given = course_is scenario bounded base a;
 }
 
 pub children_begin : ChildrenBeginFollowing
 children_begin words seats rows base first unborn none = record {
   follows = born_follows base (progress_at seats rows base (begun_course base)) (marks_at (players words seats) rows base.core.id) first (λ who. ap (next_in base who) (unborn who)) (λ who. ap (promise_in base) (unborn who)) refl none;
-  course = record {
+  given = record {
     gives = λ node r e runs. absurd (none_some (sym (unborn node) ∙ e));
     runs = λ _. subst (IsLedBy base (begun_course base)) (sym (unborn base.core.first)) refl;
   };
 }
-  where
-    none_some : {r : ReplicaState} → None ≡ Some r → ⊥
-    none_some e = cc

@@ -1,10 +1,12 @@
 pub mod Beginning
 pub mod Executing
 pub mod Hearing
+pub mod Keeping
 pub mod Leading
 pub mod Mailing
 pub mod Marking
 pub mod Silent
+pub mod Staying
 pub mod Stepping
 pub mod Turning
 pub mod Viewing

@@ -9,13 +9,11 @@ use Rattle.sc_scenario.specs.declared.scenarios.Scenario.{Scenario}
 use Rattle.sc_sound.specs.Players.{Player, births, as_nodes}
 use Rattle.sc_calm_law.specs.Charts.{players}
 use Rattle.sc_calm_law.specs.Totals.{Rows}
-use Rattle.sc_following_law.specs.Following.{IsFollowing}
-use Rattle.sc_calm_rows_law.specs.Groups.{view_at, progress_at, marks_at, begun_course, IsCourseOf}
+use Rattle.sc_calm_rows_law.specs.Groups.{view_at, marks_at, begun_course, IsFollowedAt}
 
--- a group follows its leader after some rows, by the course of its birth, and that is its course
-pub record BeginsFollowing (words : ℕ → ℕ → ℕ × ℕ) (seats : List (Seat Player)) (rows : Rows) (base : Base) : Type 0 where
-  pub follows : IsFollowing (λ slot. base.core.members) (progress_at seats rows base (begun_course base)) (marks_at (players words seats) rows base.core.id)
-  pub course : IsCourseOf (λ slot. base.core.members) seats rows base (begun_course base)
+-- a group follows its first member, with the members that it began with, as at its birth
+abbrev pub BeginsFollowing : (ℕ → ℕ → ℕ × ℕ) → List (Seat Player) → Rows → Base → Type 0
+BeginsFollowing words seats rows base = IsFollowedAt (λ slot. base.core.members) words seats rows base (begun_course base)
 
 -- Each group of a bounded scenario begins so: its members' nodes have replicas, with nothing executed, its first member leads, and no mail is under way.
 abbrev pub ScenariosBeginFollowing : Type 0

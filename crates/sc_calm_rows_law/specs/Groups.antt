@@ -17,9 +17,10 @@ use Rattle.sc_orderly_law.specs.Orderly.{rest}
 use Rattle.sc_node_table.specs.Node.{replica_of}
 use Rattle.sc_node_table.specs.Replica.{ReplicaState, next, first_ballot}
 use Rattle.sc_sound.specs.Players.{Player, player_table}
+use Rattle.sc_calm_law.specs.Charts.{players}
 use Rattle.sc_calm_law.specs.Quiet.{View}
 use Rattle.sc_calm_law.specs.Totals.{Rows}
-use Rattle.sc_following_law.specs.Following.{Mark, mark_of, marks_of, Course, Progress, Sets}
+use Rattle.sc_following_law.specs.Following.{Mark, mark_of, marks_of, Course, Progress, Sets, IsFollowing}
 use Rattle.sc_following_law.specs.Leading.{IsLeadOf}
 use Rattle.sc_following_law.specs.Rows.{begun}
 
@@ -87,3 +88,8 @@ IsLedBy base course (Some r) = r.running ≡ true
 pub record IsCourseOf (at : Sets) (births : List (Seat Player)) (rows : Rows) (base : Base) (course : Course) : Type 0 where
   pub gives : (node : ℕ) (r : ReplicaState) → view_at births rows base.core.id node ≡ Some r → r.running ≡ true → IsLeadOf at (progress_at births rows base course) r × (node ≡ course.ballot.node)
   pub runs : course.runs ≡ true → IsLedBy base course (view_at births rows base.core.id course.ballot.node)
+
+-- A group follows its leader after some rows, in this course.
+pub record IsFollowedAt (at : Sets) (words : ℕ → ℕ → ℕ × ℕ) (births : List (Seat Player)) (rows : Rows) (base : Base) (course : Course) : Type 0 where
+  pub follows : IsFollowing at (progress_at births rows base course) (marks_at (players words births) rows base.core.id)
+  pub given : IsCourseOf at births rows base course

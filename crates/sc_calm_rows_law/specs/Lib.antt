@@ -1,4 +1,5 @@
 pub mod Begun
 pub mod Groups
+pub mod Kept
 pub mod Steps
 pub mod Turns

@@ -4,6 +4,7 @@
 #![tactic(auto)]
 
 ghost use Rattle.sc_calm_rows_law.specs.Begun.{ChildrenBeginFollowing, ScenariosBeginFollowing};
+ghost use Rattle.sc_calm_rows_law.specs.Kept.{LeadsStay, RowsKeepFollowing};
 ghost use Rattle.sc_calm_rows_law.specs.Steps.{StatesTake, StepsElect, StepsLead, StepsTake, StillIdle, UncountedPass};
 ghost use Rattle.sc_calm_rows_law.specs.Turns.{NamesStay, OthersHearNothing, OthersRowsAreIdle, RowsAreOfGroups, RowsAreReplicas};
 
@@ -80,4 +81,17 @@ pub fn scenarios_begin_following()
 /// the child begins, as it will be once it has learnt of the split.
 pub fn children_begin_following()
     ensures { ChildrenBeginFollowing }
+{}
+
+/// The replica that leads a group is left as it is by a row of another, by one in which it is made,
+/// and by its own where it accepts or promises.
+pub fn leads_stay()
+    ensures { LeadsStay }
+{}
+
+/// A group that follows its leader after some rows does so after one more that comes in time: one
+/// that does nothing in the group, of a node that takes a mail, of the leader, or of one that elects
+/// itself.
+pub fn rows_keep_following()
+    ensures { RowsKeepFollowing }
 {}
