@@ -5,6 +5,7 @@ pub mod Keeping
 pub mod Leading
 pub mod Mailing
 pub mod Marking
+pub mod Scenes
 pub mod Silent
 pub mod Staying
 pub mod Stepping

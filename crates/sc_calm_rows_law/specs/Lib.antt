@@ -1,5 +1,6 @@
 pub mod Begun
 pub mod Groups
 pub mod Kept
+pub mod Mailed
 pub mod Steps
 pub mod Turns

@@ -5,6 +5,7 @@
 
 ghost use Rattle.sc_calm_rows_law.specs.Begun.{ChildrenBeginFollowing, ScenariosBeginFollowing};
 ghost use Rattle.sc_calm_rows_law.specs.Kept.{LeadsStay, RowsKeepFollowing};
+ghost use Rattle.sc_calm_rows_law.specs.Mailed.{LeadsKeepFollowing, NodesKeepFollowing};
 ghost use Rattle.sc_calm_rows_law.specs.Steps.{StatesTake, StepsElect, StepsLead, StepsTake, StillIdle, UncountedPass};
 ghost use Rattle.sc_calm_rows_law.specs.Turns.{NamesStay, OthersHearNothing, OthersRowsAreIdle, RowsAreOfGroups, RowsAreReplicas};
 
@@ -94,4 +95,16 @@ pub fn leads_stay()
 /// itself.
 pub fn rows_keep_following()
     ensures { RowsKeepFollowing }
+{}
+
+/// A mail of agreement that comes to a node of its group leaves the group following its leader: one
+/// that asks to accept or to promise, an entry by which the node does not elect itself, a state, and
+/// a vote or a promise for one that does not lead.
+pub fn nodes_keep_following()
+    ensures { NodesKeepFollowing }
+{}
+
+/// So does what its leader takes: a vote, a promise, other mail that comes to it, and an order.
+pub fn leads_keep_following()
+    ensures { LeadsKeepFollowing }
 {}
