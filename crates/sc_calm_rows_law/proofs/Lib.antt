@@ -1,3 +1,4 @@
+pub mod Asides
 pub mod Beginning
 pub mod Executing
 pub mod Hearing

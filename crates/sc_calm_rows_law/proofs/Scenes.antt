@@ -42,11 +42,12 @@ use Rattle.sc_calm_rows_law.specs.Kept.{LeavesLead}
 use Rattle.sc_calm_rows_law.specs.Mailed.{IsScene, TakesMail, HasReplica, FollowsAfter, FollowsOn, NodesKeepFollowing, LeadsKeepFollowing}
 use Rattle.sc_calm_rows_law.specs.Steps.{WaitsStill, led_course}
 use Rattle.sc_calm_rows_law.specs.Turns.{with_event, IsReplicasRow, MayMake}
+use Rattle.sc_calm_rows_law.proofs.Asides.{asides_still}
 use Rattle.sc_calm_rows_law.proofs.Keeping.{rows_keep}
 use Rattle.sc_calm_rows_law.proofs.Leading.{steps_lead}
 use Rattle.sc_calm_rows_law.proofs.Marking.{rows_are}
 use Rattle.sc_calm_rows_law.proofs.Staying.{leads_stay}
-use Rattle.sc_calm_rows_law.proofs.Stepping.{steps_take, states_take, uncounted_pass}
+use Rattle.sc_calm_rows_law.proofs.Stepping.{steps_take, states_take, uncounted_pass, still_idle}
 use Rattle.sc_calm_rows_law.proofs.Turning.{found_name, rows_replicas}
 
 -- mail that is no part of the agreement leaves no mark
@@ -272,6 +273,15 @@ module _ (at : Sets) (words : ℕ → ℕ → ℕ × ℕ) (births : List (Seat P
           let led = steps_lead at births rows seat (Deliver number) base course r after row named has.mine (subst (λ o. LeadsInto at now o r after) (sym none) into) in
           (led_course led.bound course after.0, rows_keep.leads at words births rows seat (Deliver number) base course r after scene.rosters takes.timely scene.followed row led)
 
+      stays_aside : group_of_mail mail.body ≡ Some name → IsAside r mail.body → r.running ≡ false → FollowsAfter at words births rows seat number base course
+      stays_aside group aside off =
+          let row = row_to mail.from mail.body refl refl group in
+          let after = (mailed mail.from mail.body (r, [])).0 in
+          let none : taken_mark name (mails rows) (Deliver number) ≡ None = ap (mark_in name) takes.sent ∙ aside_mark name mail.from r mail.body aside in
+          let still = asides_still.mailed mail.from mail.body r off aside name in
+          rows_keep.idle at words births rows seat (Deliver number) base course scene.rosters takes.timely scene.followed (leads_stay.quiet at births rows seat (Deliver number) base course after.0 row.is still.off (idle_apart r row.was off))
+          (still_idle births rows seat (Deliver number) base course r after row none still.next_is still.promise_is still.silent)
+
     -- ---- a replica that is made of a state
 
     makes : (slot : ℕ) (state : Base) (sets : List (List ℕ)) → replica_of name node.replicas ≡ None → mail.body ≡ Install name slot state sets → MayMake slot sets → first_ballot state.core ≡ first_ballot base.core → is_member state.core.members mail.from ≡ true
@@ -297,6 +307,15 @@ module _ (at : Sets) (words : ℕ → ℕ → ℕ × ℕ) (births : List (Seat P
       let led = steps_lead at births rows seat (Told line) base course r after row (found_name name node.replicas r has.here) has.mine into in
       (led_course led.bound course after.0, rows_keep.leads at words births rows seat (Told line) base course r after scene.rosters timely scene.followed row led)
 
+  stays_ordered : (line : OrderLine) (r : ReplicaState) → AreInTime (players words births) (with_event rows seat (Told line)) → HasReplica seat node base r → group_of_order line.order ≡ name → r.running ≡ false → IsFollowedAt at words births (with_event rows seat (Told line)) base course
+  stays_ordered line r timely has group off =
+      let after : Place = ordered_row node.draws line (r, []) in
+      let here : replica_of (group_of_order line.order) node.replicas ≡ Some r = ap (λ n. replica_of n node.replicas) group ∙ has.here in
+      let row : IsReplicasRow births rows seat (Told line) name (Some r) after = subst (λ n. IsReplicasRow births rows seat (Told line) n (Some r) after) group (rows_replicas.ordered births rows seat line node r scene.seated scene.is here) in
+      let still = asides_still.ordered node.draws line r off name in
+      rows_keep.idle at words births rows seat (Told line) base course scene.rosters timely scene.followed (leads_stay.quiet at births rows seat (Told line) base course after.0 row.is still.off (idle_apart r row.was off))
+      (still_idle births rows seat (Told line) base course r after row refl still.next_is still.promise_is still.silent)
+
 pub nodes_keep : NodesKeepFollowing
 nodes_keep = record {
   accept = λ at words births rows seat number mail node base course r ballot slot command scene takes has from body low. accepts at words births rows seat node base course scene number mail takes r has ballot slot command from body low;
@@ -306,6 +325,8 @@ nodes_keep = record {
   made = λ at words births rows seat number mail node base course slot state sets scene takes none body may firsts member waits. makes at words births rows seat node base course scene number mail takes slot state sets none body may firsts member waits;
   vote = λ at words births rows seat number mail node base course r ballot slot scene takes has body off. passes_vote at words births rows seat node base course scene number mail takes r has ballot slot body off;
   promise = λ at words births rows seat number mail node base course r ballot reports scene takes has body off. passes_promise at words births rows seat node base course scene number mail takes r has ballot reports body off;
+  aside = λ at words births rows seat number mail node base course r scene takes has group aside off. stays_aside at words births rows seat node base course scene number mail takes r has group aside off;
+  order = λ at words births rows seat line node base course r scene timely has group off. stays_ordered at words births rows seat node base course scene line r timely has group off;
 }
 
 pub leads_keep : LeadsKeepFollowing

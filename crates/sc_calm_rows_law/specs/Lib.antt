@@ -1,3 +1,4 @@
+pub mod Asides
 pub mod Begun
 pub mod Groups
 pub mod Kept

@@ -77,6 +77,13 @@ pub record NodesKeepFollowing : Type 0 where
       → IsScene at words births rows seat node base course → TakesMail words births rows seat number mail → HasReplica seat node base r → mail.body ≡ Accepted base.core.id ballot slot → r.running ≡ false → FollowsAfter at words births rows seat number base course
   pub promise : (at : Sets) (words : ℕ → ℕ → ℕ × ℕ) (births : List (Seat Player)) (rows : Rows) (seat : Seat Player) (number : ℕ) (mail : Mail) (node : NodeState) (base : Base) (course : Course) (r : ReplicaState) (ballot : Ballot) (reports : List (Report Command))
       → IsScene at words births rows seat node base course → TakesMail words births rows seat number mail → HasReplica seat node base r → mail.body ≡ Promise base.core.id ballot reports → r.running ≡ false → FollowsAfter at words births rows seat number base course
+  -- .. and mail that is no part of the agreement, for one that does not lead, and an order
+  pub aside : (at : Sets) (words : ℕ → ℕ → ℕ × ℕ) (births : List (Seat Player)) (rows : Rows) (seat : Seat Player) (number : ℕ) (mail : Mail) (node : NodeState) (base : Base) (course : Course) (r : ReplicaState)
+      → IsScene at words births rows seat node base course → TakesMail words births rows seat number mail → HasReplica seat node base r → group_of_mail mail.body ≡ Some base.core.id → IsAside r mail.body → r.running ≡ false
+      → FollowsAfter at words births rows seat number base course
+  pub order : (at : Sets) (words : ℕ → ℕ → ℕ × ℕ) (births : List (Seat Player)) (rows : Rows) (seat : Seat Player) (line : OrderLine) (node : NodeState) (base : Base) (course : Course) (r : ReplicaState)
+      → IsScene at words births rows seat node base course → AreInTime (players words births) (with_event rows seat (Told line)) → HasReplica seat node base r → group_of_order line.order ≡ base.core.id → r.running ≡ false
+      → IsFollowedAt at words births (with_event rows seat (Told line)) base course
 
 -- the group follows its leader after an event, in some course
 abbrev pub FollowsOn : Sets → (ℕ → ℕ → ℕ × ℕ) → List (Seat Player) → Rows → Base → Type 0

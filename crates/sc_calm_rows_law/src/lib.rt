@@ -3,6 +3,7 @@
 //! and laws, no logic.
 #![tactic(auto)]
 
+ghost use Rattle.sc_calm_rows_law.specs.Asides.{AsidesStayStill};
 ghost use Rattle.sc_calm_rows_law.specs.Begun.{ChildrenBeginFollowing, ScenariosBeginFollowing};
 ghost use Rattle.sc_calm_rows_law.specs.Kept.{LeadsStay, RowsKeepFollowing};
 ghost use Rattle.sc_calm_rows_law.specs.Mailed.{LeadsKeepFollowing, NodesKeepFollowing};
@@ -97,9 +98,15 @@ pub fn rows_keep_following()
     ensures { RowsKeepFollowing }
 {}
 
+/// A replica that does not run stays where it is by mail that is no part of the agreement, and by an
+/// order, and sends nothing of its group.
+pub fn asides_stay_still()
+    ensures { AsidesStayStill }
+{}
+
 /// A mail of agreement that comes to a node of its group leaves the group following its leader: one
 /// that asks to accept or to promise, an entry by which the node does not elect itself, a state, and
-/// a vote or a promise for one that does not lead.
+/// whatever else comes to one that does not lead.
 pub fn nodes_keep_following()
     ensures { NodesKeepFollowing }
 {}
