@@ -40,10 +40,10 @@ use Rattle.sc_calm_rows_law.specs.Groups.{replica_in, view_at, next_in, promise_
 
 -- ---- the first member at its birth
 
-none_some : {X : Type 0} {x : X} → None ≡ Some x → ⊥
+pub none_some : {X : Type 0} {x : X} → None ≡ Some x → ⊥
 none_some e = cc
 
-none_flies : (r : ReplicaState) → r.leader.flights ≡ [] → (slot : ℕ) → voters_of r slot ≡ None
+pub none_flies : (r : ReplicaState) → r.leader.flights ≡ [] → (slot : ℕ) → voters_of r slot ≡ None
 none_flies r e slot =
     cond_both (not r.running || (nat_lt slot (next r) || is_some (at_slot r.ready slot))) None (option_map (λ (flight : Flight Command). kept_voters flight.voters) (flight_at slot r.leader.flights)) (λ o. o ≡ None)
     (λ _. refl) (λ _. ap (λ (fs : List (Flight Command)). option_map (λ (flight : Flight Command). kept_voters flight.voters) (flight_at slot fs)) e)

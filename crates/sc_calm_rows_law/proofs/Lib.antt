@@ -1,9 +1,11 @@
 pub mod Asides
 pub mod Beginning
+pub mod Electing
 pub mod Executing
 pub mod Hearing
 pub mod Keeping
 pub mod Leading
+pub mod Learning
 pub mod Mailing
 pub mod Marking
 pub mod Scenes

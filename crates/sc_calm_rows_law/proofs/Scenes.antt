@@ -100,7 +100,7 @@ module _ (at : Sets) (words : ℕ → ℕ → ℕ × ℕ) (births : List (Seat P
         let running : r.running ≡ true = subst (IsLedBy base course) was (subst (λ n. IsLedBy base course (view_at births rows name n)) (sym mine) (scene.followed.given.runs runs)) in
         true≢false (sym running ∙ off)
 
-    apart_off : (course.runs ≡ true → seat.who ≡ course.ballot.node → ⊥) → r.running ≡ false
+    pub apart_off : (course.runs ≡ true → seat.who ≡ course.ballot.node → ⊥) → r.running ≡ false
     apart_off none = elim (cases_Bool r.running) [ inl t ↦ (let l = leads_here t in absurd (none l.0.runs l.1)) | inr f ↦ f ]
 
     -- one that is to lead next has not executed all
@@ -119,7 +119,7 @@ module _ (at : Sets) (words : ℕ → ℕ → ℕ × ℕ) (births : List (Seat P
     row_in = rows_are words births rows (row_of player_table seat rows (Deliver number)) base course course takes.timely
 
     module _ (mark : Mark) (is : mark_of base.core.id mail.from mail.body ≡ Some mark) where
-      taken : taken_mark name (mails rows) (Deliver number) ≡ Some mark
+      pub taken : taken_mark name (mails rows) (Deliver number) ≡ Some mark
       taken = ap (mark_in name) takes.sent ∙ is
 
       head : marks_at (players words births) rows name seat.who ≡ mark ∷ row_in.left
@@ -147,11 +147,11 @@ module _ (at : Sets) (words : ℕ → ℕ → ℕ × ℕ) (births : List (Seat P
           omega (arith, all, here, low, up))
 
     module _ (r : ReplicaState) (has : HasReplica seat node base r) where
-      named : name_of r ≡ name
+      pub named : name_of r ≡ name
       named = found_name name node.replicas r has.here
 
       -- the row, by a mail that is the same
-      row_to : (from : ℕ) (body : MailBody) → mail.from ≡ from → mail.body ≡ body → group_of_mail mail.body ≡ Some name → IsReplicasRow births rows seat (Deliver number) name (Some r) (mailed from body (r, [])).0
+      pub row_to : (from : ℕ) (body : MailBody) → mail.from ≡ from → mail.body ≡ body → group_of_mail mail.body ≡ Some name → IsReplicasRow births rows seat (Deliver number) name (Some r) (mailed from body (r, [])).0
       row_to from body f is group =
           subst (λ n. IsReplicasRow births rows seat (Deliver number) name (Some r) (mailed n body (r, [])).0) f
           (subst (λ b. IsReplicasRow births rows seat (Deliver number) name (Some r) (mailed mail.from b (r, [])).0) is
@@ -159,7 +159,7 @@ module _ (at : Sets) (words : ℕ → ℕ → ℕ × ℕ) (births : List (Seat P
 
       module _ (mark : Mark) (is : mark_of base.core.id mail.from mail.body ≡ Some mark) (after : Place) (row : IsReplicasRow births rows seat (Deliver number) base.core.id (Some r) after) where
         -- it comes in time
-        fit : IsFit (next r) r.acceptor.promised mark
+        pub fit : IsFit (next r) r.acceptor.promised mark
         fit = subst (λ n. IsFit n r.acceptor.promised mark) (ap (next_in base seat.who) row.was) (subst (λ b. IsFit (now.next seat.who) b mark) (ap (promise_in base) row.was) (all_fit mark is).0)
 
         -- a mail that leaves the next slot

@@ -1,5 +1,6 @@
 pub mod Asides
 pub mod Begun
+pub mod Elections
 pub mod Groups
 pub mod Kept
 pub mod Mailed

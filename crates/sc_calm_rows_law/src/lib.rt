@@ -5,6 +5,7 @@
 
 ghost use Rattle.sc_calm_rows_law.specs.Asides.{AsidesStayStill};
 ghost use Rattle.sc_calm_rows_law.specs.Begun.{ChildrenBeginFollowing, ScenariosBeginFollowing};
+ghost use Rattle.sc_calm_rows_law.specs.Elections.{ElectionsKeepFollowing, ToldEntriesAreTaken};
 ghost use Rattle.sc_calm_rows_law.specs.Kept.{LeadsStay, RowsKeepFollowing};
 ghost use Rattle.sc_calm_rows_law.specs.Mailed.{LeadsKeepFollowing, NodesKeepFollowing};
 ghost use Rattle.sc_calm_rows_law.specs.Steps.{StatesTake, StepsElect, StepsLead, StepsTake, StillIdle, UncountedPass};
@@ -114,4 +115,15 @@ pub fn nodes_keep_following()
 /// So does what its leader takes: a vote, a promise, other mail that comes to it, and an order.
 pub fn leads_keep_following()
     ensures { LeadsKeepFollowing }
+{}
+
+/// A replica with nothing ready that is told the next entry has the state after it.
+pub fn told_entries_are_taken()
+    ensures { ToldEntriesAreTaken }
+{}
+
+/// Where none leads, the one that is to lead next elects itself by the last entry that it is told,
+/// leads in the course after it, and the group follows it.
+pub fn elections_keep_following()
+    ensures { ElectionsKeepFollowing }
 {}
