@@ -67,10 +67,11 @@ module _ (name : Draw) where
 
   calls_keep : (place : Place) → Keeps place → FoundKeeps (from_calls place)
   unfolding from_calls
-  calls_keep (r, mails) k =
-      (k.0,
-      next_found r.me (is_idle r) r.group.core (λ calls ms. AreQuiet name ms) (λ found. AreQuiet name found.2) (λ calls ms q. q) (λ command calls ms q. q)
-      (λ command answer calls ms w e q. one_answered name r.me r.group.core.id answer command ms q) r.calls mails k.1)
+  calls_keep (r, mails) k = (
+    k.0,
+    next_found r.me (is_idle r) r.group.core (λ calls ms. AreQuiet name ms) (λ found. AreQuiet name found.2) (λ calls ms q. q) (λ command calls ms q. q)
+        (λ command answer calls ms w e q. one_answered name r.me r.group.core.id answer command ms q) r.calls mails k.1,
+  )
 
   acts_keep : (acts : List Command) (place : Place) → Keeps place → FoundKeeps (from_acts acts place)
   acts_keep [] place k = calls_keep place k

@@ -162,8 +162,7 @@ module _ (at : Sets) (births : List (Seat Player)) (rows : Rows) (seat : Seat Pl
     own = λ r e runs.
         (let own : born_replica slots_ahead seat.who base ≡ r = same_some (view_at births then_ name seat.who) (born_replica slots_ahead seat.who base) r is e in
         let who : base.core.first ≡ seat.who = eqb-true base.core.first seat.who (ap (λ (x : ReplicaState). x.running) own ∙ runs) in
-        let begins : course ≡ begun_course base = begun_ (sym who) in
-        (
+        let begins : course ≡ begun_course base = begun_ (sym who) in (
           subst (IsLeadOf at after_) (ap (λ n. born_replica slots_ahead n base) who ∙ own)
               (born_leads at base after_ same roster first stands begins (subst (λ n. after_.next n ≡ 1) (sym who) (ap (next_in base seat.who) is)) (subst (λ n. after_.promise n ≡ first_ballot base.core) (sym who) (ap (promise_in base) is))),
           sym who ∙ sym (ap (λ (c : Course). c.ballot.node) begins),
@@ -178,8 +177,7 @@ module _ (at : Sets) (births : List (Seat Player)) (rows : Rows) (seat : Seat Pl
         let new : ReplicaState = record r { acceptor = like.acceptor; hint = like.hint; top = like.top } in
         let is : other ≡ new = sym same ∙ like.is in
         let here : view_at births then_ name seat.who ≡ Some new = row.is ∙ ap Some like.is in
-        let old = was.given.gives seat.who r row.was (sym (ap (λ (x : ReplicaState). x.running) is) ∙ runs) in
-        (
+        let old = was.given.gives seat.who r row.was (sym (ap (λ (x : ReplicaState). x.running) is) ∙ runs) in (
           subst (IsLeadOf at after_) (sym is)
               (like_leads at now after_ r like.acceptor like.hint like.top refl (subst (λ n. after_.next n ≡ next r) (sym me) (ap (next_in base seat.who) here)) (subst (λ n. after_.promise n ≡ like.acceptor.promised) (sym me) (ap (promise_in base) here)) old.0),
           old.1,
