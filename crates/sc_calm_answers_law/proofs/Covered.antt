@@ -1,11 +1,10 @@
 -- What all owe at their births, and what one order raises, is within the budget of a calm scenario.
-use Rattle.std.proofs.Common.{◌≡◌, ℕ, zero, suc, ◌+◌, ◌*◌, ◌≤◌, ltb, cond, List, [], ◌∷◌, ◌++◌, length, map, refl, sym, ◌∙◌, ap, arith}
+use Rattle.std.proofs.Common.{◌≡◌, ℕ, zero, suc, ◌+◌, ◌*◌, ◌≤◌, ltb, cond, List, [], ◌∷◌, length, map, refl, sym, ◌∙◌, ap, arith}
 use Rattle.std.specs.List.{sum_by}
 use Rattle.std.proofs.lemmas.Bool.{cond_both}
 use Rattle.std.proofs.lemmas.List.Sums.{sum_by-cons, sum_by-append}
 use Rattle.std.proofs.Math.Nat.{mul_comm, mul_left_comm, mul-add, mul-le-mul_left}
 use Rattle.sc_cmd.specs.declared.cores.Base.{Base}
-use Rattle.sc_cmd.specs.declared.links.Route.{Route}
 use Rattle.sc_actor.specs.declared.actors.Seat.{Seat}
 use Rattle.sc_node_table.specs.Slots.{numbers_from}
 use Rattle.sc_scenario.specs.declared.scenarios.Asks.{Asks}

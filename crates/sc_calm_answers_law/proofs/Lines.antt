@@ -1,35 +1,39 @@
 -- The lines of a calm scenario at its budget end quiet: by what is owed where there is an order, and else as those of a plain one.
-use Rattle.std.proofs.Common.{◌≡◌, ℕ, zero, suc, ◌+◌, ◌*◌, ◌≤◌, true, false, Bool, cond, List, [], ◌∷◌, length, map, inl, inr, refl, sym, ◌∙◌, ap, subst, arith}
+use Rattle.std.proofs.Common.{◌≡◌, ℕ, ◌+◌, ◌*◌, ◌≤◌, true, Bool, cond, List, [], ◌∷◌, length, map, inl, inr, refl, sym, ◌∙◌, ap, subst, arith}
 use Rattle.std.specs.List.{count_by}
 use Rattle.std.proofs.lemmas.Bool.{cases_lt}
+use Rattle.std.proofs.lemmas.List.Sums.{sum_by-cons}
 use Rattle.std.proofs.Math.Nat.{mul-le-mul_left}
 use Rattle.sc_base.specs.Among.{Each}
 use Rattle.sc_actor.specs.declared.schedules.Line.{Line}
 use Rattle.sc_actor.specs.declared.schedules.Line.TheVariants as line
-use Rattle.sc_actor.specs.Walk.{unsettled}
 use Rattle.sc_cmd.specs.declared.orders.OrderLine.{OrderLine}
 use Rattle.sc_orderly_law.specs.Owing.{HasRoom}
-use Rattle.sc_orderly_law.specs.Timely.{orders_given}
-use Rattle.sc_scenario.specs.Valid.{IsBounded, ValidScenariosAreBounded}
+use Rattle.sc_orderly_law.specs.Timely.{gives_order as order_line, orders_given}
+use Rattle.sc_scenario.specs.Valid.{ValidScenariosAreBounded}
 use Rattle.sc_scenario.specs.declared.scenarios.Scenario.{Scenario}
 use Rattle.sc_scenario.specs.declared.scenarios.SchedLine.{SchedLine}
 use Rattle.sc_scenario.specs.declared.scenarios.SchedLine.TheVariants.{Go, Deliver, Drop, Again, Tick, Crash, Told, Settle, Free, Storm}
 use Rattle.sc_sound.specs.Players.{births, line_of, schedule, as_nodes}
 use Rattle.sc_whole_law.proofs.Seats.{all_apart}
-use Rattle.sc_calm_law.specs.Charts.{Chart, players}
+use Rattle.sc_calm_law.specs.Charts.{players}
 use Rattle.sc_calm_law.specs.Keeping.{KeepCalm}
 use Rattle.sc_calm_law.specs.Resting.{births_owe, RestCalm, KeptCalmEndsQuiet}
-use Rattle.sc_calm_law.specs.Totals.{Rows}
-use Rattle.sc_budget_law.specs.Budget.{requests_of, budget_of, AllowsDeliveries, IsAtBudget}
-use Rattle.sc_budget_law.specs.Calm.{gives_order, orders_of, calm_budget_of, AllowsCalmly, IsCalmAtBudget, CalmLinesAreSpaced}
+use Rattle.sc_budget_law.specs.Budget.{requests_of, budget_of, AllowsDeliveries}
+use Rattle.sc_budget_law.specs.Calm.{gives_order, orders_of, calm_budget_of, AllowsCalmly, CalmLinesAreSpaced}
 use Rattle.sc_budget_law.specs.Laws.{PlainLinesEndQuiet}
-use Rattle.sc_calm_answers_law.specs.Lines.{AreCharted, CalmLinesEndQuiet}
+use Rattle.sc_calm_answers_law.specs.Lines.{CalmLinesEndQuiet}
 use Rattle.sc_calm_answers_law.proofs.Covered.{births_covered}
+
+-- one more that passes counts one more
+one_more : {X : Type 0} (p : X → Bool) (x : X) (xs : List X) → p x ≡ true → count_by p (x ∷ xs) ≡ 1 + count_by p xs
+one_more p x xs e = sum_by-cons (λ y. cond (p y) 1 0) x xs ∙ ap (λ b. cond b 1 0 + count_by p xs) e
 
 -- the walk counts the orders that a scenario gives
 orders_same : (lines : List SchedLine) → orders_given (map line_of lines) ≡ count_by gives_order lines
 orders_same [] = refl
-orders_same (Told node order ∷ lines) = ap suc (orders_same lines)
+orders_same (Told node order ∷ lines) =
+    one_more order_line (line.Told node order) (map line_of lines) refl ∙ ap (λ n. 1 + n) (orders_same lines) ∙ sym (one_more gives_order (Told node order) lines refl)
 orders_same (Go client ∷ lines) = orders_same lines
 orders_same (Deliver who k ∷ lines) = orders_same lines
 orders_same (Drop who k ∷ lines) = orders_same lines
@@ -59,7 +63,7 @@ plain_by less more le [] none calm = tt
 plain_by less more le (Go client ∷ lines) none calm = (tt, plain_by less more le lines none calm.1)
 plain_by less more le (Settle most ∷ lines) none calm = (let room = calm.0 in omega (arith, le, room), plain_by less more le lines none calm.1)
 plain_by less more le (Free most workers ∷ lines) none calm = (let room = calm.0 in omega (arith, le, room), plain_by less more le lines none calm.1)
-plain_by less more le (Told node order ∷ lines) none calm = absurd (omega (arith, none))
+plain_by less more le (Told node order ∷ lines) none calm = (let one = one_more gives_order (Told node order) lines refl in absurd (omega (arith, none, one)))
 plain_by less more le (Deliver who k ∷ lines) none calm = absurd calm.0
 plain_by less more le (Drop who k ∷ lines) none calm = absurd calm.0
 plain_by less more le (Again mail ∷ lines) none calm = absurd calm.0

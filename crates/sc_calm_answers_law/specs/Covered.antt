@@ -1,5 +1,5 @@
 -- The deliveries that suffice for a calm scenario cover what all owe at their births, and what one order raises.
-use Rattle.std.specs.Prelude.{◌≡◌, ℕ, ◌+◌, ◌*◌, ◌≤◌, length}
+use Rattle.std.specs.Prelude.{◌≡◌, ◌+◌, ◌*◌, ◌≤◌, length}
 use Rattle.sc_scenario.specs.declared.scenarios.Scenario.{Scenario}
 use Rattle.sc_sound.specs.Players.{births, as_nodes}
 use Rattle.sc_calm_law.specs.Charts.{Chart}

@@ -1,5 +1,5 @@
 -- That the lines of a calm scenario at its budget end quiet, where its journals keep what they need.
-use Rattle.std.specs.Prelude.{◌≡◌, ℕ, ◌×◌, false, List, []}
+use Rattle.std.specs.Prelude.{◌≡◌, ℕ, false, List, []}
 use Rattle.sc_cmd.specs.declared.orders.OrderLine.{OrderLine}
 use Rattle.sc_mail.specs.declared.bodies.Mail.{Mail}
 use Rattle.sc_actor.specs.declared.rows.Row.{Row}
