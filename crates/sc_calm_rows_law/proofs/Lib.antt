@@ -14,3 +14,5 @@ pub mod Staying
 pub mod Stepping
 pub mod Turning
 pub mod Viewing
+pub mod WellParts
+pub mod WellRows

@@ -6,3 +6,4 @@ pub mod Kept
 pub mod Mailed
 pub mod Steps
 pub mod Turns
+pub mod WellKept

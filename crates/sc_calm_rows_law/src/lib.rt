@@ -10,6 +10,7 @@ ghost use Rattle.sc_calm_rows_law.specs.Kept.{LeadsStay, RowsKeepFollowing};
 ghost use Rattle.sc_calm_rows_law.specs.Mailed.{LeadsKeepFollowing, NodesKeepFollowing};
 ghost use Rattle.sc_calm_rows_law.specs.Steps.{StatesTake, StepsElect, StepsLead, StepsTake, StillIdle, UncountedPass};
 ghost use Rattle.sc_calm_rows_law.specs.Turns.{NamesStay, OthersHearNothing, OthersRowsAreIdle, RowsAreOfGroups, RowsAreReplicas};
+ghost use Rattle.sc_calm_rows_law.specs.WellKept.{NodesAreBornWellKept, NodesStayWellKept};
 
 /// Each row that comes in time is a row of each group: what is delivered is the first of its
 /// receiver's mail, what is sent to each comes behind its mail, and the other nodes stay where they
@@ -126,4 +127,16 @@ pub fn told_entries_are_taken()
 /// leads in the course after it, and the group follows it.
 pub fn elections_keep_following()
     ensures { ElectionsKeepFollowing }
+{}
+
+/// In any journal each replica of a node is its node's, has the members of as many slots as are
+/// open, has forgotten nothing from its next slot on, and where it does not run has nothing in
+/// flight or ready.
+pub fn nodes_stay_well_kept()
+    ensures { NodesStayWellKept }
+{}
+
+/// So is each replica of a node that is born.
+pub fn nodes_are_born_well_kept()
+    ensures { NodesAreBornWellKept }
 {}
