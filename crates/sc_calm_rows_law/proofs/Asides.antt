@@ -1,5 +1,5 @@
 -- A replica that does not run stays where it is by mail that is no part of the agreement, and sends nothing of its group.
-use Rattle.std.proofs.Common.{◌≡◌, ℕ, suc, ◌&&◌, nat_le, Bool, true, false, cond, List, [], ◌∷◌, ◌++◌, Option, Some, None, refl, sym, ◌∙◌, ap, subst, arith}
+use Rattle.std.proofs.Common.{◌≡◌, ℕ, suc, ◌&&◌, nat_le, Bool, true, false, cond, List, [], ◌∷◌, ◌++◌, Option, Some, None, refl, sym, ap, subst, arith}
 use Rattle.sc_base.specs.Drawing.{Drawer, next_name}
 use Rattle.sc_base.specs.Limits.{client_actor}
 use Rattle.sc_base.specs.declared.names.Ballot.{Ballot}
@@ -37,7 +37,6 @@ use Rattle.sc_law_lemmas.proofs.Entries.{idle_pump}
 use Rattle.sc_law_lemmas.proofs.Ways.{either_way}
 use Rattle.sc_following_law.specs.Following.{mark_of}
 use Rattle.sc_following_law.specs.Leading.{IsAside}
-use Rattle.sc_following_law.specs.Tables.{marks_for}
 use Rattle.sc_calm_rows_law.specs.Asides.{IsStill, AsidesStayStill}
 use Rattle.sc_calm_rows_law.proofs.Hearing.{quiet_marks}
 use Rattle.sc_calm_rows_law.proofs.Silent.{AreQuiet, one_sent, vote_told, watch_told, outcome_said, next_one_asked}

@@ -1,16 +1,15 @@
 -- How the groups of a scenario begin, over its players.
-use Rattle.std.proofs.Common.{◌≡◌, ℕ, zero, suc, ◌+◌, ◌-◌, ◌<◌, ◌≤◌, ◌||◌, not, nat_lt, eqb, Bool, true, false, true≢false, cond, List, [], ◌∷◌, ◌++◌, length, map, find, replicate, Option, Some, None, inl, inr, refl, sym, ◌∙◌, ap, subst, arith}
+use Rattle.std.proofs.Common.{◌≡◌, ℕ, zero, suc, ◌+◌, ◌<◌, ◌≤◌, ◌||◌, not, nat_lt, eqb, Bool, true, false, true≢false, cond, List, [], ◌∷◌, ◌++◌, length, map, find, replicate, Option, Some, None, inl, inr, refl, sym, ◌∙◌, ap, subst, arith}
 use Rattle.std.specs.List.{filter}
 use Rattle.std.specs.Option.{option_map}
 use Rattle.std.specs.Prelude.{is_some}
-use Rattle.std.proofs.lemmas.Bool.{cases_Bool, cases_eq, cond_both, cond-true, cond-false, eq-eqb, ne_eqb, eqb-true, both_ways}
-use Rattle.sc_base.specs.Among.{Among, Each}
+use Rattle.std.proofs.lemmas.Bool.{cases_Bool, cases_eq, cond_both, cond-true, cond-false, eq-eqb, eqb-true, both_ways}
+use Rattle.sc_base.specs.Among.{Among}
 use Rattle.sc_base.specs.Same.{same_draw}
 use Rattle.sc_base.specs.declared.names.Draw.{Draw}
 use Rattle.sc_base.proofs.NameLemmas.{draw_is, same_name}
 use Rattle.sc_cmd.specs.declared.cores.Base.{Base}
 use Rattle.sc_member.specs.Roster.{IsRoster, is_member}
-use Rattle.sc_actor.specs.declared.actors.Seat.{Seat}
 use Rattle.sc_cmd.specs.declared.commands.Command.{Command}
 use Rattle.sc_paxos_words.specs.declared.flights.Flight.{Flight}
 use Rattle.sc_paxos_words.specs.Leaders.{flight_at}
@@ -24,7 +23,7 @@ use Rattle.sc_scenario.specs.Valid.{IsBounded, IsBoundedGroup, IsUpTo}
 use Rattle.sc_scenario.specs.declared.drafts.GroupLine.{GroupLine}
 use Rattle.sc_scenario.specs.declared.scenarios.Asks.{Asks}
 use Rattle.sc_scenario.specs.declared.scenarios.Scenario.{Scenario}
-use Rattle.sc_sound.specs.Players.{Player, node_seat, client_seat, client_seats, route_of, births, as_nodes}
+use Rattle.sc_sound.specs.Players.{node_seat, client_seat, client_seats, route_of, births, as_nodes}
 use Rattle.sc_calm_law.specs.Charts.{players}
 use Rattle.sc_following_law.specs.Counted.{IsLed}
 use Rattle.sc_following_law.specs.Following.{Mark, Sets, Course, Progress, IsFollowing}
@@ -35,7 +34,7 @@ use Rattle.sc_following_law.proofs.InQuiet.{begins}
 use Rattle.sc_following_law.proofs.Keeps.{idle-keeps}
 use Rattle.sc_following_law.proofs.Leads.{least_in}
 use Rattle.sc_following_law.proofs.Marks.{among-either}
-use Rattle.sc_calm_rows_law.specs.Begun.{BeginsFollowing, ScenariosBeginFollowing, ChildrenBeginFollowing}
+use Rattle.sc_calm_rows_law.specs.Begun.{ScenariosBeginFollowing, ChildrenBeginFollowing}
 use Rattle.sc_calm_rows_law.specs.Groups.{replica_in, view_at, next_in, promise_in, progress_at, marks_at, begun_course, IsLedBy, IsCourseOf}
 
 -- ---- the first member at its birth

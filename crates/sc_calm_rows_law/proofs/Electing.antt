@@ -1,24 +1,19 @@
 -- A node which elects itself leads its group, and the group follows it.
-use Rattle.std.proofs.Common.{◌≡◌, ℕ, suc, ◌+◌, ◌≤◌, true, false, List, [], length, Option, Some, None, refl, sym, ◌∙◌, ap, subst, arith}
+use Rattle.std.proofs.Common.{◌≡◌, ℕ, suc, ◌+◌, true, false, List, [], length, Some, refl, sym, ◌∙◌, ap, subst, arith}
 use Rattle.std.specs.Option.{option_map}
 use Rattle.sc_base.specs.declared.names.Draw.{Draw}
 use Rattle.sc_cmd.specs.declared.commands.Command.{Command}
-use Rattle.sc_cmd.specs.declared.cores.Base.{Base}
-use Rattle.sc_mail.specs.declared.bodies.Mail.{Mail}
 use Rattle.sc_mail.specs.declared.bodies.MailBody.TheVariants.{Learn}
 use Rattle.sc_member.specs.Roster.{IsRoster, is_member, least_of}
-use Rattle.sc_actor.specs.declared.actors.Seat.{Seat}
 use Rattle.sc_actor.specs.declared.rows.Event.TheVariants.{Deliver}
 use Rattle.sc_hist_law.proofs.Logs.{applied_same}
 use Rattle.sc_paxos_words.specs.declared.flights.Flight.{Flight}
 use Rattle.sc_paxos_words.specs.Leaders.{LeaderState, flight_at}
 use Rattle.sc_node_table.specs.Execute.{entered}
-use Rattle.sc_node_table.specs.Node.{NodeState, group_of_mail}
-use Rattle.sc_node_table.specs.Replica.{ReplicaState, Place, name_of, next, members, either, taken_at, forgotten}
+use Rattle.sc_node_table.specs.Node.{group_of_mail}
+use Rattle.sc_node_table.specs.Replica.{ReplicaState, Place, name_of, next, members, either, forgotten}
 use Rattle.sc_node_table.specs.Rows.{mailed}
 use Rattle.sc_node_table.specs.Slots.{at_slot}
-use Rattle.sc_sound.specs.Players.{Player}
-use Rattle.sc_calm_law.specs.Totals.{Rows}
 use Rattle.sc_machine_table.specs.Group.{Group}
 use Rattle.sc_following_law.specs.Counted.{IsLed}
 use Rattle.sc_following_law.specs.Following.{Tells, mark_of, Course, Progress, Sets, members_at}
@@ -30,7 +25,6 @@ use Rattle.sc_following_law.proofs.Leads.{least_in}
 use Rattle.sc_following_law.proofs.Nodes.{same_mark}
 use Rattle.sc_calm_rows_law.specs.Elections.{IsPast, IsNextLead, ElectionsKeepFollowing}
 use Rattle.sc_calm_rows_law.specs.Groups.{next_in, promise_in, progress_at}
-use Rattle.sc_calm_rows_law.specs.Mailed.{IsScene, TakesMail, HasReplica, FollowsAfter}
 use Rattle.sc_calm_rows_law.specs.Steps.{elected_course}
 use Rattle.sc_calm_rows_law.specs.Turns.{with_event}
 use Rattle.sc_calm_rows_law.proofs.Beginning.{none_some, none_flies}

@@ -1,9 +1,8 @@
 -- What leaves no mark: a replica's mail for another group, an answer where there is no replica, and all that a client sends.
-use Rattle.std.proofs.Common.{◌≡◌, ℕ, ◌+◌, ◌&&◌, nat_le, eqb, Bool, true, false, cond, List, [], ◌∷◌, ◌++◌, length, Option, Some, None, refl, sym, ◌∙◌, ap}
+use Rattle.std.proofs.Common.{◌≡◌, ℕ, ◌+◌, nat_le, eqb, cond, List, [], ◌∷◌, ◌++◌, length, Option, Some, None, refl, ◌∙◌, ap}
 use Rattle.std.specs.List.{filter}
 use Rattle.std.proofs.lemmas.Bool.{cond_both}
 use Rattle.sc_base.specs.Among.{Each}
-use Rattle.sc_base.specs.Same.{same_draw}
 use Rattle.sc_base.specs.declared.names.Draw.{Draw}
 use Rattle.sc_base.specs.declared.ops.Op.{Op}
 use Rattle.sc_cmd.specs.declared.orders.OrderLine.{OrderLine}
@@ -15,7 +14,7 @@ use Rattle.sc_mail.specs.declared.bodies.MailBody.TheVariants.{Request, Answer, 
 use Rattle.sc_actor.specs.declared.rows.Input.{Input}
 use Rattle.sc_actor.specs.declared.rows.Input.TheVariants.{Got, Tick, Go, Told}
 use Rattle.sc_client_table.specs.Client.{Client, waiting_request}
-use Rattle.sc_client_table.specs.Table.{ClientStep, request_of, asked_of, sent_to, sent_where, chosen_for, request_sent, started, turned_on, client_ticked, waits_for, was_asked, redirected, answer_taken, got, table}
+use Rattle.sc_client_table.specs.Table.{ClientStep, asked_of, sent_to, sent_where, chosen_for, request_sent, started, client_ticked, waits_for, was_asked, redirected, answer_taken, got, table}
 use Rattle.sc_lookup.specs.Known.{target_in, preferring, passed_on, told_not_mine, told_gone}
 use Rattle.sc_node_table.specs.Node.{absent}
 use Rattle.sc_node_table.specs.Ordering.{ordered_row}
@@ -26,7 +25,7 @@ use Rattle.sc_following_law.specs.Following.{Mark, mark_of, marks_of}
 use Rattle.sc_following_law.specs.Tables.{marks_for}
 use Rattle.sc_calm_law.proofs.OwedParties.{apart}
 use Rattle.sc_calm_rows_law.specs.Turns.{NamesStay, OthersHearNothing}
-use Rattle.sc_calm_rows_law.proofs.Silent.{IsQuietMail, AreQuiet}
+use Rattle.sc_calm_rows_law.proofs.Silent.{AreQuiet}
 use Rattle.sc_calm_rows_law.proofs.Mailing.{mailed_keeps, order_keeps, made_keeps}
 
 pub names_stay : NamesStay

@@ -1,32 +1,28 @@
 -- What keeps a group following its leader, row by row.
-use Rattle.std.proofs.Common.{◌≡◌, ℕ, ◌+◌, ◌<◌, ◌&&◌, eqb, nat_le, Bool, true, false, true≢false, cond, List, [], ◌∷◌, ◌++◌, Option, Some, None, inl, inr, refl, sym, ◌∙◌, ap, subst}
-use Rattle.std.proofs.lemmas.Bool.{cases_eq, cond-true, eqb-true, eq-eqb}
+use Rattle.std.proofs.Common.{◌≡◌, ℕ, true, true≢false, List, Option, Some, inl, inr, refl, sym, ◌∙◌, ap, subst}
+use Rattle.std.proofs.lemmas.Bool.{cases_eq}
 use Rattle.sc_base.specs.declared.names.Ballot.{Ballot}
 use Rattle.sc_base.specs.declared.names.Draw.{Draw}
-use Rattle.sc_cmd.specs.declared.commands.Command.{Command}
 use Rattle.sc_cmd.specs.declared.cores.Base.{Base}
 use Rattle.sc_cmd.specs.declared.orders.OrderLine.{OrderLine}
-use Rattle.sc_mail.specs.declared.bodies.Mail.{Mail}
-use Rattle.sc_mail.specs.declared.bodies.MailBody.TheVariants.{Prepare, Accept}
-use Rattle.sc_member.specs.Roster.{IsRoster, is_member}
+use Rattle.sc_member.specs.Roster.{IsRoster}
 use Rattle.sc_actor.specs.declared.actors.Seat.{Seat}
 use Rattle.sc_actor.specs.declared.rows.Event.{Event}
 use Rattle.sc_actor.specs.Mail.{mails}
 use Rattle.sc_actor.specs.System.{row_of}
 use Rattle.sc_orderly_law.specs.Timely.{AreInTime}
-use Rattle.sc_node_table.specs.Replica.{ReplicaState, Place, name_of, next, first_ballot, born_replica}
-use Rattle.sc_node_table.specs.Slots.{slots_ahead}
+use Rattle.sc_node_table.specs.Replica.{ReplicaState, Place, next}
 use Rattle.sc_sound.specs.Players.{Player, player_table}
 use Rattle.sc_calm_law.specs.Charts.{players}
 use Rattle.sc_calm_law.specs.Totals.{Rows}
-use Rattle.sc_following_law.specs.Following.{Mark, Course, Progress, Sets, IsFollowing}
+use Rattle.sc_following_law.specs.Following.{Course, Progress, Sets}
 use Rattle.sc_following_law.specs.Leading.{IsLeadOf}
-use Rattle.sc_following_law.specs.Rows.{IsRow, IsIdle, Takes, Leads, Elects}
+use Rattle.sc_following_law.specs.Rows.{IsRow, IsIdle, Takes, Elects}
 use Rattle.sc_following_law.specs.Tables.{marks_for}
 use Rattle.sc_following_law.proofs.Elects.{elects-keeps}
 use Rattle.sc_following_law.proofs.Keeps.{idle-keeps, takes-keeps}
 use Rattle.sc_following_law.proofs.Leads.{leads-keeps}
-use Rattle.sc_calm_rows_law.specs.Groups.{view_at, next_in, promise_in, progress_at, marks_at, taken_mark, begun_course, IsLedBy, IsCourseOf, IsFollowedAt}
+use Rattle.sc_calm_rows_law.specs.Groups.{view_at, next_in, promise_in, progress_at, marks_at, taken_mark, IsLedBy, IsCourseOf, IsFollowedAt}
 use Rattle.sc_calm_rows_law.specs.Kept.{LeavesLead, RowsKeepFollowing}
 use Rattle.sc_calm_rows_law.specs.Steps.{led_course, elected_course, LedBy}
 use Rattle.sc_calm_rows_law.specs.Turns.{with_event, IsKind, IsReplicasRow}

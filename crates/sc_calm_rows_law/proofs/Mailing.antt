@@ -1,6 +1,5 @@
 -- A replica keeps its group's name, and leaves no mark for another group, in each row of its table.
-use Rattle.std.proofs.Common.{◌≡◌, ℕ, zero, suc, ◌+◌, ◌-◌, ◌&&◌, ◌||◌, not, nat_le, nat_lt, eqb, refl, Bool, true, false, cond, List, [], ◌∷◌, ◌++◌, length, Option, Some, None}
-use Rattle.sc_base.specs.Among.{Each}
+use Rattle.std.proofs.Common.{◌≡◌, ℕ, zero, suc, ◌+◌, ◌&&◌, ◌||◌, not, nat_le, nat_lt, eqb, refl, true, false, cond, List, [], ◌∷◌, ◌++◌, length, Option, Some, None}
 use Rattle.sc_base.specs.Drawing.{Drawer, next_name}
 use Rattle.sc_base.specs.Limits.{client_actor}
 use Rattle.sc_base.specs.declared.names.Ballot.{Ballot}
@@ -42,14 +41,14 @@ use Rattle.sc_node_table.specs.Acts.{act_queued}
 use Rattle.sc_node_table.specs.Election.{stopped, saw}
 use Rattle.sc_node_table.specs.Execute.{executed, has_room}
 use Rattle.sc_node_table.specs.Install.{named, jumped}
-use Rattle.sc_node_table.specs.Mails.{sent, told_desk, answer_to}
+use Rattle.sc_node_table.specs.Mails.{sent}
 use Rattle.sc_node_table.specs.Ordering.{ordered_command, untaken, taken_or_told, ordered_row}
 use Rattle.sc_node_table.specs.Pump.{pumped}
 use Rattle.sc_node_table.specs.Queues.{call_of, without_call}
 use Rattle.sc_node_table.specs.Replica.{ReplicaState, Place, Executed, childless, name_of, next, members, settled, set_at, last_slot, forgotten, installed_replica}
 use Rattle.sc_node_table.specs.Rows.{refused_at, queued, requested, request_row, learn_row, taught, most_taught, ask_row, looked_up, took_over, install_row, made_by, mailed}
 use Rattle.sc_node_table.specs.Slots.{with_slot}
-use Rattle.sc_node_table.specs.Transactions.{voted_to, watched_to, told_outcome, asked_next, noted_outcome, standing_vote, sent_elsewhere, offered_by, offer_row, watched_by, watch_row, awaits_vote, awaits_watch, vote_queued, vote_met, vote_row, watch_queued, watch_met, watched_row, elsewhere_row, is_bound, outcome_row}
+use Rattle.sc_node_table.specs.Transactions.{asked_next, noted_outcome, standing_vote, sent_elsewhere, offered_by, offer_row, watched_by, watch_row, awaits_vote, awaits_watch, vote_queued, vote_met, vote_row, watch_queued, watch_met, watched_row, elsewhere_row, is_bound, outcome_row}
 use Rattle.sc_node_table.specs.Voting.{hinted, promise_to, prepare_row, accepted_to, took, accept_row, leads, promise_row, readied, vote_tallied, voted, accepted_row, nack_row}
 use Rattle.sc_law_lemmas.proofs.Places.{promised_place, asked_place}
 use Rattle.sc_law_lemmas.proofs.Ways.{either_way}

@@ -1,5 +1,5 @@
 -- Each row that comes in time takes the first mark of its receiver, if it takes any, and puts marks behind.
-use Rattle.std.proofs.Common.{◌≡◌, ℕ, eqb, ◌&&◌, true, false, cond, List, [], ◌∷◌, ◌++◌, drop, Option, Some, None, refl, sym, ◌∙◌, ap, subst, append_assoc}
+use Rattle.std.proofs.Common.{◌≡◌, ℕ, ◌&&◌, cond, List, [], ◌∷◌, ◌++◌, drop, refl, sym, ◌∙◌, ap, subst, append_assoc}
 use Rattle.std.proofs.lemmas.Bool.{ne_eqb, eq-eqb}
 use Rattle.sc_base.specs.declared.names.Draw.{Draw}
 use Rattle.sc_cmd.specs.declared.cores.Base.{Base}
@@ -12,17 +12,16 @@ use Rattle.sc_actor.specs.declared.rows.Row.{Row}
 use Rattle.sc_actor.specs.Mail.{mails, is_delivery}
 use Rattle.sc_actor.specs.System.{System, row_of}
 use Rattle.sc_orderly_law.specs.Orderly.{IsTidy, IsCalmRow, IsCalmEvent, rest, mail_for, taken}
-use Rattle.sc_orderly_law.specs.Timely.{AreInTime}
 use Rattle.sc_orderly_law.proofs.InTime.{in_time_before, in_time_tidy, last_in_time}
 use Rattle.sc_orderly_law.proofs.Resting.{takes_first, is_born-from, rest-calm}
 use Rattle.sc_node_table.specs.Replica.{listed}
 use Rattle.sc_sound.specs.Players.{Player, player_table}
 use Rattle.sc_calm_law.specs.Charts.{players}
 use Rattle.sc_calm_law.specs.Totals.{Rows}
-use Rattle.sc_following_law.specs.Following.{Mark, mark_of, marks_of, Course}
+use Rattle.sc_following_law.specs.Following.{mark_of, marks_of, Course}
 use Rattle.sc_following_law.specs.Rows.{IsRow}
 use Rattle.sc_following_law.specs.Tables.{marks_for}
-use Rattle.sc_calm_rows_law.specs.Groups.{view_at, next_in, promise_in, progress_at, marks_at, mark_in, taken_mark}
+use Rattle.sc_calm_rows_law.specs.Groups.{next_in, promise_in, progress_at, marks_at, mark_in, taken_mark}
 use Rattle.sc_calm_rows_law.specs.Turns.{IsSeat, RowsAreOfGroups}
 use Rattle.sc_calm_rows_law.proofs.Viewing.{view_others}
 

@@ -1,5 +1,5 @@
 -- What is sent leaves no mark for another group than its sender's: mail that stays so whatever is put behind it.
-use Rattle.std.proofs.Common.{◌≡◌, ℕ, nat_lt, eqb, Bool, false, cond, List, [], ◌∷◌, ◌++◌, Option, Some, None, refl, ◌∙◌, ap}
+use Rattle.std.proofs.Common.{◌≡◌, ℕ, eqb, Bool, false, cond, List, [], ◌∷◌, Option, Some, None, refl, ◌∙◌, ap}
 use Rattle.sc_base.specs.Among.{Each}
 use Rattle.sc_base.specs.Limits.{client_actor}
 use Rattle.sc_base.specs.Same.{same_draw}

@@ -1,36 +1,27 @@
 -- A row of a replica's table as one of its group's progress.
-use Rattle.std.proofs.Common.{◌≡◌, ℕ, zero, suc, ◌+◌, ◌-◌, ◌<◌, ◌≤◌, ◌&&◌, ◌||◌, eqb, leb, Bool, true, false, true≢false, cond, List, [], ◌∷◌, ◌++◌, length, Option, Some, None, inl, inr, refl, sym, ◌∙◌, ap, subst, arith}
-use Rattle.std.specs.List.{filter, list_any}
-use Rattle.std.proofs.lemmas.Bool.{cases_Bool, cases_lt, cond_both, cond-true, cond-false, eqb-true, eq-eqb, ne_eqb, and_parts, and_from, or_left, or_right, leb-true, both_ways}
+use Rattle.std.proofs.Common.{◌≡◌, ℕ, zero, suc, ◌+◌, ◌<◌, ◌≤◌, ◌||◌, eqb, leb, Bool, true, false, true≢false, cond, List, [], ◌∷◌, length, inl, inr, refl, sym, ◌∙◌, ap, subst, arith}
+use Rattle.std.specs.List.{filter}
+use Rattle.std.proofs.lemmas.Bool.{cases_Bool, cases_lt, cond_both, cond-true, cond-false, eqb-true, eq-eqb, and_parts, or_left, or_right, leb-true, both_ways}
 use Rattle.sc_base.specs.Limits.{most_nodes}
 use Rattle.sc_base.specs.declared.names.Ballot.{Ballot}
-use Rattle.sc_base.specs.declared.names.Draw.{Draw}
 use Rattle.sc_cmd.specs.declared.commands.Command.{Command}
-use Rattle.sc_cmd.specs.declared.orders.OrderLine.{OrderLine}
 use Rattle.sc_mail.specs.declared.bodies.MailBody.TheVariants.{Promise, Accepted}
-use Rattle.sc_member.specs.Roster.{is_member, least_of}
-use Rattle.sc_actor.specs.declared.actors.Seat.{Seat}
-use Rattle.sc_actor.specs.declared.rows.Event.{Event}
-use Rattle.sc_actor.specs.Mail.{mails}
+use Rattle.sc_member.specs.Roster.{is_member}
 use Rattle.sc_paxos_words.specs.declared.reports.Report.{Report}
 use Rattle.sc_paxos_words.specs.Leaders.{promise_counted}
 use Rattle.sc_node_table.specs.Election.{is_in_some, nodes_to, open_nodes}
-use Rattle.sc_node_table.specs.Node.{is_node}
 use Rattle.sc_node_table.specs.Pump.{pumped}
 use Rattle.sc_node_table.specs.Replica.{ReplicaState, Place, Executed, childless, name_of, next, set_at}
-use Rattle.sc_node_table.specs.Rows.{mailed, made_by}
-use Rattle.sc_node_table.specs.Slots.{slots_ahead, numbers_from}
+use Rattle.sc_node_table.specs.Rows.{mailed}
+use Rattle.sc_node_table.specs.Slots.{numbers_from}
 use Rattle.sc_node_table.specs.Voting.{leads, promise_row, voted, accepted_row}
-use Rattle.sc_sound.specs.Players.{Player}
-use Rattle.sc_calm_law.specs.Totals.{Rows}
-use Rattle.sc_following_law.specs.Following.{Mark, Votes, Tells, Installs, Prepares, Promises, next_by, promise_by, Course, Sets, members_at, IsOpen}
+use Rattle.sc_following_law.specs.Following.{Mark, Votes, Tells, Installs, Prepares, Promises, next_by, promise_by, Course, Sets, IsOpen}
 use Rattle.sc_following_law.specs.Rows.{answered}
 use Rattle.sc_following_law.specs.Offers.{AreAt}
-use Rattle.sc_following_law.specs.Tables.{marks_for, StepsBy, ElectsBy, next_ballot}
+use Rattle.sc_following_law.specs.Tables.{marks_for, StepsBy, next_ballot}
 use Rattle.sc_following_law.proofs.Nodes.{states}
 use Rattle.sc_calm_rows_law.specs.Groups.{next_in, promise_in}
 use Rattle.sc_calm_rows_law.specs.Steps.{StepsTake, StatesTake, UncountedPass, IsToLead, StepsElect, StillIdle}
-use Rattle.sc_calm_rows_law.specs.Turns.{IsReplicasRow}
 
 -- ---- a node that takes a mail
 

@@ -1,5 +1,5 @@
 -- What holds of each replica in any journal is kept by the parts of its rows.
-use Rattle.std.proofs.Common.{◌≡◌, ℕ, suc, ◌+◌, ◌-◌, ◌^◌, ◌<◌, ◌≤◌, ◌&&◌, max, nat_le, nat_lt, eqb, Bool, true, false, true≢false, cond, List, [], ◌∷◌, ◌++◌, length, Option, Some, None, refl, sym, ◌∙◌, ap, subst, arith}
+use Rattle.std.proofs.Common.{◌≡◌, ℕ, ◌+◌, ◌-◌, ◌^◌, ◌≤◌, ◌&&◌, nat_le, eqb, Bool, true, false, true≢false, cond, List, [], ◌∷◌, ◌++◌, length, Option, Some, None, refl, sym, ◌∙◌, ap, arith}
 use Rattle.std.specs.Prelude.{is_some}
 use Rattle.std.specs.List.{list_any}
 use Rattle.std.proofs.lemmas.Bool.{cond_both, and_parts}
@@ -169,8 +169,7 @@ module _ (me : ℕ) where
       let up = entered_next command r in
       let floor = entered_floor command r in
       let most = floor_most (next r) in
-      let low = k.2 in
-      (
+      let low = k.2 in (
         same.0 ∙ k.0,
         ap length same.1 ∙ turned_sets r.sets (applied r.group command).0.core.members k.1,
         omega (arith, up, floor, most, low),

@@ -1,9 +1,8 @@
 -- What a replica that does not run does by mail that is no part of the agreement, and by an order.
-use Rattle.std.specs.Prelude.{◌≡◌, ℕ, false, List, []}
+use Rattle.std.specs.Prelude.{◌≡◌, ℕ, false, []}
 use Rattle.sc_base.specs.Drawing.{Drawer}
 use Rattle.sc_base.specs.declared.names.Draw.{Draw}
 use Rattle.sc_cmd.specs.declared.orders.OrderLine.{OrderLine}
-use Rattle.sc_mail.specs.declared.bodies.Mail.{Mail}
 use Rattle.sc_mail.specs.declared.bodies.MailBody.{MailBody}
 use Rattle.sc_node_table.specs.Ordering.{ordered_row}
 use Rattle.sc_node_table.specs.Replica.{ReplicaState, Place, next}
