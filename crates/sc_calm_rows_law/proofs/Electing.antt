@@ -96,9 +96,9 @@ elections_keep at words births rows seat number mail node base course r slot com
     let after : Place = (mailed mail.from (Learn (name_of r) slot command) (r, [])).0 in
     let fits = fit at words births rows seat node base course scene number mail takes r has mark is after row in
     let off = apart_off at words births rows seat node base course scene r row.was (λ runs mine. true_false (sym runs ∙ lead.idle)) in
-    let steps : ElectsBy slot (entered command r).sets r after = tables_elect mail.from slot command r fits off lead.flights lead.low lead.may (entered_name command r) in
-    let past = told_entries mail.from slot command r fits.1 lead.low lead.ready in
-    let elects = steps_elect at births rows seat (Deliver number) base course slot (entered command r).sets r after row own has.mine (taken at words births rows seat node base course scene number mail takes mark is) steps
+    let steps : ElectsBy slot (entered command r).sets r after = tables_elect mail.from slot command r fits off (has.well.3 off).0 lead.low lead.may (entered_name command r) in
+    let past = told_entries mail.from slot command r fits.1 lead.low (has.well.3 off).1 in
+    let elects = steps_elect at births rows seat (Deliver number) base course slot (entered command r).sets r after row own has.well.0 (taken at words births rows seat node base course scene number mail takes mark is) steps
     (record {
       idle = lead.idle;
       stands = lead.stands;
@@ -110,7 +110,7 @@ elections_keep at words births rows seat number mail node base course r slot com
       nodes = lead.nodes;
     }) in
     let two = progress_at births (with_event rows seat (Deliver number)) base (elected_course course (next_ballot r)) in
-    let who : after.0.me ≡ seat.who = past.me_is ∙ has.mine in
+    let who : after.0.me ≡ seat.who = past.me_is ∙ has.well.0 in
     let leads = elected_leads at two course slot command r after.0 scene.rosters lead (scene.followed.follows.offered lead.idle) steps.runs steps.reaches (ap (λ (l : LeaderState Command). l.ballot) steps.leads) (ap (λ (l : LeaderState Command). l.is_first) steps.leads)
     (ap (λ (l : LeaderState Command). l.promisers) steps.leads) (ap (λ (l : LeaderState Command). l.flights) steps.leads) past refl
     (subst (λ n. two.next n ≡ next after.0) (sym who) (ap (next_in base seat.who) row.is)) (subst (λ n. two.promise n ≡ after.0.acceptor.promised) (sym who) (ap (promise_in base) row.is)) in

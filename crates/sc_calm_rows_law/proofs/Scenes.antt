@@ -1,5 +1,5 @@
 -- A node that takes mail of its group leaves the group following its leader.
-use Rattle.std.proofs.Common.{◌≡◌, ℕ, suc, ◌<◌, ◌≤◌, ◌&&◌, true, false, true≢false, List, [], ◌∷◌, ◌++◌, length, Some, None, inl, inr, refl, sym, ◌∙◌, ap, subst, arith}
+use Rattle.std.proofs.Common.{◌≡◌, ℕ, suc, ◌<◌, ◌≤◌, ◌&&◌, true, false, true≢false, List, [], ◌∷◌, ◌++◌, Some, None, inl, inr, refl, sym, ◌∙◌, ap, subst, arith}
 use Rattle.std.proofs.lemmas.Bool.{cases_Bool, and_right}
 use Rattle.sc_base.specs.Among.{Each}
 use Rattle.sc_base.specs.Same.{same_ballot}
@@ -166,33 +166,33 @@ module _ (at : Sets) (words : ℕ → ℕ → ℕ × ℕ) (births : List (Seat P
         keeps_place : StepsBy mark r after → next after.0 ≡ next r → ((course.runs ≡ true → seat.who ≡ course.ballot.node → IsCount mark → ⊥)) → LeavesLead at births rows seat (Deliver number) base course → FollowsAfter at words births rows seat number base course
         keeps_place steps same counts leaves =
             rows_keep.takes at words births rows seat (Deliver number) base course scene.rosters takes.timely scene.followed leaves
-            (steps_take at births rows seat (Deliver number) base course mark r after row named has.mine (taken mark is) steps counts
+            (steps_take at births rows seat (Deliver number) base course mark r after row named has.well.0 (taken mark is) steps counts
             (λ off stands least. (let low = waits_here r row.was off stands least in omega (arith, low, same))))
 
         -- .. that takes the node further, where it does not lead
         takes_further : (off : r.running ≡ false) → StepsBy mark r after → (IsCount mark → ⊥) → (course.runs ≡ true → seat.who ≡ course.ballot.node → ⊥) → WaitsStill at course seat.who (next after.0) → FollowsAfter at words births rows seat number base course
         takes_further off steps none apart waits =
             rows_keep.takes at words births rows seat (Deliver number) base course scene.rosters takes.timely scene.followed (leads_stay.quiet at births rows seat (Deliver number) base course after.0 row.is (steps.runs ∙ off) apart)
-            (steps_take at births rows seat (Deliver number) base course mark r after row named has.mine (taken mark is) steps (λ runs mine. none) waits)
+            (steps_take at births rows seat (Deliver number) base course mark r after row named has.well.0 (taken mark is) steps (λ runs mine. none) waits)
 
         -- what its leader does
         led_on : LeadsInto at now (Some mark) r after → FollowsOn at words births (with_event rows seat (Deliver number)) base
         led_on into =
-            let led = steps_lead at births rows seat (Deliver number) base course r after row named has.mine (subst (λ o. LeadsInto at now o r after) (sym (taken mark is)) into) in
+            let led = steps_lead at births rows seat (Deliver number) base course r after row named has.well.0 (subst (λ o. LeadsInto at now o r after) (sym (taken mark is)) into) in
             (led_course led.bound course after.0, rows_keep.leads at words births rows seat (Deliver number) base course r after scene.rosters takes.timely scene.followed row led)
 
       -- ---- each mail
 
-      accepts : (ballot : Ballot) (slot : ℕ) (command : Command) → mail.from ≡ ballot.node → mail.body ≡ Accept name ballot slot command → r.acceptor.floor < next r → FollowsAfter at words births rows seat number base course
-      accepts ballot slot command from body low =
+      accepts : (ballot : Ballot) (slot : ℕ) (command : Command) → mail.from ≡ ballot.node → mail.body ≡ Accept name ballot slot command → FollowsAfter at words births rows seat number base course
+      accepts ballot slot command from body =
           let mark = Asks ballot slot in
           let is : mark_of name mail.from mail.body ≡ Some mark = ap (mark_of name mail.from) body ∙ same_mark name mark in
           let row = row_to ballot.node (Accept (name_of r) ballot slot command) from (body ∙ ap (λ n. Accept n ballot slot command) (sym named)) (ap group_of_mail body) in
           let after = (mailed ballot.node (Accept (name_of r) ballot slot command) (r, [])).0 in
           let fits = fit mark is after row in
           let goes = goes_on r row.was ballot (ap (below course.ballot) (fits.2 ∙ sym (ap (promise_in base) row.was)) ∙ scene.followed.follows.promised seat.who) in
-          let steps = tables.accept ballot slot command r fits goes low in
-          keeps_place mark is after row steps steps.reaches (λ runs mine count. count) (leads_stay.accepts at words births rows seat (Deliver number) base course ballot.node slot ballot command r scene.followed has.mine goes row)
+          let steps = tables.accept ballot slot command r fits goes has.well.2 in
+          keeps_place mark is after row steps steps.reaches (λ runs mine count. count) (leads_stay.accepts at words births rows seat (Deliver number) base course ballot.node slot ballot command r scene.followed has.well.0 goes row)
 
       prepares : (ballot : Ballot) (from_slot : ℕ) → mail.from ≡ ballot.node → mail.body ≡ Prepare name ballot from_slot → r.acceptor.floor < from_slot → FollowsAfter at words births rows seat number base course
       prepares ballot from_slot from body low =
@@ -202,10 +202,10 @@ module _ (at : Sets) (words : ℕ → ℕ → ℕ × ℕ) (births : List (Seat P
           let after = (mailed ballot.node (Prepare (name_of r) ballot from_slot) (r, [])).0 in
           let goes = goes_on r row.was ballot (known mark is) in
           let steps = tables.prepare ballot from_slot r (fit mark is after row) goes low in
-          keeps_place mark is after row steps steps.reaches (λ runs mine count. count) (leads_stay.promises at words births rows seat (Deliver number) base course ballot.node from_slot ballot r scene.followed has.mine goes row)
+          keeps_place mark is after row steps steps.reaches (λ runs mine count. count) (leads_stay.promises at words births rows seat (Deliver number) base course ballot.node from_slot ballot r scene.followed has.well.0 goes row)
 
-      learns : (slot : ℕ) (command : Command) → mail.body ≡ Learn name slot command → r.leader.flights ≡ [] → slot ≤ last_slot → Stays (entered command r) → WaitsStill at course seat.who (suc slot) → FollowsAfter at words births rows seat number base course
-      learns slot command body none low stays waits =
+      learns : (slot : ℕ) (command : Command) → mail.body ≡ Learn name slot command → slot ≤ last_slot → Stays (entered command r) → WaitsStill at course seat.who (suc slot) → FollowsAfter at words births rows seat number base course
+      learns slot command body low stays waits =
           let mark = Tells slot in
           let is : mark_of name mail.from mail.body ≡ Some mark = ap (mark_of name mail.from) body ∙ same_mark name mark in
           let row = row_to mail.from (Learn (name_of r) slot command) refl (body ∙ ap (λ n. Learn n slot command) (sym named)) (ap group_of_mail body) in
@@ -213,12 +213,12 @@ module _ (at : Sets) (words : ℕ → ℕ → ℕ × ℕ) (births : List (Seat P
           let at_next = (all_fit mark is).0.1 in
           let apart = no_lead mark is (omega (arith, at_next)) in
           let off = apart_off r row.was apart in
-          let steps = tables.learn mail.from slot command r (fit mark is after row) off none low stays in
+          let steps = tables.learn mail.from slot command r (fit mark is after row) off (has.well.3 off).0 low stays in
           takes_further mark is after row off steps (λ count. count) apart (λ idle stands least. (let w = waits idle stands least in let to = steps.reaches in omega (arith, w, to)))
 
-      installs : (slot : ℕ) (state : Base) (sets : List (List ℕ)) → mail.body ≡ Install name slot state sets → slot ≤ last_slot → length sets ≡ length r.sets → is_member state.core.members mail.from ≡ true → WaitsStill at course seat.who (suc slot)
+      installs : (slot : ℕ) (state : Base) (sets : List (List ℕ)) → mail.body ≡ Install name slot state sets → MayMake slot sets → is_member state.core.members mail.from ≡ true → WaitsStill at course seat.who (suc slot)
           → FollowsAfter at words births rows seat number base course
-      installs slot state sets body low many member waits =
+      installs slot state sets body may member waits =
           let mark = Installs slot in
           let is : mark_of name mail.from mail.body ≡ Some mark = ap (mark_of name mail.from) body ∙ same_mark name mark in
           let row = row_to mail.from (Install (name_of r) slot state sets) refl (body ∙ ap (λ n. Install n slot state sets) (sym named)) (ap group_of_mail body) in
@@ -226,7 +226,7 @@ module _ (at : Sets) (words : ℕ → ℕ → ℕ × ℕ) (births : List (Seat P
           let at_most = (all_fit mark is).0 in
           let apart = no_lead mark is (omega (arith, at_most)) in
           let off = apart_off r row.was apart in
-          let steps = tables.install mail.from slot state sets r (fit mark is after row) off low many member in
+          let steps = tables.install mail.from slot state sets r (fit mark is after row) off may.low (may.open_ ∙ sym has.well.1) member in
           takes_further mark is after row off steps (λ count. count) apart (λ idle stands least. (let w = waits idle stands least in let to = steps.reaches in omega (arith, w, to)))
 
       passes_vote : (ballot : Ballot) (slot : ℕ) → mail.body ≡ Accepted name ballot slot → r.running ≡ false → FollowsAfter at words births rows seat number base course
@@ -270,7 +270,7 @@ module _ (at : Sets) (words : ℕ → ℕ → ℕ × ℕ) (births : List (Seat P
           let after = (mailed mail.from mail.body (r, [])).0 in
           let none : taken_mark name (mails rows) (Deliver number) ≡ None = ap (mark_in name) takes.sent ∙ aside_mark name mail.from r mail.body aside in
           let into = rows_lead.asides at now mail.from mail.body r (leads_here r row.was runs).0 aside in
-          let led = steps_lead at births rows seat (Deliver number) base course r after row named has.mine (subst (λ o. LeadsInto at now o r after) (sym none) into) in
+          let led = steps_lead at births rows seat (Deliver number) base course r after row named has.well.0 (subst (λ o. LeadsInto at now o r after) (sym none) into) in
           (led_course led.bound course after.0, rows_keep.leads at words births rows seat (Deliver number) base course r after scene.rosters takes.timely scene.followed row led)
 
       stays_aside : group_of_mail mail.body ≡ Some name → IsAside r mail.body → r.running ≡ false → FollowsAfter at words births rows seat number base course
@@ -304,7 +304,7 @@ module _ (at : Sets) (words : ℕ → ℕ → ℕ × ℕ) (births : List (Seat P
       let here : replica_of (group_of_order line.order) node.replicas ≡ Some r = ap (λ n. replica_of n node.replicas) group ∙ has.here in
       let row : IsReplicasRow births rows seat (Told line) name (Some r) after = subst (λ n. IsReplicasRow births rows seat (Told line) n (Some r) after) group (rows_replicas.ordered births rows seat line node r scene.seated scene.is here) in
       let into : LeadsInto at now None r after = subst (λ p. LeadsInto at now None r p) (told_is node line r) (rows_lead.orders at now false node.draws line r (leads_here r row.was runs).0) in
-      let led = steps_lead at births rows seat (Told line) base course r after row (found_name name node.replicas r has.here) has.mine into in
+      let led = steps_lead at births rows seat (Told line) base course r after row (found_name name node.replicas r has.here) has.well.0 into in
       (led_course led.bound course after.0, rows_keep.leads at words births rows seat (Told line) base course r after scene.rosters timely scene.followed row led)
 
   stays_ordered : (line : OrderLine) (r : ReplicaState) → AreInTime (players words births) (with_event rows seat (Told line)) → HasReplica seat node base r → group_of_order line.order ≡ name → r.running ≡ false → IsFollowedAt at words births (with_event rows seat (Told line)) base course
@@ -318,10 +318,10 @@ module _ (at : Sets) (words : ℕ → ℕ → ℕ × ℕ) (births : List (Seat P
 
 pub nodes_keep : NodesKeepFollowing
 nodes_keep = record {
-  accept = λ at words births rows seat number mail node base course r ballot slot command scene takes has from body low. accepts at words births rows seat node base course scene number mail takes r has ballot slot command from body low;
+  accept = λ at words births rows seat number mail node base course r ballot slot command scene takes has from body. accepts at words births rows seat node base course scene number mail takes r has ballot slot command from body;
   prepare = λ at words births rows seat number mail node base course r ballot from_slot scene takes has from body low. prepares at words births rows seat node base course scene number mail takes r has ballot from_slot from body low;
-  learn = λ at words births rows seat number mail node base course r slot command scene takes has body none low stays waits. learns at words births rows seat node base course scene number mail takes r has slot command body none low stays waits;
-  install = λ at words births rows seat number mail node base course r slot state sets scene takes has body low many member waits. installs at words births rows seat node base course scene number mail takes r has slot state sets body low many member waits;
+  learn = λ at words births rows seat number mail node base course r slot command scene takes has body low stays waits. learns at words births rows seat node base course scene number mail takes r has slot command body low stays waits;
+  install = λ at words births rows seat number mail node base course r slot state sets scene takes has body may member waits. installs at words births rows seat node base course scene number mail takes r has slot state sets body may member waits;
   made = λ at words births rows seat number mail node base course slot state sets scene takes none body may firsts member waits. makes at words births rows seat node base course scene number mail takes slot state sets none body may firsts member waits;
   vote = λ at words births rows seat number mail node base course r ballot slot scene takes has body off. passes_vote at words births rows seat node base course scene number mail takes r has ballot slot body off;
   promise = λ at words births rows seat number mail node base course r ballot reports scene takes has body off. passes_promise at words births rows seat node base course scene number mail takes r has ballot reports body off;

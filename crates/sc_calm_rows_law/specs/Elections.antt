@@ -31,12 +31,10 @@ pub record IsPast (command : Command) (r after : ReplicaState) : Type 0 where
 abbrev pub ToldEntriesAreTaken : Type 0
 ToldEntriesAreTaken = (from slot : ℕ) (command : Command) (r : ReplicaState) → slot ≡ next r → slot ≤ last_slot → r.ready ≡ [] → IsPast command r (mailed from (Learn (name_of r) slot command) (r, [])).0.0
 
--- None leads a group that stands, and a replica with nothing in flight or ready is the one to lead it next: the entry at a slot is the last one, after it the members and the open slots are the group's, it may elect itself by it, and its ballot is a later one.
+-- None leads a group that stands, and a replica is the one to lead it next: the entry at a slot is the last one, after it the members and the open slots are the group's, it may elect itself by it, and its ballot is a later one.
 pub record IsNextLead (at : Sets) (course : Course) (slot : ℕ) (command : Command) (r : ReplicaState) : Type 0 where
   pub idle : course.runs ≡ false
   pub stands : course.gone ≡ false
-  pub flights : r.leader.flights ≡ []
-  pub ready : r.ready ≡ []
   pub low : slot ≤ last_slot
   pub last : suc slot ≡ course.newest
   pub may : MayElect (entered command r)

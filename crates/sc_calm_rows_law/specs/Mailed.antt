@@ -1,5 +1,5 @@
 -- That a node that takes mail of its group leaves the group following its leader.
-use Rattle.std.specs.Prelude.{◌≡◌, ℕ, suc, ◌<◌, ◌≤◌, true, false, List, [], length, Some, None}
+use Rattle.std.specs.Prelude.{◌≡◌, ℕ, suc, ◌<◌, ◌≤◌, true, false, List, [], Some, None}
 use Rattle.sc_base.specs.declared.names.Ballot.{Ballot}
 use Rattle.sc_cmd.specs.declared.commands.Command.{Command}
 use Rattle.sc_cmd.specs.declared.cores.Base.{Base}
@@ -16,7 +16,7 @@ use Rattle.sc_orderly_law.specs.Timely.{AreInTime}
 use Rattle.sc_paxos_words.specs.declared.reports.Report.{Report}
 use Rattle.sc_node_table.specs.Execute.{entered}
 use Rattle.sc_node_table.specs.Node.{NodeState, replica_of, group_of_mail, may_come, group_of_order}
-use Rattle.sc_node_table.specs.Replica.{ReplicaState, next, first_ballot, last_slot}
+use Rattle.sc_node_table.specs.Replica.{ReplicaState, first_ballot, last_slot}
 use Rattle.sc_node_table.specs.Rows.{mailed}
 use Rattle.sc_sound.specs.Players.{Player, player_table}
 use Rattle.sc_calm_law.specs.Charts.{players}
@@ -26,6 +26,7 @@ use Rattle.sc_following_law.specs.Leading.{StopsAlone, IsAside, DecidesNext}
 use Rattle.sc_following_law.specs.Tables.{Stays}
 use Rattle.sc_calm_rows_law.specs.Groups.{IsFollowedAt}
 use Rattle.sc_calm_rows_law.specs.Steps.{WaitsStill}
+use Rattle.sc_calm_rows_law.specs.WellKept.{IsWellKept}
 use Rattle.sc_calm_rows_law.specs.Turns.{IsSeat, with_event, MayMake}
 
 -- Some players after some rows, one of whom is a node with this value, and a group that follows its leader in this course.
@@ -41,10 +42,10 @@ pub record TakesMail (words : ℕ → ℕ → ℕ × ℕ) (births : List (Seat P
   pub sent : numbered (mails rows) number ≡ Some mail
   pub comes : may_come mail.from mail.body ≡ true
 
--- The node has this replica of the group.
+-- The node has this replica of the group, which is well kept.
 pub record HasReplica (seat : Seat Player) (node : NodeState) (base : Base) (r : ReplicaState) : Type 0 where
   pub here : replica_of base.core.id node.replicas ≡ Some r
-  pub mine : r.me ≡ seat.who
+  pub well : IsWellKept seat.who r
 
 -- the group follows its leader after the mail, in the same course
 abbrev pub FollowsAfter : Sets → (ℕ → ℕ → ℕ × ℕ) → List (Seat Player) → Rows → Seat Player → ℕ → Base → Course → Type 0
@@ -52,9 +53,9 @@ FollowsAfter at words births rows seat number base course = IsFollowedAt at word
 
 -- A mail of agreement of its group keeps it so ..
 pub record NodesKeepFollowing : Type 0 where
-  -- .. that asks to accept something: what the acceptor has forgotten is below the next slot
+  -- .. that asks to accept something
   pub accept : (at : Sets) (words : ℕ → ℕ → ℕ × ℕ) (births : List (Seat Player)) (rows : Rows) (seat : Seat Player) (number : ℕ) (mail : Mail) (node : NodeState) (base : Base) (course : Course) (r : ReplicaState) (ballot : Ballot) (slot : ℕ) (command : Command)
-      → IsScene at words births rows seat node base course → TakesMail words births rows seat number mail → HasReplica seat node base r → mail.from ≡ ballot.node → mail.body ≡ Accept base.core.id ballot slot command → r.acceptor.floor < next r
+      → IsScene at words births rows seat node base course → TakesMail words births rows seat number mail → HasReplica seat node base r → mail.from ≡ ballot.node → mail.body ≡ Accept base.core.id ballot slot command
       → FollowsAfter at words births rows seat number base course
   -- .. that asks to promise a ballot, from above what the acceptor has forgotten
   pub prepare : (at : Sets) (words : ℕ → ℕ → ℕ × ℕ) (births : List (Seat Player)) (rows : Rows) (seat : Seat Player) (number : ℕ) (mail : Mail) (node : NodeState) (base : Base) (course : Course) (r : ReplicaState) (ballot : Ballot) (from_slot : ℕ)
@@ -63,11 +64,11 @@ pub record NodesKeepFollowing : Type 0 where
   -- .. that tells an entry, by which the replica does not elect itself
   pub learn : (at : Sets) (words : ℕ → ℕ → ℕ × ℕ) (births : List (Seat Player)) (rows : Rows) (seat : Seat Player) (number : ℕ) (mail : Mail) (node : NodeState) (base : Base) (course : Course) (r : ReplicaState) (slot : ℕ) (command : Command)
       → IsScene at words births rows seat node base course → TakesMail words births rows seat number mail → HasReplica seat node base r → mail.body ≡ Learn base.core.id slot command
-      → r.leader.flights ≡ [] → slot ≤ last_slot → Stays (entered command r) → WaitsStill at course seat.who (suc slot) → FollowsAfter at words births rows seat number base course
+      → slot ≤ last_slot → Stays (entered command r) → WaitsStill at course seat.who (suc slot) → FollowsAfter at words births rows seat number base course
   -- .. that has a state, of a member
   pub install : (at : Sets) (words : ℕ → ℕ → ℕ × ℕ) (births : List (Seat Player)) (rows : Rows) (seat : Seat Player) (number : ℕ) (mail : Mail) (node : NodeState) (base : Base) (course : Course) (r : ReplicaState) (slot : ℕ) (state : Base) (sets : List (List ℕ))
       → IsScene at words births rows seat node base course → TakesMail words births rows seat number mail → HasReplica seat node base r → mail.body ≡ Install base.core.id slot state sets
-      → slot ≤ last_slot → length sets ≡ length r.sets → is_member state.core.members mail.from ≡ true → WaitsStill at course seat.who (suc slot) → FollowsAfter at words births rows seat number base course
+      → MayMake slot sets → is_member state.core.members mail.from ≡ true → WaitsStill at course seat.who (suc slot) → FollowsAfter at words births rows seat number base course
   -- .. of which the node makes a replica
   pub made : (at : Sets) (words : ℕ → ℕ → ℕ × ℕ) (births : List (Seat Player)) (rows : Rows) (seat : Seat Player) (number : ℕ) (mail : Mail) (node : NodeState) (base : Base) (course : Course) (slot : ℕ) (state : Base) (sets : List (List ℕ))
       → IsScene at words births rows seat node base course → TakesMail words births rows seat number mail → replica_of base.core.id node.replicas ≡ None → mail.body ≡ Install base.core.id slot state sets
