@@ -37,7 +37,7 @@ use Rattle.sc_law_lemmas.proofs.Entries.{idle_pump}
 use Rattle.sc_law_lemmas.proofs.Ways.{either_way}
 use Rattle.sc_following_law.specs.Following.{mark_of}
 use Rattle.sc_following_law.specs.Leading.{IsAside}
-use Rattle.sc_calm_rows_law.specs.Asides.{IsStill, AsidesStayStill}
+use Rattle.sc_calm_rows_law.specs.Asides.{IsUnmoved, AsidesStayStill}
 use Rattle.sc_calm_rows_law.proofs.Hearing.{quiet_marks}
 use Rattle.sc_calm_rows_law.proofs.Silent.{AreQuiet, one_sent, vote_told, watch_told, outcome_said, next_one_asked}
 
@@ -191,7 +191,7 @@ away name = record { node = suc name.node; count = name.count }
 away_is : (name : Draw) → away name ≡ name → ⊥
 away_is name e = (let n : suc name.node ≡ name.node = ap (λ (d : Draw). d.node) e in omega (arith, n))
 
-still : (r : ReplicaState) (after : Place) (name : Draw) → Keeps r (away name) after → IsStill name r after
+still : (r : ReplicaState) (after : Place) (name : Draw) → Keeps r (away name) after → IsUnmoved name r after
 still r after name k = record { next_is = k.next_is; promise_is = k.promise_is; off = k.off; silent = λ who. quiet_marks (away name) name who after.1 (away_is name) k.quiet }
 
 begins : (r : ReplicaState) (other : Draw) → r.running ≡ false → Keeps r other (r, [])

@@ -39,9 +39,9 @@ use Rattle.sc_following_law.proofs.Marks.{reached-least}
 use Rattle.sc_following_law.proofs.Nodes.{same_mark, states}
 use Rattle.sc_calm_rows_law.specs.Groups.{view_at, next_in, promise_in, progress_at, marks_at, mark_in, taken_mark, IsLedBy, IsFollowedAt}
 use Rattle.sc_calm_rows_law.specs.Kept.{LeavesLead}
-use Rattle.sc_calm_rows_law.specs.Mailed.{IsScene, TakesMail, HasReplica, FollowsAfter, FollowsOn, NodesKeepFollowing, LeadsKeepFollowing}
+use Rattle.sc_calm_rows_law.specs.Mailed.{IsScene, TakesMail, HoldsReplica, FollowsAfter, FollowsOn, NodesKeepFollowing, LeadsKeepFollowing}
 use Rattle.sc_calm_rows_law.specs.Steps.{WaitsStill, led_course}
-use Rattle.sc_calm_rows_law.specs.Turns.{with_event, IsReplicasRow, MayMake}
+use Rattle.sc_calm_rows_law.specs.Turns.{with_event, IsReplicasRow, IsWholeState}
 use Rattle.sc_calm_rows_law.proofs.Asides.{asides_still}
 use Rattle.sc_calm_rows_law.proofs.Keeping.{rows_keep}
 use Rattle.sc_calm_rows_law.proofs.Leading.{steps_lead}
@@ -146,7 +146,7 @@ module _ (at : Sets) (words : ℕ → ℕ → ℕ × ℕ) (births : List (Seat P
           let low = within in
           omega (arith, all, here, low, up))
 
-    module _ (r : ReplicaState) (has : HasReplica seat node base r) where
+    module _ (r : ReplicaState) (has : HoldsReplica seat node base r) where
       pub named : name_of r ≡ name
       named = found_name name node.replicas r has.here
 
@@ -216,7 +216,7 @@ module _ (at : Sets) (words : ℕ → ℕ → ℕ × ℕ) (births : List (Seat P
           let steps = tables.learn mail.from slot command r (fit mark is after row) off (has.well.3 off).0 low stays in
           takes_further mark is after row off steps (λ count. count) apart (λ idle stands least. (let w = waits idle stands least in let to = steps.reaches in omega (arith, w, to)))
 
-      installs : (slot : ℕ) (state : Base) (sets : List (List ℕ)) → mail.body ≡ Install name slot state sets → MayMake slot sets → is_member state.core.members mail.from ≡ true → WaitsStill at course seat.who (suc slot)
+      installs : (slot : ℕ) (state : Base) (sets : List (List ℕ)) → mail.body ≡ Install name slot state sets → IsWholeState slot sets → is_member state.core.members mail.from ≡ true → WaitsStill at course seat.who (suc slot)
           → FollowsAfter at words births rows seat number base course
       installs slot state sets body may member waits =
           let mark = Installs slot in
@@ -284,7 +284,7 @@ module _ (at : Sets) (words : ℕ → ℕ → ℕ × ℕ) (births : List (Seat P
 
     -- ---- a replica that is made of a state
 
-    makes : (slot : ℕ) (state : Base) (sets : List (List ℕ)) → replica_of name node.replicas ≡ None → mail.body ≡ Install name slot state sets → MayMake slot sets → first_ballot state.core ≡ first_ballot base.core → is_member state.core.members mail.from ≡ true
+    makes : (slot : ℕ) (state : Base) (sets : List (List ℕ)) → replica_of name node.replicas ≡ None → mail.body ≡ Install name slot state sets → IsWholeState slot sets → first_ballot state.core ≡ first_ballot base.core → is_member state.core.members mail.from ≡ true
         → WaitsStill at course seat.who (suc slot) → FollowsAfter at words births rows seat number base course
     makes slot state sets none body may firsts member waits =
         let mark = Installs slot in
@@ -298,7 +298,7 @@ module _ (at : Sets) (words : ℕ → ℕ → ℕ × ℕ) (births : List (Seat P
 
   -- ---- an order
 
-  ordered : (line : OrderLine) (r : ReplicaState) → AreInTime (players words births) (with_event rows seat (Told line)) → HasReplica seat node base r → group_of_order line.order ≡ name → r.running ≡ true → FollowsOn at words births (with_event rows seat (Told line)) base
+  ordered : (line : OrderLine) (r : ReplicaState) → AreInTime (players words births) (with_event rows seat (Told line)) → HoldsReplica seat node base r → group_of_order line.order ≡ name → r.running ≡ true → FollowsOn at words births (with_event rows seat (Told line)) base
   ordered line r timely has group runs =
       let after : Place = ordered_row node.draws line (r, []) in
       let here : replica_of (group_of_order line.order) node.replicas ≡ Some r = ap (λ n. replica_of n node.replicas) group ∙ has.here in
@@ -307,7 +307,7 @@ module _ (at : Sets) (words : ℕ → ℕ → ℕ × ℕ) (births : List (Seat P
       let led = steps_lead at births rows seat (Told line) base course r after row (found_name name node.replicas r has.here) has.well.0 into in
       (led_course led.bound course after.0, rows_keep.leads at words births rows seat (Told line) base course r after scene.rosters timely scene.followed row led)
 
-  stays_ordered : (line : OrderLine) (r : ReplicaState) → AreInTime (players words births) (with_event rows seat (Told line)) → HasReplica seat node base r → group_of_order line.order ≡ name → r.running ≡ false → IsFollowedAt at words births (with_event rows seat (Told line)) base course
+  stays_ordered : (line : OrderLine) (r : ReplicaState) → AreInTime (players words births) (with_event rows seat (Told line)) → HoldsReplica seat node base r → group_of_order line.order ≡ name → r.running ≡ false → IsFollowedAt at words births (with_event rows seat (Told line)) base course
   stays_ordered line r timely has group off =
       let after : Place = ordered_row node.draws line (r, []) in
       let here : replica_of (group_of_order line.order) node.replicas ≡ Some r = ap (λ n. replica_of n node.replicas) group ∙ has.here in

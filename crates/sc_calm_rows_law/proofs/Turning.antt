@@ -35,7 +35,7 @@ use Rattle.sc_calm_law.proofs.OwedParties.{apart, put_found, put_others, childre
 use Rattle.sc_following_law.specs.Following.{Mark, Asks, Votes, Tells, Installs, Prepares, Promises, mark_of, named_mark}
 use Rattle.sc_following_law.specs.Tables.{marks_for}
 use Rattle.sc_calm_rows_law.specs.Groups.{replicas_of, next_in, promise_in, mark_in, taken_mark}
-use Rattle.sc_calm_rows_law.specs.Turns.{IsSeat, IsIdleIn, children_by, AreAsBegun, OthersRowsAreIdle, IsReplicasRow, MayMake, RowsAreReplicas}
+use Rattle.sc_calm_rows_law.specs.Turns.{IsSeat, IsIdleIn, made_children, AreAsBegun, OthersRowsAreIdle, IsReplicasRow, IsWholeState, RowsAreReplicas}
 use Rattle.sc_calm_rows_law.proofs.Hearing.{names_stay, others_hear_nothing, none_marked}
 use Rattle.sc_calm_rows_law.proofs.Viewing.{view_was, view_is, sent_is, new_others, new_is, Same, same_both, all_born}
 
@@ -127,7 +127,7 @@ module _ (base : Base) (group : Draw) (ne : group ≡ base.core.id → ⊥) wher
     missed_other from (TxWatched tx coord part vote) e = ((refl, refl), λ to. refl)
     missed_other from (ToldMail order result) e = ((refl, refl), λ to. refl)
 
-    taken_other : (from : ℕ) (body : MailBody) (o : Option ReplicaState) → group_of_mail body ≡ Some group → replica_of group node.replicas ≡ o → node.me ≡ who → AreAsBegun base who (children_by o from body) → Other (taken_by o group from body node)
+    taken_other : (from : ℕ) (body : MailBody) (o : Option ReplicaState) → group_of_mail body ≡ Some group → replica_of group node.replicas ≡ o → node.me ≡ who → AreAsBegun base who (made_children o from body) → Other (taken_by o group from body node)
     taken_other from body None named e me fits = missed_other from body named
     taken_other from body (Some r) named e me fits =
         let after : Executed = mailed from body (r, []) in
@@ -138,7 +138,7 @@ module _ (base : Base) (group : Draw) (ne : group ≡ base.core.id → ⊥) wher
           λ to. others_hear_nothing.mailed name to from body r (λ n. ne (sym own ∙ n)),
         )
 
-    pub mail_other : (from : ℕ) (body : MailBody) → group_of_mail body ≡ Some group → node.me ≡ who → AreAsBegun base who (children_by (replica_of group node.replicas) from body) → Other (on_mail from body node)
+    pub mail_other : (from : ℕ) (body : MailBody) → group_of_mail body ≡ Some group → node.me ≡ who → AreAsBegun base who (made_children (replica_of group node.replicas) from body) → Other (on_mail from body node)
     mail_other from body named me fits =
         either_way Other (may_come from body) (routed (group_of_mail body) from body node) (node, [])
         (subst (λ (g : Option Draw). Other (routed g from body node)) (sym named) (taken_other from body (replica_of group node.replicas) named refl me fits)) ((refl, refl), λ to. refl)
@@ -230,7 +230,7 @@ taken_found group from body node r here =
 made_step : (group : Draw) (place : Place) (node : NodeState) → name_of place.0 ≡ group → replica_of group node.replicas ≡ None → (replica_of group (with_made place node).0.replicas ≡ Some place.0) × ((with_made place node).1 ≡ place.1)
 made_step group (r, mails) node own none = (new_is group r node.replicas own none, refl)
 
-made_is : (group : Draw) (from slot : ℕ) (base : Base) (sets : List (List ℕ)) (node : NodeState) → may_come from (Install group slot base sets) ≡ true → MayMake slot sets → replica_of group node.replicas ≡ None
+made_is : (group : Draw) (from slot : ℕ) (base : Base) (sets : List (List ℕ)) (node : NodeState) → may_come from (Install group slot base sets) ≡ true → IsWholeState slot sets → replica_of group node.replicas ≡ None
     → on_mail from (Install group slot base sets) node ≡ with_made (made_by node.me from group slot base sets) node
 made_is group from slot base sets node comes may none =
     cond-true (may_come from (Install group slot base sets)) (routed (Some group) from (Install group slot base sets) node) (node, []) comes
@@ -239,7 +239,7 @@ made_is group from slot base sets node comes may none =
     (or_from (not (eqb (length sets) slots_ahead)) (nat_lt last_slot slot) (not_from_true (eqb (length sets) slots_ahead) (eq-eqb (length sets) slots_ahead may.open_)) (le-ltb last_slot slot may.low)))
 
 made_row : (births : List (Seat Player)) (rows : Rows) (seat : Seat Player) (number : ℕ) (mail : Mail) (group : Draw) (slot : ℕ) (base : Base) (sets : List (List ℕ)) (node : NodeState) → IsSeat births seat → value player_table seat rows ≡ Node node
-    → numbered (mails rows) number ≡ Some mail → may_come mail.from mail.body ≡ true → mail.body ≡ Install group slot base sets → MayMake slot sets → replica_of group node.replicas ≡ None
+    → numbered (mails rows) number ≡ Some mail → may_come mail.from mail.body ≡ true → mail.body ≡ Install group slot base sets → IsWholeState slot sets → replica_of group node.replicas ≡ None
     → IsReplicasRow births rows seat (Deliver number) group None (made_by node.me mail.from group slot base sets)
 made_row births rows seat number mail group slot base sets node born is at comes body may none =
     let place : Place = made_by node.me mail.from group slot base sets in

@@ -11,7 +11,7 @@ use Rattle.sc_following_law.specs.Leading.{IsAside}
 use Rattle.sc_following_law.specs.Tables.{marks_for}
 
 -- it stays where it is, does not run, and sends nothing of the group
-pub record IsStill (name : Draw) (r : ReplicaState) (after : Place) : Type 0 where
+pub record IsUnmoved (name : Draw) (r : ReplicaState) (after : Place) : Type 0 where
   pub next_is : next after.0 ≡ next r
   pub promise_is : after.0.acceptor.promised ≡ r.acceptor.promised
   pub off : after.0.running ≡ false
@@ -19,5 +19,5 @@ pub record IsStill (name : Draw) (r : ReplicaState) (after : Place) : Type 0 whe
 
 -- .. whatever such mail it takes, and whatever it is told
 pub record AsidesStayStill : Type 0 where
-  pub mailed : (from : ℕ) (body : MailBody) (r : ReplicaState) → r.running ≡ false → IsAside r body → (name : Draw) → IsStill name r (mailed from body (r, [])).0
-  pub ordered : (drawer : Drawer) (line : OrderLine) (r : ReplicaState) → r.running ≡ false → (name : Draw) → IsStill name r (ordered_row drawer line (r, []))
+  pub mailed : (from : ℕ) (body : MailBody) (r : ReplicaState) → r.running ≡ false → IsAside r body → (name : Draw) → IsUnmoved name r (mailed from body (r, [])).0
+  pub ordered : (drawer : Drawer) (line : OrderLine) (r : ReplicaState) → r.running ≡ false → (name : Draw) → IsUnmoved name r (ordered_row drawer line (r, []))

@@ -17,7 +17,7 @@ use Rattle.sc_calm_law.specs.Totals.{Rows}
 use Rattle.sc_following_law.specs.Following.{Course, Sets, members_at}
 use Rattle.sc_following_law.specs.Offers.{AreAt}
 use Rattle.sc_following_law.specs.Tables.{MayElect, next_ballot}
-use Rattle.sc_calm_rows_law.specs.Mailed.{IsScene, TakesMail, HasReplica, FollowsAfter}
+use Rattle.sc_calm_rows_law.specs.Mailed.{IsScene, TakesMail, HoldsReplica, FollowsAfter}
 use Rattle.sc_calm_rows_law.specs.Steps.{elected_course}
 
 -- a replica has executed an entry, whoever leads: its state and the members of its open slots are those after the entry, and nothing is ready
@@ -48,5 +48,5 @@ pub record IsNextLead (at : Sets) (course : Course) (slot : ℕ) (command : Comm
 abbrev pub ElectionsKeepFollowing : Type 0
 ElectionsKeepFollowing =
     (at : Sets) (words : ℕ → ℕ → ℕ × ℕ) (births : List (Seat Player)) (rows : Rows) (seat : Seat Player) (number : ℕ) (mail : Mail) (node : NodeState) (base : Base) (course : Course) (r : ReplicaState) (slot : ℕ) (command : Command)
-    → IsScene at words births rows seat node base course → TakesMail words births rows seat number mail → HasReplica seat node base r → mail.body ≡ Learn base.core.id slot command → IsNextLead at course slot command r
+    → IsScene at words births rows seat node base course → TakesMail words births rows seat number mail → HoldsReplica seat node base r → mail.body ≡ Learn base.core.id slot command → IsNextLead at course slot command r
     → FollowsAfter at words births rows seat number base (elected_course course (next_ballot r))

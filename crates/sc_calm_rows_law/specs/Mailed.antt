@@ -27,7 +27,7 @@ use Rattle.sc_following_law.specs.Tables.{Stays}
 use Rattle.sc_calm_rows_law.specs.Groups.{IsFollowedAt}
 use Rattle.sc_calm_rows_law.specs.Steps.{WaitsStill}
 use Rattle.sc_calm_rows_law.specs.WellKept.{IsWellKept}
-use Rattle.sc_calm_rows_law.specs.Turns.{IsSeat, with_event, MayMake}
+use Rattle.sc_calm_rows_law.specs.Turns.{IsSeat, with_event, IsWholeState}
 
 -- Some players after some rows, one of whom is a node with this value, and a group that follows its leader in this course.
 pub record IsScene (at : Sets) (words : ℕ → ℕ → ℕ × ℕ) (births : List (Seat Player)) (rows : Rows) (seat : Seat Player) (node : NodeState) (base : Base) (course : Course) : Type 0 where
@@ -43,7 +43,7 @@ pub record TakesMail (words : ℕ → ℕ → ℕ × ℕ) (births : List (Seat P
   pub comes : may_come mail.from mail.body ≡ true
 
 -- The node has this replica of the group, which is well kept.
-pub record HasReplica (seat : Seat Player) (node : NodeState) (base : Base) (r : ReplicaState) : Type 0 where
+pub record HoldsReplica (seat : Seat Player) (node : NodeState) (base : Base) (r : ReplicaState) : Type 0 where
   pub here : replica_of base.core.id node.replicas ≡ Some r
   pub well : IsWellKept seat.who r
 
@@ -55,35 +55,35 @@ FollowsAfter at words births rows seat number base course = IsFollowedAt at word
 pub record NodesKeepFollowing : Type 0 where
   -- .. that asks to accept something
   pub accept : (at : Sets) (words : ℕ → ℕ → ℕ × ℕ) (births : List (Seat Player)) (rows : Rows) (seat : Seat Player) (number : ℕ) (mail : Mail) (node : NodeState) (base : Base) (course : Course) (r : ReplicaState) (ballot : Ballot) (slot : ℕ) (command : Command)
-      → IsScene at words births rows seat node base course → TakesMail words births rows seat number mail → HasReplica seat node base r → mail.from ≡ ballot.node → mail.body ≡ Accept base.core.id ballot slot command
+      → IsScene at words births rows seat node base course → TakesMail words births rows seat number mail → HoldsReplica seat node base r → mail.from ≡ ballot.node → mail.body ≡ Accept base.core.id ballot slot command
       → FollowsAfter at words births rows seat number base course
   -- .. that asks to promise a ballot, from above what the acceptor has forgotten
   pub prepare : (at : Sets) (words : ℕ → ℕ → ℕ × ℕ) (births : List (Seat Player)) (rows : Rows) (seat : Seat Player) (number : ℕ) (mail : Mail) (node : NodeState) (base : Base) (course : Course) (r : ReplicaState) (ballot : Ballot) (from_slot : ℕ)
-      → IsScene at words births rows seat node base course → TakesMail words births rows seat number mail → HasReplica seat node base r → mail.from ≡ ballot.node → mail.body ≡ Prepare base.core.id ballot from_slot → r.acceptor.floor < from_slot
+      → IsScene at words births rows seat node base course → TakesMail words births rows seat number mail → HoldsReplica seat node base r → mail.from ≡ ballot.node → mail.body ≡ Prepare base.core.id ballot from_slot → r.acceptor.floor < from_slot
       → FollowsAfter at words births rows seat number base course
   -- .. that tells an entry, by which the replica does not elect itself
   pub learn : (at : Sets) (words : ℕ → ℕ → ℕ × ℕ) (births : List (Seat Player)) (rows : Rows) (seat : Seat Player) (number : ℕ) (mail : Mail) (node : NodeState) (base : Base) (course : Course) (r : ReplicaState) (slot : ℕ) (command : Command)
-      → IsScene at words births rows seat node base course → TakesMail words births rows seat number mail → HasReplica seat node base r → mail.body ≡ Learn base.core.id slot command
+      → IsScene at words births rows seat node base course → TakesMail words births rows seat number mail → HoldsReplica seat node base r → mail.body ≡ Learn base.core.id slot command
       → slot ≤ last_slot → Stays (entered command r) → WaitsStill at course seat.who (suc slot) → FollowsAfter at words births rows seat number base course
   -- .. that has a state, of a member
   pub install : (at : Sets) (words : ℕ → ℕ → ℕ × ℕ) (births : List (Seat Player)) (rows : Rows) (seat : Seat Player) (number : ℕ) (mail : Mail) (node : NodeState) (base : Base) (course : Course) (r : ReplicaState) (slot : ℕ) (state : Base) (sets : List (List ℕ))
-      → IsScene at words births rows seat node base course → TakesMail words births rows seat number mail → HasReplica seat node base r → mail.body ≡ Install base.core.id slot state sets
-      → MayMake slot sets → is_member state.core.members mail.from ≡ true → WaitsStill at course seat.who (suc slot) → FollowsAfter at words births rows seat number base course
+      → IsScene at words births rows seat node base course → TakesMail words births rows seat number mail → HoldsReplica seat node base r → mail.body ≡ Install base.core.id slot state sets
+      → IsWholeState slot sets → is_member state.core.members mail.from ≡ true → WaitsStill at course seat.who (suc slot) → FollowsAfter at words births rows seat number base course
   -- .. of which the node makes a replica
   pub made : (at : Sets) (words : ℕ → ℕ → ℕ × ℕ) (births : List (Seat Player)) (rows : Rows) (seat : Seat Player) (number : ℕ) (mail : Mail) (node : NodeState) (base : Base) (course : Course) (slot : ℕ) (state : Base) (sets : List (List ℕ))
       → IsScene at words births rows seat node base course → TakesMail words births rows seat number mail → replica_of base.core.id node.replicas ≡ None → mail.body ≡ Install base.core.id slot state sets
-      → MayMake slot sets → first_ballot state.core ≡ first_ballot base.core → is_member state.core.members mail.from ≡ true → WaitsStill at course seat.who (suc slot) → FollowsAfter at words births rows seat number base course
+      → IsWholeState slot sets → first_ballot state.core ≡ first_ballot base.core → is_member state.core.members mail.from ≡ true → WaitsStill at course seat.who (suc slot) → FollowsAfter at words births rows seat number base course
   -- .. a vote and a promise for one that does not lead
   pub vote : (at : Sets) (words : ℕ → ℕ → ℕ × ℕ) (births : List (Seat Player)) (rows : Rows) (seat : Seat Player) (number : ℕ) (mail : Mail) (node : NodeState) (base : Base) (course : Course) (r : ReplicaState) (ballot : Ballot) (slot : ℕ)
-      → IsScene at words births rows seat node base course → TakesMail words births rows seat number mail → HasReplica seat node base r → mail.body ≡ Accepted base.core.id ballot slot → r.running ≡ false → FollowsAfter at words births rows seat number base course
+      → IsScene at words births rows seat node base course → TakesMail words births rows seat number mail → HoldsReplica seat node base r → mail.body ≡ Accepted base.core.id ballot slot → r.running ≡ false → FollowsAfter at words births rows seat number base course
   pub promise : (at : Sets) (words : ℕ → ℕ → ℕ × ℕ) (births : List (Seat Player)) (rows : Rows) (seat : Seat Player) (number : ℕ) (mail : Mail) (node : NodeState) (base : Base) (course : Course) (r : ReplicaState) (ballot : Ballot) (reports : List (Report Command))
-      → IsScene at words births rows seat node base course → TakesMail words births rows seat number mail → HasReplica seat node base r → mail.body ≡ Promise base.core.id ballot reports → r.running ≡ false → FollowsAfter at words births rows seat number base course
+      → IsScene at words births rows seat node base course → TakesMail words births rows seat number mail → HoldsReplica seat node base r → mail.body ≡ Promise base.core.id ballot reports → r.running ≡ false → FollowsAfter at words births rows seat number base course
   -- .. and mail that is no part of the agreement, for one that does not lead, and an order
   pub aside : (at : Sets) (words : ℕ → ℕ → ℕ × ℕ) (births : List (Seat Player)) (rows : Rows) (seat : Seat Player) (number : ℕ) (mail : Mail) (node : NodeState) (base : Base) (course : Course) (r : ReplicaState)
-      → IsScene at words births rows seat node base course → TakesMail words births rows seat number mail → HasReplica seat node base r → group_of_mail mail.body ≡ Some base.core.id → IsAside r mail.body → r.running ≡ false
+      → IsScene at words births rows seat node base course → TakesMail words births rows seat number mail → HoldsReplica seat node base r → group_of_mail mail.body ≡ Some base.core.id → IsAside r mail.body → r.running ≡ false
       → FollowsAfter at words births rows seat number base course
   pub order : (at : Sets) (words : ℕ → ℕ → ℕ × ℕ) (births : List (Seat Player)) (rows : Rows) (seat : Seat Player) (line : OrderLine) (node : NodeState) (base : Base) (course : Course) (r : ReplicaState)
-      → IsScene at words births rows seat node base course → AreInTime (players words births) (with_event rows seat (Told line)) → HasReplica seat node base r → group_of_order line.order ≡ base.core.id → r.running ≡ false
+      → IsScene at words births rows seat node base course → AreInTime (players words births) (with_event rows seat (Told line)) → HoldsReplica seat node base r → group_of_order line.order ≡ base.core.id → r.running ≡ false
       → IsFollowedAt at words births (with_event rows seat (Told line)) base course
 
 -- the group follows its leader after an event, in some course
@@ -94,17 +94,17 @@ FollowsOn at words births rows base = (course : Course) × IsFollowedAt at words
 pub record LeadsKeepFollowing : Type 0 where
   -- .. a vote: where it decides the next slot, the entries from it on that are ready come one after another
   pub vote : (at : Sets) (words : ℕ → ℕ → ℕ × ℕ) (births : List (Seat Player)) (rows : Rows) (seat : Seat Player) (number : ℕ) (mail : Mail) (node : NodeState) (base : Base) (course : Course) (r : ReplicaState) (ballot : Ballot) (slot : ℕ)
-      → IsScene at words births rows seat node base course → TakesMail words births rows seat number mail → HasReplica seat node base r → mail.body ≡ Accepted base.core.id ballot slot → r.running ≡ true
+      → IsScene at words births rows seat node base course → TakesMail words births rows seat number mail → HoldsReplica seat node base r → mail.body ≡ Accepted base.core.id ballot slot → r.running ≡ true
       → DecidesNext at mail.from ballot slot r → StopsAlone course (mailed mail.from mail.body (r, [])).0.0 → FollowsOn at words births (with_event rows seat (Deliver number)) base
   -- .. a promise
   pub promise : (at : Sets) (words : ℕ → ℕ → ℕ × ℕ) (births : List (Seat Player)) (rows : Rows) (seat : Seat Player) (number : ℕ) (mail : Mail) (node : NodeState) (base : Base) (course : Course) (r : ReplicaState) (ballot : Ballot) (reports : List (Report Command))
-      → IsScene at words births rows seat node base course → TakesMail words births rows seat number mail → HasReplica seat node base r → mail.body ≡ Promise base.core.id ballot reports → r.running ≡ true
+      → IsScene at words births rows seat node base course → TakesMail words births rows seat number mail → HoldsReplica seat node base r → mail.body ≡ Promise base.core.id ballot reports → r.running ≡ true
       → FollowsOn at words births (with_event rows seat (Deliver number)) base
   -- .. mail that is no part of the agreement
   pub aside : (at : Sets) (words : ℕ → ℕ → ℕ × ℕ) (births : List (Seat Player)) (rows : Rows) (seat : Seat Player) (number : ℕ) (mail : Mail) (node : NodeState) (base : Base) (course : Course) (r : ReplicaState)
-      → IsScene at words births rows seat node base course → TakesMail words births rows seat number mail → HasReplica seat node base r → group_of_mail mail.body ≡ Some base.core.id → IsAside r mail.body → r.running ≡ true
+      → IsScene at words births rows seat node base course → TakesMail words births rows seat number mail → HoldsReplica seat node base r → group_of_mail mail.body ≡ Some base.core.id → IsAside r mail.body → r.running ≡ true
       → FollowsOn at words births (with_event rows seat (Deliver number)) base
   -- .. and an order
   pub order : (at : Sets) (words : ℕ → ℕ → ℕ × ℕ) (births : List (Seat Player)) (rows : Rows) (seat : Seat Player) (line : OrderLine) (node : NodeState) (base : Base) (course : Course) (r : ReplicaState)
-      → IsScene at words births rows seat node base course → AreInTime (players words births) (with_event rows seat (Told line)) → HasReplica seat node base r → group_of_order line.order ≡ base.core.id → r.running ≡ true
+      → IsScene at words births rows seat node base course → AreInTime (players words births) (with_event rows seat (Told line)) → HoldsReplica seat node base r → group_of_order line.order ≡ base.core.id → r.running ≡ true
       → FollowsOn at words births (with_event rows seat (Told line)) base

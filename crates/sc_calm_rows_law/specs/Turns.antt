@@ -73,9 +73,9 @@ abbrev pub IsIdleIn : List (Seat Player) → Rows → Seat Player → Event Orde
 IsIdleIn births rows seat event base = (course : Course) → IsKind IsIdle births rows seat event base course course
 
 -- the children that a mail makes at a node
-abbrev pub children_by : Option ReplicaState → ℕ → MailBody → List Base
-children_by None from body = []
-children_by (Some r) from body = (mailed from body (r, [])).1
+abbrev pub made_children : Option ReplicaState → ℕ → MailBody → List Base
+made_children None from body = []
+made_children (Some r) from body = (mailed from body (r, [])).1
 
 -- each of these that has the group's name is the group as it began, with this node for a member
 abbrev pub AreAsBegun : Base → ℕ → List Base → Type 0
@@ -88,7 +88,7 @@ pub record OthersRowsAreIdle : Type 0 where
       → taken_mark base.core.id (mails rows) event ≡ None → IsIdleIn births rows seat event base
   -- a node's mail of another group, also where it makes a replica of this one at its birth
   pub other : (births : List (Seat Player)) (rows : Rows) (seat : Seat Player) (number : ℕ) (mail : Mail) (base : Base) (group : Draw) (node : NodeState) → IsSeat births seat → value player_table seat rows ≡ Node node → node.me ≡ seat.who
-      → numbered (mails rows) number ≡ Some mail → group_of_mail mail.body ≡ Some group → (group ≡ base.core.id → ⊥) → AreAsBegun base seat.who (children_by (replica_of group node.replicas) mail.from mail.body)
+      → numbered (mails rows) number ≡ Some mail → group_of_mail mail.body ≡ Some group → (group ≡ base.core.id → ⊥) → AreAsBegun base seat.who (made_children (replica_of group node.replicas) mail.from mail.body)
       → IsIdleIn births rows seat (Deliver number) base
   -- .. its mail of no group
   pub stray : (births : List (Seat Player)) (rows : Rows) (seat : Seat Player) (number : ℕ) (mail : Mail) (base : Base) (node : NodeState) → IsSeat births seat → value player_table seat rows ≡ Node node
@@ -108,7 +108,7 @@ pub record IsReplicasRow (births : List (Seat Player)) (rows : Rows) (seat : Sea
   pub sends : (who : ℕ) → marks_for name who (row_of player_table seat rows event).sent ≡ marks_for name who after.1
 
 -- a state with the members of as many slots as are open, of none after the last slot
-pub record MayMake (slot : ℕ) (sets : List (List ℕ)) : Type 0 where
+pub record IsWholeState (slot : ℕ) (sets : List (List ℕ)) : Type 0 where
   pub open_ : length sets ≡ slots_ahead
   pub low : slot ≤ last_slot
 
@@ -120,7 +120,7 @@ pub record RowsAreReplicas : Type 0 where
       → IsReplicasRow births rows seat (Deliver number) group (Some r) (mailed mail.from mail.body (r, [])).0
   -- .. where it makes one of a state that it is sent
   pub made : (births : List (Seat Player)) (rows : Rows) (seat : Seat Player) (number : ℕ) (mail : Mail) (group : Draw) (slot : ℕ) (base : Base) (sets : List (List ℕ)) (node : NodeState) → IsSeat births seat → value player_table seat rows ≡ Node node
-      → numbered (mails rows) number ≡ Some mail → may_come mail.from mail.body ≡ true → mail.body ≡ Install group slot base sets → MayMake slot sets → replica_of group node.replicas ≡ None
+      → numbered (mails rows) number ≡ Some mail → may_come mail.from mail.body ≡ true → mail.body ≡ Install group slot base sets → IsWholeState slot sets → replica_of group node.replicas ≡ None
       → IsReplicasRow births rows seat (Deliver number) group None (made_by node.me mail.from group slot base sets)
   -- .. and where it is told an order
   pub ordered : (births : List (Seat Player)) (rows : Rows) (seat : Seat Player) (line : OrderLine) (node : NodeState) (r : ReplicaState) → IsSeat births seat → value player_table seat rows ≡ Node node
