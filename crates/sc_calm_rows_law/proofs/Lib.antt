@@ -8,6 +8,7 @@ pub mod Leading
 pub mod Learning
 pub mod Mailing
 pub mod Marking
+pub mod Others
 pub mod Scenes
 pub mod Silent
 pub mod Staying

@@ -26,7 +26,7 @@ use Rattle.sc_calm_law.specs.Totals.{Rows}
 use Rattle.sc_calm_law.proofs.OwedParties.{apart}
 use Rattle.sc_law_lemmas.proofs.Ways.{either_way}
 use Rattle.sc_calm_rows_law.specs.Groups.{replicas_of, replica_in, view_at, next_in, promise_in}
-use Rattle.sc_calm_rows_law.specs.Turns.{IsSeat, with_event, AreAsBegun}
+use Rattle.sc_calm_rows_law.specs.Turns.{IsSeat, with_event, IsBornOr, AreAsBegun}
 
 -- ---- journals
 
@@ -136,3 +136,32 @@ module _ (base : Base) (who : ℕ) where
   all_born (child ∷ children) node me fits =
       same_then (replica_of base.core.id (with_children children (with_born child node)).replicas) (replica_of base.core.id (with_born child node).replicas) (replica_of base.core.id node.replicas)
       (all_born children (with_born child node) (child_me child node ∙ me) fits.1) (one_born child node me fits.0)
+
+  -- ---- whether it is born
+
+  then_or : (one two three : Option ReplicaState) → IsBornOr base who two three → IsBornOr base who one two → IsBornOr base who one three
+  then_or one two three (inl e) (inl f) = inl (f ∙ e)
+  then_or one two three (inl e) (inr born) = inr (sym e ∙ born.0, born.1)
+  then_or one two three (inr born) (inl f) = inr (born.0, f ∙ born.1)
+  then_or one two three (inr born) (inr again) = (let bad : None ≡ Some (born_replica slots_ahead who base) = sym again.0 ∙ born.1 in cc)
+
+  own_or : (node : NodeState) → node.me ≡ who → IsBornOr base who (replica_of base.core.id (with_born base node).replicas) (replica_of base.core.id node.replicas)
+  own_or node me = by (replica_of base.core.id node.replicas) refl
+    where
+      by : (o : Option ReplicaState) → replica_of base.core.id node.replicas ≡ o
+          → IsBornOr base who (replica_of base.core.id (cond (is_some o) node (record node { replicas = with_new (born_replica slots_ahead node.me base) node.replicas })).replicas) (replica_of base.core.id node.replicas)
+      by (Some r) e = inl refl
+      by None e = inr (e, new_is base.core.id (born_replica slots_ahead node.me base) node.replicas refl e ∙ ap (λ n. Some (born_replica slots_ahead n base)) me)
+
+  one_or : (child : Base) (node : NodeState) → node.me ≡ who → (child.core.id ≡ base.core.id → (child ≡ base) × (is_member base.core.members who ≡ true)) → IsBornOr base who (replica_of base.core.id (with_born child node).replicas) (replica_of base.core.id node.replicas)
+  one_or child node me fits = elim (cases_Bool (same_draw child.core.id base.core.id)) [
+    | inl t ↦ subst (λ (c : Base). IsBornOr base who (replica_of base.core.id (with_born c node).replicas) (replica_of base.core.id node.replicas)) (sym (fits (draw_is child.core.id base.core.id t)).0) (own_or node me)
+    | inr f ↦ inl (child_others base.core.id child node (λ e. true≢false (sym (same_name child.core.id base.core.id e) ∙ f)))
+  ]
+
+  pub all_or : (children : List Base) (node : NodeState) → node.me ≡ who → AreAsBegun base who children → IsBornOr base who (replica_of base.core.id (with_children children node).replicas) (replica_of base.core.id node.replicas)
+  unfolding with_children
+  all_or [] node me fits = inl refl
+  all_or (child ∷ children) node me fits =
+      then_or (replica_of base.core.id (with_children children (with_born child node)).replicas) (replica_of base.core.id (with_born child node).replicas) (replica_of base.core.id node.replicas) (one_or child node me fits.0)
+      (all_or children (with_born child node) (child_me child node ∙ me) fits.1)

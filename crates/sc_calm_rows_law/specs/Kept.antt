@@ -21,7 +21,7 @@ use Rattle.sc_following_law.specs.Leading.{IsLeadOf}
 use Rattle.sc_following_law.specs.Rows.{IsIdle, Takes, Elects}
 use Rattle.sc_calm_rows_law.specs.Groups.{view_at, progress_at, begun_course, IsLedBy, IsFollowedAt}
 use Rattle.sc_calm_rows_law.specs.Steps.{led_course, elected_course, LedBy}
-use Rattle.sc_calm_rows_law.specs.Turns.{with_event, IsKind, IsReplicasRow}
+use Rattle.sc_calm_rows_law.specs.Turns.{with_event, IsKind, LeavesAlone, LeavesOrBears, IsReplicasRow}
 
 -- the node that acts has a replica that leads in the course only where the course says so, and where it does, one that runs or is yet to be made
 pub record LeavesLead (at : Sets) (births : List (Seat Player)) (rows : Rows) (seat : Seat Player) (event : Event OrderLine) (base : Base) (course : Course) : Type 0 where
@@ -66,3 +66,12 @@ pub record RowsKeepFollowing : Type 0 where
       → AreInTime (players words births) (with_event rows seat event) → IsFollowedAt at words births rows base course → IsReplicasRow births rows seat event base.core.id (Some r) after
       → IsKind (Elects at) births rows seat event base course (elected_course course ballot) → after.0.running ≡ true → IsLeadOf at (progress_at births (with_event rows seat event) base (elected_course course ballot)) after.0
       → IsFollowedAt at words births (with_event rows seat event) base (elected_course course ballot)
+
+-- So it does after an event that does nothing in it ..
+pub record OthersKeepFollowing : Type 0 where
+  pub alone : (at : Sets) (words : ℕ → ℕ → ℕ × ℕ) (births : List (Seat Player)) (rows : Rows) (seat : Seat Player) (event : Event OrderLine) (base : Base) (course : Course) → ((slot : ℕ) → IsRoster (at slot))
+      → AreInTime (players words births) (with_event rows seat event) → IsFollowedAt at words births rows base course → LeavesAlone births rows seat event base → IsFollowedAt at words births (with_event rows seat event) base course
+  -- .. or makes a replica at the group's birth, which goes on as it began until its first member's node has one
+  pub bears : (at : Sets) (words : ℕ → ℕ → ℕ × ℕ) (births : List (Seat Player)) (rows : Rows) (seat : Seat Player) (event : Event OrderLine) (base : Base) (course : Course) → ((slot : ℕ) → IsRoster (at slot))
+      → AreInTime (players words births) (with_event rows seat event) → IsFollowedAt at words births rows base course → ((slot : ℕ) → slot < 1 + slots_ahead → at slot ≡ base.core.members) → is_member base.core.members base.core.first ≡ true → base.core.gone ≡ None
+      → (view_at births rows base.core.id base.core.first ≡ None → course ≡ begun_course base) → LeavesOrBears births rows seat event base → IsFollowedAt at words births (with_event rows seat event) base course

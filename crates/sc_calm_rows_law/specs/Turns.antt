@@ -1,5 +1,5 @@
 -- What one row of players does to a group, as the rows of its progress say it.
-use Rattle.std.specs.Prelude.{◌≡◌, ℕ, ◌==◌, ◌≤◌, true, List, [], ◌∷◌, ◌++◌, length, find, Option, Some, None}
+use Rattle.std.specs.Prelude.{◌≡◌, ℕ, ◌==◌, ◌≤◌, true, false, List, [], ◌∷◌, ◌++◌, length, find, Option, Some, None, ◌⊎◌}
 use Rattle.sc_base.specs.Among.{Each}
 use Rattle.sc_base.specs.Drawing.{Drawer}
 use Rattle.sc_base.specs.declared.names.Draw.{Draw}
@@ -23,13 +23,13 @@ use Rattle.sc_client_table.specs.Client.{Client as ClientState}
 use Rattle.sc_client_table.specs.Table.{table}
 use Rattle.sc_node_table.specs.Node.{NodeState, replica_of, group_of_mail, may_come, absent, group_of_order}
 use Rattle.sc_node_table.specs.Ordering.{ordered_row}
-use Rattle.sc_node_table.specs.Replica.{ReplicaState, Place, name_of, last_slot}
+use Rattle.sc_node_table.specs.Replica.{ReplicaState, Place, name_of, last_slot, born_replica}
 use Rattle.sc_node_table.specs.Rows.{mailed, made_by}
 use Rattle.sc_node_table.specs.Slots.{slots_ahead}
 use Rattle.sc_sound.specs.Players.{Player, player_table}
 use Rattle.sc_calm_law.specs.Charts.{players}
 use Rattle.sc_calm_law.specs.Totals.{Rows}
-use Rattle.sc_following_law.specs.Following.{Mark, Course, Progress}
+use Rattle.sc_following_law.specs.Following.{Mark, mark_of, Course, Progress}
 use Rattle.sc_following_law.specs.Rows.{IsRow, IsIdle}
 use Rattle.sc_following_law.specs.Tables.{marks_for}
 use Rattle.sc_calm_rows_law.specs.Groups.{view_at, progress_at, marks_at, taken_mark}
@@ -72,6 +72,20 @@ IsKind Kind births rows seat event base now after =
 abbrev pub IsIdleIn : List (Seat Player) → Rows → Seat Player → Event OrderLine → Base → Type 0
 IsIdleIn births rows seat event base = (course : Course) → IsKind IsIdle births rows seat event base course course
 
+-- .. and leaves the replica of who acts
+pub record LeavesAlone (births : List (Seat Player)) (rows : Rows) (seat : Seat Player) (event : Event OrderLine) (base : Base) : Type 0 where
+  pub idle : IsIdleIn births rows seat event base
+  pub view : view_at births (with_event rows seat event) base.core.id seat.who ≡ view_at births rows base.core.id seat.who
+
+-- a replica is as before, or is made at the group's birth
+abbrev pub IsBornOr : Base → ℕ → Option ReplicaState → Option ReplicaState → Type 0
+IsBornOr base who now before = (now ≡ before) ⊎ ((before ≡ None) × (now ≡ Some (born_replica slots_ahead who base)))
+
+-- .. or makes one at the group's birth
+pub record LeavesOrBears (births : List (Seat Player)) (rows : Rows) (seat : Seat Player) (event : Event OrderLine) (base : Base) : Type 0 where
+  pub idle : IsIdleIn births rows seat event base
+  pub view : IsBornOr base seat.who (view_at births (with_event rows seat event) base.core.id seat.who) (view_at births rows base.core.id seat.who)
+
 -- the children that a mail makes at a node
 abbrev pub made_children : Option ReplicaState → ℕ → MailBody → List Base
 made_children None from body = []
@@ -85,21 +99,26 @@ AreAsBegun base who children = Each (λ child. child.core.id ≡ base.core.id �
 pub record OthersRowsAreIdle : Type 0 where
   -- what a client takes, where that leaves no mark, and that it is told to go
   pub client : (births : List (Seat Player)) (rows : Rows) (seat : Seat Player) (event : Event OrderLine) (base : Base) (client : ClientState) → IsSeat births seat → value player_table seat rows ≡ Client client
-      → taken_mark base.core.id (mails rows) event ≡ None → IsIdleIn births rows seat event base
+      → taken_mark base.core.id (mails rows) event ≡ None → LeavesAlone births rows seat event base
   -- a node's mail of another group, also where it makes a replica of this one at its birth
   pub other : (births : List (Seat Player)) (rows : Rows) (seat : Seat Player) (number : ℕ) (mail : Mail) (base : Base) (group : Draw) (node : NodeState) → IsSeat births seat → value player_table seat rows ≡ Node node → node.me ≡ seat.who
       → numbered (mails rows) number ≡ Some mail → group_of_mail mail.body ≡ Some group → (group ≡ base.core.id → ⊥) → AreAsBegun base seat.who (made_children (replica_of group node.replicas) mail.from mail.body)
-      → IsIdleIn births rows seat (Deliver number) base
+      → LeavesOrBears births rows seat (Deliver number) base
   -- .. its mail of no group
   pub stray : (births : List (Seat Player)) (rows : Rows) (seat : Seat Player) (number : ℕ) (mail : Mail) (base : Base) (node : NodeState) → IsSeat births seat → value player_table seat rows ≡ Node node
-      → numbered (mails rows) number ≡ Some mail → group_of_mail mail.body ≡ None → IsIdleIn births rows seat (Deliver number) base
+      → numbered (mails rows) number ≡ Some mail → group_of_mail mail.body ≡ None → LeavesAlone births rows seat (Deliver number) base
+  -- .. its mail of this group, where it has no replica of it and the mail leaves no mark, and mail of one who sends none such
+  pub missed : (births : List (Seat Player)) (rows : Rows) (seat : Seat Player) (number : ℕ) (mail : Mail) (base : Base) (node : NodeState) → IsSeat births seat → value player_table seat rows ≡ Node node
+      → numbered (mails rows) number ≡ Some mail → mark_of base.core.id mail.from mail.body ≡ None → group_of_mail mail.body ≡ Some base.core.id → replica_of base.core.id node.replicas ≡ None → LeavesAlone births rows seat (Deliver number) base
+  pub barred : (births : List (Seat Player)) (rows : Rows) (seat : Seat Player) (number : ℕ) (mail : Mail) (base : Base) (node : NodeState) → IsSeat births seat → value player_table seat rows ≡ Node node
+      → numbered (mails rows) number ≡ Some mail → mark_of base.core.id mail.from mail.body ≡ None → may_come mail.from mail.body ≡ false → LeavesAlone births rows seat (Deliver number) base
   -- .. an order for another group, or for one of which it has no replica
   pub ordered : (births : List (Seat Player)) (rows : Rows) (seat : Seat Player) (line : OrderLine) (base : Base) (node : NodeState) → IsSeat births seat → value player_table seat rows ≡ Node node
-      → (group_of_order line.order ≡ base.core.id → ⊥) → IsIdleIn births rows seat (Told line) base
+      → (group_of_order line.order ≡ base.core.id → ⊥) → LeavesAlone births rows seat (Told line) base
   pub refused : (births : List (Seat Player)) (rows : Rows) (seat : Seat Player) (line : OrderLine) (base : Base) (node : NodeState) → IsSeat births seat → value player_table seat rows ≡ Node node
-      → replica_of (group_of_order line.order) node.replicas ≡ None → IsIdleIn births rows seat (Told line) base
+      → replica_of (group_of_order line.order) node.replicas ≡ None → LeavesAlone births rows seat (Told line) base
   -- .. and that it is told to go
-  pub go : (births : List (Seat Player)) (rows : Rows) (seat : Seat Player) (base : Base) (node : NodeState) → IsSeat births seat → value player_table seat rows ≡ Node node → IsIdleIn births rows seat Go base
+  pub go : (births : List (Seat Player)) (rows : Rows) (seat : Seat Player) (base : Base) (node : NodeState) → IsSeat births seat → value player_table seat rows ≡ Node node → LeavesAlone births rows seat Go base
 
 -- In a row the replica of a group at the player who acts becomes another, by its own table alone, and what is sent of the group is what that sends.
 pub record IsReplicasRow (births : List (Seat Player)) (rows : Rows) (seat : Seat Player) (event : Event OrderLine) (name : Draw) (before : Option ReplicaState) (after : Place) : Type 0 where

@@ -6,7 +6,7 @@
 ghost use Rattle.sc_calm_rows_law.specs.Asides.{AsidesStayStill};
 ghost use Rattle.sc_calm_rows_law.specs.Begun.{ChildrenBeginFollowing, ScenariosBeginFollowing};
 ghost use Rattle.sc_calm_rows_law.specs.Elections.{ElectionsKeepFollowing, ToldEntriesAreTaken};
-ghost use Rattle.sc_calm_rows_law.specs.Kept.{LeadsStay, RowsKeepFollowing};
+ghost use Rattle.sc_calm_rows_law.specs.Kept.{LeadsStay, OthersKeepFollowing, RowsKeepFollowing};
 ghost use Rattle.sc_calm_rows_law.specs.Mailed.{LeadsKeepFollowing, NodesKeepFollowing};
 ghost use Rattle.sc_calm_rows_law.specs.Steps.{StatesTake, StepsElect, StepsLead, StepsTake, StillIdle, UncountedPass};
 ghost use Rattle.sc_calm_rows_law.specs.Turns.{NamesStay, OthersHearNothing, OthersRowsAreIdle, RowsAreOfGroups, RowsAreReplicas};
@@ -116,6 +116,12 @@ pub fn nodes_keep_following()
 /// So does what its leader takes: a vote, a promise, other mail that comes to it, and an order.
 pub fn leads_keep_following()
     ensures { LeadsKeepFollowing }
+{}
+
+/// A row that does nothing in a group leaves it following its leader, also where a node makes its
+/// replica at the group's birth.
+pub fn others_keep_following()
+    ensures { OthersKeepFollowing }
 {}
 
 /// A replica with nothing ready that is told the next entry has the state after it.
