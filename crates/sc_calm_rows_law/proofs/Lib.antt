@@ -1,6 +1,7 @@
 pub mod Asides
 pub mod Beginning
 pub mod Electing
+pub mod Evens
 pub mod Executing
 pub mod Hearing
 pub mod Keeping

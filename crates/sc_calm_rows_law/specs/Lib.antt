@@ -1,6 +1,7 @@
 pub mod Asides
 pub mod Begun
 pub mod Elections
+pub mod Evens
 pub mod Groups
 pub mod Kept
 pub mod Mailed

@@ -6,6 +6,7 @@
 ghost use Rattle.sc_calm_rows_law.specs.Asides.{AsidesStayStill};
 ghost use Rattle.sc_calm_rows_law.specs.Begun.{ChildrenBeginFollowing, ScenariosBeginFollowing};
 ghost use Rattle.sc_calm_rows_law.specs.Elections.{ElectionsKeepFollowing, ToldEntriesAreTaken};
+ghost use Rattle.sc_calm_rows_law.specs.Evens.{QuietGroupsRest};
 ghost use Rattle.sc_calm_rows_law.specs.Kept.{LeadsStay, OthersKeepFollowing, RowsKeepFollowing};
 ghost use Rattle.sc_calm_rows_law.specs.Mailed.{LeadsKeepFollowing, NodesKeepFollowing};
 ghost use Rattle.sc_calm_rows_law.specs.Steps.{StatesTake, StepsElect, StepsLead, StepsTake, StillIdle, UncountedPass};
@@ -145,4 +146,10 @@ pub fn nodes_stay_well_kept()
 /// So is each replica of a node that is born.
 pub fn nodes_are_born_well_kept()
     ensures { NodesAreBornWellKept }
+{}
+
+/// In a quiet journal a group that follows its leader is even: its members have executed all, and if
+/// it stands, the replica at the node of its ballot leads, and no other runs.
+pub fn quiet_groups_rest()
+    ensures { QuietGroupsRest }
 {}
