@@ -15,7 +15,7 @@ use Rattle.sc_calm_law.specs.Totals.{Rows}
 use Rattle.sc_following_law.specs.Following.{marks_of, Course, Sets, IsEven, IsEvenLed}
 use Rattle.sc_following_law.proofs.InQuiet.{quiet-even}
 use Rattle.sc_calm_rows_law.specs.Evens.{IsEvenAt, QuietGroupsRest}
-use Rattle.sc_calm_rows_law.specs.Groups.{view_at, progress_at, marks_at, IsLedBy, IsFollowedAt}
+use Rattle.sc_calm_rows_law.specs.Groups.{progress_at, marks_at, IsLedBy, IsFollowedAt}
 
 module _ (at : Sets) (words : ℕ → ℕ → ℕ × ℕ) (births : List (Seat Player)) (rows : Rows) (base : Base) (course : Course) (rosters : (slot : ℕ) → IsRoster (at slot)) (timely : AreInTime (players words births) rows)
     (quiet : is_quiet (players words births) rows ≡ true) (strangers : (who : ℕ) → is_born (players words births) who ≡ false → marks_at (players words births) rows base.core.id who ≡ []) (was : IsFollowedAt at words births rows base course) where

@@ -14,6 +14,7 @@ pub mod Scenes
 pub mod Silent
 pub mod Staying
 pub mod Stepping
+pub mod Through
 pub mod Turning
 pub mod Viewing
 pub mod WellParts

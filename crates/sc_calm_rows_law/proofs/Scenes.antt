@@ -37,9 +37,9 @@ use Rattle.sc_following_law.proofs.Asides.{rows_lead}
 use Rattle.sc_following_law.proofs.Learn.{tables}
 use Rattle.sc_following_law.proofs.Marks.{reached-least}
 use Rattle.sc_following_law.proofs.Nodes.{same_mark, states}
-use Rattle.sc_calm_rows_law.specs.Groups.{view_at, next_in, promise_in, progress_at, marks_at, mark_in, taken_mark, IsLedBy, IsFollowedAt}
+use Rattle.sc_calm_rows_law.specs.Groups.{view_at, next_in, promise_in, progress_at, marks_at, mark_in, taken_mark, IsLedBy, IsFollowedAt, FollowsOn}
 use Rattle.sc_calm_rows_law.specs.Kept.{LeavesLead}
-use Rattle.sc_calm_rows_law.specs.Mailed.{IsScene, TakesMail, HoldsReplica, FollowsAfter, FollowsOn, NodesKeepFollowing, LeadsKeepFollowing}
+use Rattle.sc_calm_rows_law.specs.Mailed.{IsScene, TakesMail, HoldsReplica, FollowsAfter, NodesKeepFollowing, LeadsKeepFollowing}
 use Rattle.sc_calm_rows_law.specs.Steps.{WaitsStill, led_course}
 use Rattle.sc_calm_rows_law.specs.Turns.{with_event, IsReplicasRow, IsWholeState}
 use Rattle.sc_calm_rows_law.proofs.Asides.{asides_still}

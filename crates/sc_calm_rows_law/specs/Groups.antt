@@ -93,3 +93,7 @@ pub record IsCourseOf (at : Sets) (births : List (Seat Player)) (rows : Rows) (b
 pub record IsFollowedAt (at : Sets) (words : ℕ → ℕ → ℕ × ℕ) (births : List (Seat Player)) (rows : Rows) (base : Base) (course : Course) : Type 0 where
   pub follows : IsFollowing at (progress_at births rows base course) (marks_at (players words births) rows base.core.id)
   pub given : IsCourseOf at births rows base course
+
+-- .. in some course
+abbrev pub FollowsOn : Sets → (ℕ → ℕ → ℕ × ℕ) → List (Seat Player) → Rows → Base → Type 0
+FollowsOn at words births rows base = (course : Course) × IsFollowedAt at words births rows base course

@@ -6,5 +6,6 @@ pub mod Groups
 pub mod Kept
 pub mod Mailed
 pub mod Steps
+pub mod Through
 pub mod Turns
 pub mod WellKept

@@ -24,7 +24,7 @@ use Rattle.sc_calm_law.specs.Totals.{Rows}
 use Rattle.sc_following_law.specs.Following.{Course, Sets}
 use Rattle.sc_following_law.specs.Leading.{StopsAlone, IsAside, DecidesNext}
 use Rattle.sc_following_law.specs.Tables.{Stays}
-use Rattle.sc_calm_rows_law.specs.Groups.{IsFollowedAt}
+use Rattle.sc_calm_rows_law.specs.Groups.{IsFollowedAt, FollowsOn}
 use Rattle.sc_calm_rows_law.specs.Steps.{WaitsStill}
 use Rattle.sc_calm_rows_law.specs.WellKept.{IsWellKept}
 use Rattle.sc_calm_rows_law.specs.Turns.{IsSeat, with_event, IsWholeState}
@@ -85,10 +85,6 @@ pub record NodesKeepFollowing : Type 0 where
   pub order : (at : Sets) (words : ℕ → ℕ → ℕ × ℕ) (births : List (Seat Player)) (rows : Rows) (seat : Seat Player) (line : OrderLine) (node : NodeState) (base : Base) (course : Course) (r : ReplicaState)
       → IsScene at words births rows seat node base course → AreInTime (players words births) (with_event rows seat (Told line)) → HoldsReplica seat node base r → group_of_order line.order ≡ base.core.id → r.running ≡ false
       → IsFollowedAt at words births (with_event rows seat (Told line)) base course
-
--- the group follows its leader after an event, in some course
-abbrev pub FollowsOn : Sets → (ℕ → ℕ → ℕ × ℕ) → List (Seat Player) → Rows → Base → Type 0
-FollowsOn at words births rows base = (course : Course) × IsFollowedAt at words births rows base course
 
 -- What its leader takes keeps it so, in the course after it ..
 pub record LeadsKeepFollowing : Type 0 where

@@ -10,6 +10,7 @@ ghost use Rattle.sc_calm_rows_law.specs.Evens.{QuietGroupsRest};
 ghost use Rattle.sc_calm_rows_law.specs.Kept.{LeadsStay, OthersKeepFollowing, RowsKeepFollowing};
 ghost use Rattle.sc_calm_rows_law.specs.Mailed.{LeadsKeepFollowing, NodesKeepFollowing};
 ghost use Rattle.sc_calm_rows_law.specs.Steps.{StatesTake, StepsElect, StepsLead, StepsTake, StillIdle, UncountedPass};
+ghost use Rattle.sc_calm_rows_law.specs.Through.{GroupsFollowThrough};
 ghost use Rattle.sc_calm_rows_law.specs.Turns.{NamesStay, OthersHearNothing, OthersRowsAreIdle, RowsAreOfGroups, RowsAreReplicas};
 ghost use Rattle.sc_calm_rows_law.specs.WellKept.{NodesAreBornWellKept, NodesStayWellKept};
 
@@ -152,4 +153,10 @@ pub fn nodes_are_born_well_kept()
 /// it stands, the replica at the node of its ballot leads, and no other runs.
 pub fn quiet_groups_rest()
     ensures { QuietGroupsRest }
+{}
+
+/// A group follows its leader through a journal whose rows come in time, if it does so at first and
+/// each event keeps it so.
+pub fn groups_follow_through()
+    ensures { GroupsFollowThrough }
 {}
