@@ -136,7 +136,7 @@ module _ (name : Draw) where
   got_none from (TxWatched tx coord part vote) client = tt
   got_none from (ToldMail order result) client = tt
 
-  client_none : (client : Client) (input : Input Mail OrderLine) → None_ (table client input)
+  pub client_none : (client : Client) (input : Input Mail OrderLine) → None_ (table client input)
   client_none client (Got mail) = got_none mail.from mail.body client
   client_none client Tick = ticked_none client client.waiting client.asked
   client_none client Go = started_none 1 client

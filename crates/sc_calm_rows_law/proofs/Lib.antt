@@ -10,6 +10,9 @@ pub mod Learning
 pub mod Mailing
 pub mod Marking
 pub mod Others
+pub mod OwnParts
+pub mod OwnRows
+pub mod Owning
 pub mod Scenes
 pub mod Silent
 pub mod Staying

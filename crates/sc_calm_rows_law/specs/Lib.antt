@@ -5,6 +5,7 @@ pub mod Evens
 pub mod Groups
 pub mod Kept
 pub mod Mailed
+pub mod Senders
 pub mod Steps
 pub mod Through
 pub mod Turns

@@ -9,6 +9,7 @@ ghost use Rattle.sc_calm_rows_law.specs.Elections.{ElectionsKeepFollowing, ToldE
 ghost use Rattle.sc_calm_rows_law.specs.Evens.{QuietGroupsRest};
 ghost use Rattle.sc_calm_rows_law.specs.Kept.{LeadsStay, OthersKeepFollowing, RowsKeepFollowing};
 ghost use Rattle.sc_calm_rows_law.specs.Mailed.{LeadsKeepFollowing, NodesKeepFollowing};
+ghost use Rattle.sc_calm_rows_law.specs.Senders.{BallotsAreOwn};
 ghost use Rattle.sc_calm_rows_law.specs.Steps.{StatesTake, StepsElect, StepsLead, StepsTake, StillIdle, UncountedPass};
 ghost use Rattle.sc_calm_rows_law.specs.Through.{GroupsFollowThrough};
 ghost use Rattle.sc_calm_rows_law.specs.Turns.{NamesStay, OthersHearNothing, OthersRowsAreIdle, RowsAreOfGroups, RowsAreReplicas};
@@ -159,4 +160,10 @@ pub fn quiet_groups_rest()
 /// each event keeps it so.
 pub fn groups_follow_through()
     ensures { GroupsFollowThrough }
+{}
+
+/// What asks to accept or to promise comes from the node of its ballot, in journals whose rows come
+/// in time, if each replica that runs at a birth does so with a ballot of its own.
+pub fn ballots_are_own()
+    ensures { BallotsAreOwn }
 {}
