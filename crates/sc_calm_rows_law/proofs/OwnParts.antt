@@ -5,7 +5,6 @@ use Rattle.std.specs.List.{list_any}
 use Rattle.std.proofs.lemmas.Bool.{cond_both, and_parts}
 use Rattle.sc_node_table.specs.Slots.{at_slot}
 use Rattle.sc_base.specs.declared.names.Ballot.{Ballot}
-use Rattle.sc_base.specs.declared.names.Draw.{Draw}
 use Rattle.sc_base.specs.Limits.{client_actor}
 use Rattle.sc_cmd.specs.declared.commands.Command.{Command}
 use Rattle.sc_cmd.specs.declared.commands.Command.TheVariants.{Noop, Call, Join, Leave, Split, Begin, Prepared, RecordVote, GiveUp, Finish, Watched, RecordWatch}
@@ -86,11 +85,14 @@ FoundKeeps found = KeepsAt true found.1
 
 calls_keep : (place : Place) → KeepsAt true place → FoundKeeps (from_calls place)
 unfolding from_calls
-calls_keep (r, mails) k = ((
-  k.0.0,
-  next_found r.me (is_idle r) r.group.core (λ calls ms. AreOwn ms) (λ found. AreOwn found.2) (λ calls ms q. q) (λ command calls ms q. q)
-      (λ command answer calls ms w e q. one_answered r.me r.group.core.id answer command ms q) r.calls mails k.0.1,
-), k.1)
+calls_keep (r, mails) k = (
+  (
+    k.0.0,
+    next_found r.me (is_idle r) r.group.core (λ calls ms. AreOwn ms) (λ found. AreOwn found.2) (λ calls ms q. q) (λ command calls ms q. q)
+        (λ command answer calls ms w e q. one_answered r.me r.group.core.id answer command ms q) r.calls mails k.0.1,
+  ),
+  k.1,
+)
 
 acts_keep : (acts : List Command) (place : Place) → KeepsAt true place → FoundKeeps (from_acts acts place)
 acts_keep [] place k = calls_keep place k

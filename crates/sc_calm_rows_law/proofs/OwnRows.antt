@@ -1,5 +1,5 @@
 -- What a replica asks to accept or to promise is of a ballot of its own, in each row of its table, and so all mail of a journal whose rows come in time.
-use Rattle.std.proofs.Common.{◌≡◌, ℕ, zero, suc, ◌+◌, ◌-◌, ◌&&◌, ◌||◌, not, nat_le, nat_lt, eqb, refl, Bool, true, false, true≢false, cond, List, [], ◌∷◌, ◌++◌, length, find, Option, Some, None, sym, ◌∙◌, ap, subst}
+use Rattle.std.proofs.Common.{◌≡◌, ℕ, zero, suc, ◌+◌, ◌&&◌, ◌||◌, not, nat_le, nat_lt, eqb, refl, Bool, true, false, true≢false, cond, List, [], ◌∷◌, ◌++◌, length, map, find, Option, Some, None, sym, ◌∙◌, ap, subst}
 use Rattle.std.specs.Prelude.{is_some}
 use Rattle.std.specs.Option.{option_map}
 use Rattle.std.proofs.lemmas.Bool.{cond_both, and_parts, eqb-true}
@@ -54,12 +54,12 @@ use Rattle.sc_node_table.specs.Pump.{pumped}
 use Rattle.sc_node_table.specs.Queues.{call_of, without_call}
 use Rattle.sc_node_table.specs.Replica.{ReplicaState, Place, Executed, childless, name_of, next, members, settled, set_at, last_slot, forgotten, installed_replica, born_replica}
 use Rattle.sc_node_table.specs.Rows.{refused_at, queued, requested, request_row, learn_row, taught, most_taught, ask_row, looked_up, took_over, install_row, made_by, mailed}
-use Rattle.sc_node_table.specs.Slots.{slots_ahead, with_slot}
+use Rattle.sc_node_table.specs.Slots.{slots_ahead, numbers_from, with_slot}
 use Rattle.sc_node_table.specs.Transactions.{asked_next, noted_outcome, standing_vote, sent_elsewhere, offered_by, offer_row, watched_by, watch_row, awaits_vote, awaits_watch, vote_queued, vote_met, vote_row, watch_queued, watch_met, watched_row, elsewhere_row, is_bound, outcome_row}
 use Rattle.sc_node_table.specs.Voting.{hinted, promise_to, prepare_row, accepted_to, took, accept_row, leads, promise_row, readied, vote_tallied, voted, accepted_row, nack_row}
 use Rattle.sc_law_lemmas.proofs.Places.{promised_place, asked_place}
 use Rattle.sc_law_lemmas.proofs.Ways.{either_way}
-use Rattle.sc_calm_rows_law.specs.Senders.{IsOwnBody, IsOwnMail, AreOwn, RunsAlone, PlaysAlone, BallotsAreOwn}
+use Rattle.sc_calm_rows_law.specs.Senders.{IsOwnBody, IsOwnMail, AreOwn, RunsAlone, PlaysAlone, BallotsAreOwn, BirthsPlayAlone}
 use Rattle.sc_calm_rows_law.proofs.Owning.{one_sent, vote_told, watch_told, outcome_said, next_one_asked}
 use Rattle.sc_calm_rows_law.proofs.OwnParts.{Keeps, After, pumped_keeps, queued_act, ended_keeps, saw_keeps, sent_keeps, looked_keeps, counted_keeps, learns_keeps}
 use Rattle.sc_mail.specs.declared.roles.Role.TheVariants.{Node, Client}
@@ -78,8 +78,10 @@ use Rattle.sc_orderly_law.specs.Timely.{AreInTime}
 use Rattle.sc_orderly_law.proofs.InTime.{by_time, last_in_time}
 use Rattle.sc_client_table.specs.Table.{table}
 use Rattle.sc_paxos_words.proofs.ListLemmas.{Each-among, Each-append, Each-weaker, find_found}
-use Rattle.sc_node_table.specs.Node.{NodeState, replica_of, with_replica, is_before, with_new, group_of_mail, with_made, unknown, may_come, with_born, with_children, taken_by, routed, on_mail, group_of_order, ordered_of}
-use Rattle.sc_sound.specs.Players.{Player, player_table}
+use Rattle.sc_node_table.specs.Node.{NodeState, born_replicas, replica_of, with_replica, is_before, with_new, group_of_mail, with_made, unknown, may_come, with_born, with_children, taken_by, routed, on_mail, group_of_order, ordered_of}
+use Rattle.sc_scenario.specs.declared.scenarios.Asks.{Asks as Requests}
+use Rattle.sc_scenario.specs.declared.scenarios.Scenario.{Scenario}
+use Rattle.sc_sound.specs.Players.{Player, player_table, node_seat, client_seat, client_seats, route_of, as_nodes}
 use Rattle.sc_calm_law.specs.Charts.{players}
 use Rattle.sc_calm_law.specs.Totals.{Rows}
 use Rattle.sc_following_law.specs.Following.{Asks, Prepares, mark_of}
@@ -465,8 +467,7 @@ module _ (words : ℕ → ℕ → ℕ × ℕ) (births : List (Seat Player)) wher
   row_keeps rows seat event born calm k =
       let row : Row Mail OrderLine = row_of player_table seat rows event in
       let turn : (player : Player) → PlaysAlone player → Turn (acted player_table player (input_of (mails rows) event)) = λ player p. given_keeps player (input_of (mails rows) event) (no_tick words births rows seat.who event calm) p in
-      let own = Each-among (λ (s : Seat Player). PlaysAlone (value player_table s rows)) births seat k.0 (find_found (λ (other : Seat Player). eqb other.who seat.who) births seat born).0 in
-      (
+      let own = Each-among (λ (s : Seat Player). PlaysAlone (value player_table s rows)) births seat k.0 (find_found (λ (other : Seat Player). eqb other.who seat.who) births seat born).0 in (
         Each-weaker (λ (s : Seat Player). PlaysAlone (value player_table s rows)) (λ (s : Seat Player). PlaysAlone (value player_table s (rows ++ row ∷ [])))
             (λ s p. subst PlaysAlone (sym (value-snoc player_table s rows row))
             (either_way PlaysAlone (eqb row.who s.who) (acted player_table (value player_table s rows) (input_of (mails rows) row.event)).0 (value player_table s rows) (turn (value player_table s rows) p).0 p)) births k.0,
@@ -481,3 +482,26 @@ module _ (words : ℕ → ℕ → ℕ × ℕ) (births : List (Seat Player)) wher
 
 pub ballots_own : BallotsAreOwn
 ballots_own words births rows begins timely = (all_rows words births begins rows timely).1
+
+-- ---- births
+
+born_all : (me : ℕ) (groups : List Base) → All (born_replicas slots_ahead me groups)
+born_all me [] = tt
+born_all me (base ∷ groups) = either_way (λ (bases : List Base). All (map (λ b. born_replica slots_ahead me b) bases)) (is_member base.core.members me) _ _ (born_keeps me base, born_all me groups) (born_all me groups)
+
+nodes_born : (scenario : Scenario) (numbers : List ℕ) → Each (λ seat. PlaysAlone seat.actor) (map (node_seat as_nodes scenario.groups scenario.policy) numbers)
+nodes_born scenario [] = tt
+nodes_born scenario (n ∷ numbers) = (born_all n scenario.groups, nodes_born scenario numbers)
+
+clients_born : (groups : List Base) (clients : List Requests) → Each (λ seat. PlaysAlone seat.actor) (client_seats groups clients)
+clients_born [] clients = tt
+clients_born (base ∷ groups) clients = by clients
+  where
+    by : (cs : List Requests) → Each (λ seat. PlaysAlone seat.actor) (map (client_seat (route_of base)) cs)
+    by [] = tt
+    by (c ∷ cs) = (tt, by cs)
+
+pub births_alone : BirthsPlayAlone
+births_alone scenario =
+    Each-append (λ (seat : Seat Player). PlaysAlone seat.actor) (map (node_seat as_nodes scenario.groups scenario.policy) (numbers_from 1 scenario.nodes)) (client_seats scenario.groups scenario.clients) (nodes_born scenario (numbers_from 1 scenario.nodes))
+    (clients_born scenario.groups scenario.clients)

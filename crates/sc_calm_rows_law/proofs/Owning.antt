@@ -1,6 +1,5 @@
 -- What asks to accept or to promise comes from its ballot's node: mail of which that holds, whatever is put behind it.
-use Rattle.std.proofs.Common.{◌≡◌, ℕ, eqb, Bool, false, cond, List, [], ◌∷◌, Option, Some, None, refl, ◌∙◌, ap}
-use Rattle.sc_base.specs.Among.{Each}
+use Rattle.std.proofs.Common.{ℕ, eqb, Bool, cond, List, [], ◌∷◌, Option, Some, None}
 use Rattle.sc_base.specs.Limits.{client_actor}
 use Rattle.sc_base.specs.Same.{same_draw}
 use Rattle.sc_base.specs.declared.names.Draw.{Draw}

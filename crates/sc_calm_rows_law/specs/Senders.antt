@@ -9,7 +9,8 @@ use Rattle.sc_actor.specs.Mail.{mails}
 use Rattle.sc_orderly_law.specs.Timely.{AreInTime}
 use Rattle.sc_mail.specs.declared.roles.Role.TheVariants.{Node, Client}
 use Rattle.sc_node_table.specs.Replica.{ReplicaState}
-use Rattle.sc_sound.specs.Players.{Player}
+use Rattle.sc_scenario.specs.declared.scenarios.Scenario.{Scenario}
+use Rattle.sc_sound.specs.Players.{Player, births, as_nodes}
 use Rattle.sc_calm_law.specs.Charts.{players}
 use Rattle.sc_calm_law.specs.Totals.{Rows}
 
@@ -53,3 +54,7 @@ PlaysAlone (Client client) = Unit {0}
 -- Where it is so at the births, all mail of a journal whose rows come in time is.
 abbrev pub BallotsAreOwn : Type 0
 BallotsAreOwn = (words : ℕ → ℕ → ℕ × ℕ) (births : List (Seat Player)) (rows : Rows) → Each (λ seat. PlaysAlone seat.actor) births → AreInTime (players words births) rows → AreOwn (mails rows)
+
+-- at the births of a scenario it is so
+abbrev pub BirthsPlayAlone : Type 0
+BirthsPlayAlone = (scenario : Scenario) → Each (λ seat. PlaysAlone seat.actor) (births as_nodes scenario)

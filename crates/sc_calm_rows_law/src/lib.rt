@@ -9,7 +9,7 @@ ghost use Rattle.sc_calm_rows_law.specs.Elections.{ElectionsKeepFollowing, ToldE
 ghost use Rattle.sc_calm_rows_law.specs.Evens.{QuietGroupsRest};
 ghost use Rattle.sc_calm_rows_law.specs.Kept.{LeadsStay, OthersKeepFollowing, RowsKeepFollowing};
 ghost use Rattle.sc_calm_rows_law.specs.Mailed.{LeadsKeepFollowing, NodesKeepFollowing};
-ghost use Rattle.sc_calm_rows_law.specs.Senders.{BallotsAreOwn};
+ghost use Rattle.sc_calm_rows_law.specs.Senders.{BallotsAreOwn, BirthsPlayAlone};
 ghost use Rattle.sc_calm_rows_law.specs.Steps.{StatesTake, StepsElect, StepsLead, StepsTake, StillIdle, UncountedPass};
 ghost use Rattle.sc_calm_rows_law.specs.Through.{GroupsFollowThrough};
 ghost use Rattle.sc_calm_rows_law.specs.Turns.{NamesStay, OthersHearNothing, OthersRowsAreIdle, RowsAreOfGroups, RowsAreReplicas};
@@ -166,4 +166,9 @@ pub fn groups_follow_through()
 /// in time, if each replica that runs at a birth does so with a ballot of its own.
 pub fn ballots_are_own()
     ensures { BallotsAreOwn }
+{}
+
+/// At the births of a scenario each replica that runs does so with a ballot of its own.
+pub fn births_play_alone()
+    ensures { BirthsPlayAlone }
 {}
