@@ -10,6 +10,7 @@ pub mod Learning
 pub mod Mailing
 pub mod Marking
 pub mod Others
+pub mod OwnJournal
 pub mod OwnParts
 pub mod OwnRows
 pub mod Owning
@@ -20,5 +21,6 @@ pub mod Stepping
 pub mod Through
 pub mod Turning
 pub mod Viewing
+pub mod WellNodes
 pub mod WellParts
 pub mod WellRows

@@ -38,17 +38,17 @@ use Rattle.sc_node_table.specs.Questions.{offer_of, question, asked_first, asked
 use Rattle.sc_node_table.specs.Transactions.{voted_to, watched_to, told_outcome, next_asked, asked_next}
 use Rattle.sc_node_table.specs.Spoken.{begun_result, spoken_number, told_result, told_begun, asked_on, begun_asks, vote_sent, watch_sent, aborted_to, aborted_watcher, given_up_by, vote_answered, released_to, watch_answered_by, went_on, spoken_mails}
 use Rattle.sc_law_lemmas.proofs.Ways.{either_way}
-use Rattle.sc_calm_rows_law.specs.Senders.{IsOwnBody, IsOwnMail, AreOwn}
+use Rattle.sc_calm_rows_law.specs.Senders.{IsOwnAsking, IsOwnMail, AreOwn}
 
-pub one_sent : (me to : ℕ) (body : MailBody) (mails : List Mail) → IsOwnBody me body → AreOwn mails → AreOwn (sent me to body mails)
+pub one_sent : (me to : ℕ) (body : MailBody) (mails : List Mail) → IsOwnAsking me body → AreOwn mails → AreOwn (sent me to body mails)
 one_sent me to body mails q m = Each-append (IsOwnMail) mails (record { from = me; to = to; body = body } ∷ []) m (q, tt)
 
-pub all_sent : (me : ℕ) (nodes : List ℕ) (body : MailBody) (mails : List Mail) → IsOwnBody me body → AreOwn mails → AreOwn (sent_all me nodes body mails)
+pub all_sent : (me : ℕ) (nodes : List ℕ) (body : MailBody) (mails : List Mail) → IsOwnAsking me body → AreOwn mails → AreOwn (sent_all me nodes body mails)
 unfolding sent_all
 all_sent me [] body mails q m = m
 all_sent me (node ∷ nodes) body mails q m = all_sent me nodes body (sent me node body mails) q (one_sent me node body mails q m)
 
-pub others_sent : (me : ℕ) (nodes : List ℕ) (body : MailBody) (mails : List Mail) → IsOwnBody me body → AreOwn mails → AreOwn (sent_others me nodes body mails)
+pub others_sent : (me : ℕ) (nodes : List ℕ) (body : MailBody) (mails : List Mail) → IsOwnAsking me body → AreOwn mails → AreOwn (sent_others me nodes body mails)
 unfolding sent_others
 others_sent me [] body mails q m = m
 others_sent me (node ∷ nodes) body mails q m =
@@ -82,7 +82,7 @@ all_dismissed me group hint answer (command ∷ commands) mails m = all_dismisse
 
 -- ---- the parties of a transaction
 
-question_own : (me : ℕ) (core : Core) (tx : Draw) (body : Body) (heard : Option Heard) → IsOwnBody me (question me core tx body heard)
+question_own : (me : ℕ) (core : Core) (tx : Draw) (body : Body) (heard : Option Heard) → IsOwnAsking me (question me core tx body heard)
 question_own me core tx At.Merge None = tt
 question_own me core tx At.Merge (Some heard) = tt
 question_own me core tx (At.Repart at) None = tt

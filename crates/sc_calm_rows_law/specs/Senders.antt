@@ -15,28 +15,28 @@ use Rattle.sc_calm_law.specs.Charts.{players}
 use Rattle.sc_calm_law.specs.Totals.{Rows}
 
 -- a body from a node: what it asks to accept or to promise is of a ballot of that node
-abbrev pub IsOwnBody : ℕ → MailBody → Type 0
-IsOwnBody from (Accept group ballot slot command) = from ≡ ballot.node
-IsOwnBody from (Prepare group ballot from_slot) = from ≡ ballot.node
-IsOwnBody from (Accepted group ballot slot) = Unit {0}
-IsOwnBody from (Learn group slot command) = Unit {0}
-IsOwnBody from (Install group slot base sets) = Unit {0}
-IsOwnBody from (Promise group ballot reports) = Unit {0}
-IsOwnBody from (Nack group promised) = Unit {0}
-IsOwnBody from (Ask group from_slot) = Unit {0}
-IsOwnBody from (Request group client seq op) = Unit {0}
-IsOwnBody from (Answer group seq answer) = Unit {0}
-IsOwnBody from (TxPrepare tx offer) = Unit {0}
-IsOwnBody from (TxVote tx coord part vote) = Unit {0}
-IsOwnBody from (TxOutcome tx part outcome) = Unit {0}
-IsOwnBody from (TxElsewhere tx coord hint) = Unit {0}
-IsOwnBody from (TxWatch tx watch) = Unit {0}
-IsOwnBody from (TxWatched tx coord part vote) = Unit {0}
-IsOwnBody from (Told order result) = Unit {0}
+abbrev pub IsOwnAsking : ℕ → MailBody → Type 0
+IsOwnAsking from (Accept group ballot slot command) = from ≡ ballot.node
+IsOwnAsking from (Prepare group ballot from_slot) = from ≡ ballot.node
+IsOwnAsking from (Accepted group ballot slot) = Unit {0}
+IsOwnAsking from (Learn group slot command) = Unit {0}
+IsOwnAsking from (Install group slot base sets) = Unit {0}
+IsOwnAsking from (Promise group ballot reports) = Unit {0}
+IsOwnAsking from (Nack group promised) = Unit {0}
+IsOwnAsking from (Ask group from_slot) = Unit {0}
+IsOwnAsking from (Request group client seq op) = Unit {0}
+IsOwnAsking from (Answer group seq answer) = Unit {0}
+IsOwnAsking from (TxPrepare tx offer) = Unit {0}
+IsOwnAsking from (TxVote tx coord part vote) = Unit {0}
+IsOwnAsking from (TxOutcome tx part outcome) = Unit {0}
+IsOwnAsking from (TxElsewhere tx coord hint) = Unit {0}
+IsOwnAsking from (TxWatch tx watch) = Unit {0}
+IsOwnAsking from (TxWatched tx coord part vote) = Unit {0}
+IsOwnAsking from (Told order result) = Unit {0}
 
 -- .. a mail
 abbrev pub IsOwnMail : Mail → Type 0
-IsOwnMail mail = IsOwnBody mail.from mail.body
+IsOwnMail mail = IsOwnAsking mail.from mail.body
 
 -- .. each of some
 abbrev pub AreOwn : List Mail → Type 0

@@ -1,4 +1,4 @@
-use Rattle.sc_calm_rows_law.proofs.OwnRows.{ballots_own}
+use Rattle.sc_calm_rows_law.proofs.OwnJournal.{ballots_own}
 use Rattle.sc_calm_rows_law.proofs.ballots_are_own.Goals as goal
 
 pub returns : goal.returns

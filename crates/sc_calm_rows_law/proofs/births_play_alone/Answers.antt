@@ -1,4 +1,4 @@
-use Rattle.sc_calm_rows_law.proofs.OwnRows.{births_alone}
+use Rattle.sc_calm_rows_law.proofs.OwnJournal.{births_alone}
 use Rattle.sc_calm_rows_law.proofs.births_play_alone.Goals as goal
 
 pub returns : goal.returns

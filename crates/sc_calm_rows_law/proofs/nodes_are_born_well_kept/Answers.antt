@@ -1,4 +1,4 @@
-use Rattle.sc_calm_rows_law.proofs.WellRows.{nodes_born}
+use Rattle.sc_calm_rows_law.proofs.WellNodes.{nodes_born}
 use Rattle.sc_calm_rows_law.proofs.nodes_are_born_well_kept.Goals as goal
 
 pub returns : goal.returns
