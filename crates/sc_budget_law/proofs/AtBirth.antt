@@ -7,7 +7,7 @@ use Rattle.std.specs.FinMap.{get, get-empty}
 use Rattle.std.proofs.lemmas.Bool.{cond_both, cond-true, cond-false, cases_Bool, cases_eq, cases_lt, both_ways, eq-eqb, ne_eqb}
 use Rattle.std.proofs.lemmas.List.{length-map, length_push}
 use Rattle.std.proofs.lemmas.List.Sums.{sum_by-cons, sum_by-append}
-use Rattle.std.proofs.Math.Nat.{suc-mul, add-mul, mul-le-mul_left, mul-le-mul_right}
+use Rattle.std.proofs.Math.Nat.{suc-mul, mul-le-mul_left, mul-le-mul_right}
 use Rattle.sc_base.specs.Among.{Among, Each}
 use Rattle.sc_base.specs.Limits.{most_clients, most_requests}
 use Rattle.sc_base.specs.Same.{same_draw}

@@ -55,7 +55,7 @@ aside_refused (Some into) core hint op = refl
 aside_refused None core hint op = refl
 
 -- .. and its step
-aside_step : (r : ReplicaState) (group : Draw) (from client seq : ℕ) (op : Op) → r.running ≡ false
+pub aside_step : (r : ReplicaState) (group : Draw) (from client seq : ℕ) (op : Op) → r.running ≡ false
     → mailed from (Request group client seq op) (r, []) ≡ ((r, mail_of r.me (client_actor client) (Answer (name_of r) seq (aside_answer r.group.core.gone r.hint)) ∷ []), [])
 unfolding mailed request_row requested
 aside_step r group from client seq op stops =
@@ -186,6 +186,7 @@ module _ (begun : Requests) (set : Setting) (is : IsSetting set) (node : NodeSta
     pub is_begun : begun client seq op
     pub r : ReplicaState
     pub found : replica_of group node.replicas ≡ Some r
+    pub home : IsHome set group node.me
     pub stopped : r.running ≡ false
 
   module _ (a : StepsAside) where
@@ -247,7 +248,7 @@ module _ (begun : Requests) (set : Setting) (is : IsSetting set) (node : NodeSta
               is_frame = f.1;
               says = subst (IsPlainBody begun f.0 mail.from mail.to) (sym e) (sym f.2, record { from_is = a.0; to_is = to ∙ f.3; is_begun = a.2 });
             }))
-        | inr stops ↦ inr (record { group = group; client = client; seq = seq; op = op; body_is = e; is_begun = a.2; r = here.0; found = here.1; stopped = stops })
+        | inr stops ↦ inr (record { group = group; client = client; seq = seq; op = op; body_is = e; is_begun = a.2; r = here.0; found = here.1; home = subst (IsHome set group) to a.1; stopped = stops })
       ]
 
   aside_turns : (body : MailBody) → mail.body ≡ body → IsAsideBody begun set mail.from mail.to body → Turns

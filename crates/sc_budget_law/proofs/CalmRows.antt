@@ -60,7 +60,7 @@ aside_lowers ways from client seq op r stops points =
 
 module _ (ways : Ways) (begun : Requests) (frame : Frame) (is : IsFrame frame) (bounded : AreBounded ways) where
   -- at most nine decide each open slot
-  few_sets : (n : ℕ) (sets : List (List ℕ)) → sets ≡ map frame.at (numbers_from n slots_ahead) → AreNines sets
+  pub few_sets : (n : ℕ) (sets : List (List ℕ)) → sets ≡ map frame.at (numbers_from n slots_ahead) → AreNines sets
   few_sets n sets e = subst AreNines (sym e) ((is.rosters n).most, ((is.rosters (n + 1)).most, ((is.rosters (n + 1 + 1)).most, ((is.rosters (n + 1 + 1 + 1)).most, tt))))
 
   served_call : (core : Core) (command : Command) → core ≡ frame.core → IsPlainCommand begun frame command → IsServedCall core command
@@ -82,13 +82,13 @@ module _ (ways : Ways) (begun : Requests) (frame : Frame) (is : IsFrame frame) (
   served_call core (RecordWatch tx vote by) e p = absurd p
 
   module _ (r : ReplicaState) (p : IsPlainReplica begun frame frame.lead r) (k : IsLeading begun frame r) where
-    may_pump : MayPump r
+    pub may_pump : MayPump r
     may_pump = record { unbound = k.leader.open_; few = few_sets (next r) r.sets p.sets_are }
 
     core_is : r.group.core ≡ frame.core
     core_is = p.group.core_is
 
-    serves_all : ServesAll r
+    pub serves_all : ServesAll r
     serves_all = record {
       running = k.leader.running;
       few = subst (λ ms. length ms ≤ 9) (is.later (frame.from + slots_ahead) (omega arith) ∙ ap (λ (c : Core). c.members) (sym core_is)) (is.rosters (frame.from + slots_ahead)).most;
@@ -98,10 +98,10 @@ module _ (ways : Ways) (begun : Requests) (frame : Frame) (is : IsFrame frame) (
       ready = Each-weaker (λ (entry : ℕ × Command). IsPlainCommand begun frame entry.1) (λ (entry : ℕ × Command). IsServedCall r.group.core entry.1) (λ entry c. served_call r.group.core entry.1 core_is c) r.ready k.leader.ready;
     }
 
-    runs : Points ways (name_of r) r
+    pub runs : Points ways (name_of r) r
     runs stops stands = absurd (both_ways r.running stops k.leader.running)
 
-  follows : (me client seq : ℕ) (op : Op) (r : ReplicaState) → IsPlainReplica begun frame me r → IsPlainFollower r → IsPlainCall begun frame client seq op → Follows (Call client seq op) r
+  pub follows : (me client seq : ℕ) (op : Op) (r : ReplicaState) → IsPlainReplica begun frame me r → IsPlainFollower r → IsPlainCall begun frame client seq op → Follows (Call client seq op) r
   follows me client seq op r p f c =
       let after = entered_plain begun frame is me (Call client seq op) r (call_plain begun frame is client seq op r.group c p.group).group p in
       record {

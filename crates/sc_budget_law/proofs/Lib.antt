@@ -1,6 +1,6 @@
-mod Lists
+pub mod Lists
 pub mod Sums
-mod Made
+pub mod Made
 pub mod Spaced
 pub mod BetweenWhole
 pub mod BetweenClients
@@ -22,38 +22,38 @@ pub mod QuietLeader
 pub mod QuietSought
 pub mod QuietSteps
 pub mod QuietTurns
-mod Counts
-mod Served
-mod Entry
-mod Sends
-mod Leading
-mod Pumping
-mod Running
-mod Executing
-mod Asking
-mod Flights
-mod Accepting
-mod Voting
-mod Replicas
-mod ReplicaRows
-mod NodeRows
-mod Knowing
-mod Clients
-mod Round
-mod AtBirth
-mod Ends
-mod Bytes
-mod Light
-mod Worked
-mod RestingFrames
-mod CalmKnowing
-mod CalmRows
-mod CalmNodes
-mod CalmClients
-mod AskingMore
-mod AskingTurns
-mod AskingClients
-mod AskingBegins
-mod AskingSought
-mod AskingLines
-mod HintsRise
+pub mod Counts
+pub mod Served
+pub mod Entry
+pub mod Sends
+pub mod Leading
+pub mod Pumping
+pub mod Running
+pub mod Executing
+pub mod Asking
+pub mod Flights
+pub mod Accepting
+pub mod Voting
+pub mod Replicas
+pub mod ReplicaRows
+pub mod NodeRows
+pub mod Knowing
+pub mod Clients
+pub mod Round
+pub mod AtBirth
+pub mod Ends
+pub mod Bytes
+pub mod Light
+pub mod Worked
+pub mod RestingFrames
+pub mod CalmKnowing
+pub mod CalmRows
+pub mod CalmNodes
+pub mod CalmClients
+pub mod AskingMore
+pub mod AskingTurns
+pub mod AskingClients
+pub mod AskingBegins
+pub mod AskingSought
+pub mod AskingLines
+pub mod HintsRise

@@ -38,13 +38,13 @@ module _ (begun : Requests) (frames : List Frame) (are : (frame : Frame) → Amo
   lead_node frame is who e = (let m = to_lead frame is who e in is.nodes m.0 who m.1)
 
   -- a mail that a node takes: from whom it may come, of which group it is, and that the node votes in a slot of it
-  record IsFor (frame : Frame) (from to : ℕ) (body : MailBody) : Type 0 where
-    may : may_come from body ≡ true
-    group : group_of_mail body ≡ Some frame.core.id
-    slot : ℕ
-    member : is_member (frame.at slot) to ≡ true
+  pub record IsFor (frame : Frame) (from to : ℕ) (body : MailBody) : Type 0 where
+    pub may : may_come from body ≡ true
+    pub group : group_of_mail body ≡ Some frame.core.id
+    pub slot : ℕ
+    pub member : is_member (frame.at slot) to ≡ true
 
-  for_node : (frame : Frame) (is : IsFrame frame) (from to : ℕ) (body : MailBody) → IsPlainBody begun frame from to body → ((client seq : ℕ) (op : Op) → begun client seq op → to ≡ client_actor client → ⊥) → IsFor frame from to body
+  pub for_node : (frame : Frame) (is : IsFrame frame) (from to : ℕ) (body : MailBody) → IsPlainBody begun frame from to body → ((client seq : ℕ) (op : Op) → begun client seq op → to ≡ client_actor client → ⊥) → IsFor frame from to body
   for_node frame is from to (Request group client seq op) b n = (let m = to_lead frame is to b.1.to_is in record { may = refl; group = ap Some b.0; slot = m.0; member = m.1 })
   for_node frame is from to (Accept group ballot slot command) b n = record { may = lead_node frame is from b.2.from_is; group = ap Some b.0; slot = slot; member = b.2.to_in }
   for_node frame is from to (Accepted group ballot slot) b n = (let m = to_lead frame is to b.2 in record { may = is.nodes slot from b.3; group = ap Some b.0; slot = m.0; member = m.1 })

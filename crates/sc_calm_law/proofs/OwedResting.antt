@@ -48,7 +48,7 @@ none_left test first (m ∷ sent) (c ∷ counts) none = by (test m) c none (none
     by false c none' more = more none'
 
 module _ (words : ℕ → ℕ → ℕ × ℕ) (births : List (Seat Player)) where
-  quiet_mail : (rows : Rows) → IsTidy rows → is_quiet (players words births) rows ≡ true → under_way (players words births) rows ≡ []
+  pub quiet_mail : (rows : Rows) → IsTidy rows → is_quiet (players words births) rows ≡ true → under_way (players words births) rows ≡ []
   quiet_mail rows tidy quiet =
       none_left (λ mail. is_born (players words births) (receiver_of mail)) 1 (mails rows) (copies rows)
       (wide_none (is_for receiver_of (numbers_of births) rows None) (λ mail. is_born (players words births) (receiver_of mail)) (λ m born. may-born (players words births) rows (receiver_of m) tidy ∙ born) 1 (mails rows) (copies rows) quiet)

@@ -1,5 +1,5 @@
-//! Tests of what threads share and work with: turns, ledgers, ports, shells, rounds, the pool,
-//! schedules, storms, the check of rows, and the wishes of policies.
+//! Tests of what threads share and work with: turns, ledgers, ports, shells, lent work, rounds,
+//! the pool, schedules, storms, the check of rows, and the wishes of policies.
 #![tactic(auto)]
 
 #[cfg(test)]
@@ -12,6 +12,8 @@ mod ends_tests;
 mod exchange_tests;
 #[cfg(test)]
 mod ledger_tests;
+#[cfg(test)]
+mod lend_tests;
 #[cfg(test)]
 mod notes;
 #[cfg(test)]

@@ -1,5 +1,5 @@
 -- Turns of the shells of two parts are turns of the shells of both.
-use Rattle.std.proofs.Common.{◌≡◌, zero, suc, List, [], ◌∷◌, ◌++◌, length, arith}
+use Rattle.std.proofs.Common.{◌≡◌, ℕ, zero, suc, List, [], ◌∷◌, ◌++◌, length, length-append, take, drop, take-append-drop, subst, ap, arith}
 use Rattle.sc_actor.specs.declared.actors.Actor.{Ghosts}
 use Rattle.sc_actor.specs.declared.actors.Parcel.{Ghosts as MailGhosts}
 use Rattle.sc_shell.specs.declared.shells.Shell.{Shell}
@@ -14,3 +14,12 @@ module _ {A M O : Type 0} {g : Ghosts A M O} {h : MailGhosts M} where
   took_both (s ∷ ss) (t ∷ ts) more after len p q zero d lt = p zero d (omega arith)
   took_both (s ∷ ss) (t ∷ ts) more after len p q (suc k) d lt =
       took_both ss ts more after (omega (arith, len)) (λ i e less. p (suc i) e (omega (arith, less))) q k d (omega (arith, lt))
+
+  -- of the first so many, and of the others
+  pub took_parts : (cut : ℕ) (ss front back : List (Shell A M O g h)) → length front ≡ length (take cut ss) → AllTook (take cut ss) front → AllTook (drop cut ss) back → AllTook ss (front ++ back)
+  took_parts cut ss front back len p q = subst (λ l. AllTook l (front ++ back)) (take-append-drop cut ss) (took_both (take cut ss) front (drop cut ss) back len p q)
+
+  pub parts_length : (cut : ℕ) (ss front back : List (Shell A M O g h)) → length front ≡ length (take cut ss) → length back ≡ length (drop cut ss) → length (front ++ back) ≡ length ss
+  parts_length cut ss front back first second =
+      let whole : length (take cut ss ++ drop cut ss) ≡ length ss = ap length (take-append-drop cut ss) in
+      omega (arith, first, second, whole, length-append front back, length-append (take cut ss) (drop cut ss))

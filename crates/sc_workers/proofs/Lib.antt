@@ -8,3 +8,4 @@ pub mod Refusing
 pub mod Ending
 pub mod Joining
 pub mod Phasing
+pub mod Sending

@@ -2,3 +2,4 @@ pub mod Crews
 pub mod Ends
 pub mod Services
 pub mod Phases
+pub mod Runs

@@ -2,6 +2,7 @@
 #![tactic(auto)]
 
 mod answers;
+mod lending;
 mod meetings;
 mod phases;
 mod playing;

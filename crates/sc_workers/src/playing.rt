@@ -1,19 +1,27 @@
 //! The rounds, and the phases.
-ghost use Rattle.std.specs.Prelude.{◌≡◌, ◌<◌, ◌≤◌, ◌+◌, None, Some, IfSome};
+ghost use Rattle.std.specs.Prelude.{◌≡◌, ◌<◌, ◌≤◌, ◌+◌, All, None, Some, IfSome, vec_len};
+ghost use Rattle.std.specs.Thread.{IsSync};
+ghost use Rattle.sc_lend.specs.Offices.{IsHelperOf, IsLenderOf};
 ghost use Rattle.sc_workers.specs.Ends.{IsEnd, StepEnd, RefusedEnd, IsGathered, CanBegin, IfCalm, IfHeld, IfKept};
 ghost use Rattle.sc_workers.specs.Crews.{AllOf, AllSound, AreLater, AreStill, HasPlayed, IsCrew, crew_numbers, rows_made};
 ghost use Rattle.sc_workers.specs.Services.{AllServe};
 
 use crate::answers::{Rounds, Way};
+use crate::lending::{Run, at_once, help};
 use crate::meetings::{gather, meet, numbers_of, vouch};
 use crate::phases::phase;
-use crate::turns::{any_of, at_once, did_in, in_order, refused_in};
+use crate::turns::{any_of, did_in, in_order, refused_in};
 use sc_actor::{Actor, Gate};
 use sc_exchange::Port;
+use sc_lend::{Helper, Lender, Office, open};
 use sc_shell::{Shell, Turn};
 use std::alloc::Global;
+use std::mem;
 use std::sync::Wait;
-use std::thread::Threads;
+use std::thread::{Threads, join_mut};
+
+/// So many runs may be lent at one time: more than there are beside the caller's own.
+const MOST_LOANS: usize = 16;
 
 // One round, or one phase. Answers how many deliveries were made in it, and None where there was no
 // memory for a phase.
@@ -22,6 +30,8 @@ fn play_round<A: Actor, G: Gate, R: Threads + Wait + Sync>(
     alloc: Global,
     way: Way,
     gate: &G,
+    desk: &Office<Run<A>>,
+    lender: &mut Lender<Run<A>>,
     waits: &[bool],
     shells: &mut Vec<Shell<A>>,
     workers: u32,
@@ -29,6 +39,8 @@ fn play_round<A: Actor, G: Gate, R: Threads + Wait + Sync>(
 ) -> Option<u32>
     requires workers { (0 < workers) × (workers ≤ 16) }
     requires sound { AllSound shells.old.items }
+    requires lender { IsLenderOf desk.now lender.old }
+    ensures lender { IsLenderOf desk.now lender.new }
     ensures played { IfSome result
         (λ did. HasPlayed left shells.old.items shells.new.items did) }
     ensures none { result ≡ None → way ≡ Way.Queue }
@@ -39,7 +51,7 @@ fn play_round<A: Actor, G: Gate, R: Threads + Wait + Sync>(
     match way {
         Way::Runs => {
             let size = shells.len().div_ceil(workers as usize);
-            at_once(rt, alloc, gate, waits, size, workers, shells);
+            at_once(rt, alloc, gate, desk, lender, waits, size, shells);
             Some(did_in(shells.as_slice()))
         }
         Way::Queue => phase(rt, alloc, gate, waits, shells, workers, left).ok(),
@@ -118,6 +130,8 @@ fn step<A: Actor, G: Gate, R: Threads + Wait + Sync>(
     rt: &R,
     alloc: Global,
     play: &Play<'_>,
+    desk: &Office<Run<A>>,
+    lender: &mut Lender<Run<A>>,
     net: &mut Port<A::Mail, A::Order>,
     shells: &mut Vec<Shell<A>>,
     used: &mut u32,
@@ -125,10 +139,12 @@ fn step<A: Actor, G: Gate, R: Threads + Wait + Sync>(
     gate: &G,
 ) -> Option<Rounds>
     requires workers { (0 < play.now.workers) × (play.now.workers ≤ 16) }
+    requires lender { IsLenderOf desk.now lender.old }
     requires crew { IsCrew net.old shells.old.items }
     requires whos { play.now.whos.now ≡ crew_numbers shells.old.items }
     requires begin { CanBegin net.old shells.old.items play.now.whos.now }
     requires used { used.old < play.now.limit }
+    ensures lender { IsLenderOf desk.now lender.new }
     ensures later { IfKept play.now.way result
         (AreLater net.old net.new shells.old.items shells.new.items) }
     ensures used { used.new ≤ play.now.limit }
@@ -149,13 +165,160 @@ fn step<A: Actor, G: Gate, R: Threads + Wait + Sync>(
     };
     let flags = waits.as_slice();
     let left = play.limit - *used;
-    let Some(did) = play_round(rt, alloc, play.way, gate, flags, shells, play.workers, left) else {
+    let Some(did) = play_round(
+        rt,
+        alloc,
+        play.way,
+        gate,
+        desk,
+        lender,
+        flags,
+        shells,
+        play.workers,
+        left,
+    ) else {
         return Some(Rounds::OutOfMemory);
     };
     *used += did;
     match refused_in(shells.as_slice()) {
         None => prepare(rt, net, shells, play.whos, play.limit, *used, waits),
         Some(refused) => Some(ended(rt, net, shells, refused)),
+    }
+}
+
+// Rounds or phases, as `rounds_by` has them.
+fn played<A: Actor, G: Gate, R: Threads + Wait + Sync>(
+    rt: &R,
+    alloc: Global,
+    way: Way,
+    workers: u32,
+    limit: u32,
+    gate: &G,
+    desk: &Office<Run<A>>,
+    lender: &mut Lender<Run<A>>,
+    net: &mut Port<A::Mail, A::Order>,
+    shells: &mut Vec<Shell<A>>,
+) -> Rounds
+    requires workers { (1 ≤ workers) × (workers ≤ 16) }
+    requires crew { IsCrew net.old shells.old.items }
+    requires lender { IsLenderOf desk.now lender.old }
+    ensures later { IfKept way (Some result)
+        (AreLater net.old net.new shells.old.items shells.new.items) }
+    ensures end { IsEnd result net.new shells.old.items shells.new.items (crew_numbers shells.old.items)
+        limit }
+{
+    let Ok(whos) = numbers_of(alloc, shells.as_slice()) else {
+        return Rounds::OutOfMemory;
+    };
+    let mut waits = Vec::new(alloc);
+    if let Some(answer) = prepare(rt, net, shells, whos.as_slice(), limit, 0, &mut waits) {
+        return answer;
+    }
+    let mut used = 0u32;
+    loop {
+        let whos = whos.as_slice();
+        let play = Play {
+            way,
+            whos,
+            workers,
+            limit,
+        };
+        if let Some(answer) = step(
+            rt, alloc, &play, desk, lender, net, shells, &mut used, &mut waits, gate,
+        ) {
+            return answer;
+        }
+    }
+}
+
+// Rounds or phases, behind which those who help end.
+fn played_out<A: Actor, G: Gate, R: Threads + Wait + Sync>(
+    rt: &R,
+    alloc: Global,
+    way: Way,
+    workers: u32,
+    limit: u32,
+    gate: &G,
+    desk: &Office<Run<A>>,
+    lender: &mut Lender<Run<A>>,
+    net: &mut Port<A::Mail, A::Order>,
+    shells: &mut Vec<Shell<A>>,
+) -> Rounds
+    requires workers { (1 ≤ workers) × (workers ≤ 16) }
+    requires crew { IsCrew net.old shells.old.items }
+    requires lender { IsLenderOf desk.now lender.old }
+    ensures later { IfKept way (Some result)
+        (AreLater net.old net.new shells.old.items shells.new.items) }
+    ensures end { IsEnd result net.new shells.old.items shells.new.items (crew_numbers shells.old.items)
+        limit }
+{
+    let end = played(
+        rt, alloc, way, workers, limit, gate, desk, lender, net, shells,
+    );
+    desk.close();
+    end
+}
+
+// Rounds or phases, while others help, fewer than there are workers.
+fn helped<A: Actor, G: Gate, R: Threads + Wait + Sync>(
+    rt: &R,
+    alloc: Global,
+    way: Way,
+    workers: u32,
+    limit: u32,
+    gate: &G,
+    desk: &Office<Run<A>>,
+    helpers: &mut Vec<Helper<Run<A>>>,
+    lender: &mut Lender<Run<A>>,
+    net: &mut Port<A::Mail, A::Order>,
+    shells: &mut Vec<Shell<A>>,
+) -> Rounds
+    requires workers { (1 ≤ workers) × (workers ≤ 16) }
+    requires crew { IsCrew net.old shells.old.items }
+    requires lender { IsLenderOf desk.now lender.old }
+    requires few { vec_len helpers.old < workers }
+    requires helpers { All (λ p. IsHelperOf desk.now p) helpers.old.items }
+    ensures later { IfKept way (Some result)
+        (AreLater net.old net.new shells.old.items shells.new.items) }
+    ensures end { IsEnd result net.new shells.old.items shells.new.items (crew_numbers shells.old.items)
+        limit }
+{
+    let mut playing = || -> Rounds
+        requires { IsSync R.row × IsSync G.row × (1 ≤ workers) × (workers ≤ 16) × IsCrew net.now shells.now.items
+            × IsLenderOf desk.now lender.now }
+        ensures { IfKept way (Some result)
+            (AreLater net.entry.now net.exit.now shells.entry.now.items shells.exit.now.items)
+            × IsEnd result net.exit.now shells.entry.now.items shells.exit.now.items
+            (crew_numbers shells.entry.now.items) limit }
+    {
+        played_out(
+            rt, alloc, way, workers, limit, gate, desk, lender, net, shells,
+        )
+    };
+    let mut helping = ||
+        requires { IsSync R.row × IsSync G.row × All (λ p. IsHelperOf desk.now p) helpers.now.items }
+    {
+        help(
+            rt,
+            alloc,
+            gate,
+            desk,
+            mem::replace(helpers, Vec::new(alloc)),
+        )
+    };
+    let (_, end) = join_mut(rt, &mut helping, &mut playing);
+    end
+}
+
+// How many help: with the caller one for each run. None helps in phases, or where the shells take
+// their turns in order from the first round on.
+fn hands_for(way: Way, workers: u32, limit: u32, many: usize) -> usize
+    requires { 1 ≤ workers }
+    ensures { result < workers }
+{
+    match way {
+        Way::Runs if many <= limit as usize => (workers as usize - 1).min(many.saturating_sub(1)),
+        _ => 0,
     }
 }
 
@@ -183,34 +346,30 @@ pub fn rounds_by<A: Actor, G: Gate, R: Threads + Wait + Sync>(
     ensures end { IsEnd result net.new shells.old.items shells.new.items (crew_numbers shells.old.items)
         limit }
 {
-    let Ok(whos) = numbers_of(alloc, shells.as_slice()) else {
+    let hands = hands_for(way, workers, limit, shells.len());
+    let Ok((desk, mut lender, mut helpers)) = open(alloc, MOST_LOANS, hands) else {
         return Rounds::OutOfMemory;
     };
-    let mut waits = Vec::new(alloc);
-    if let Some(answer) = prepare(rt, net, shells, whos.as_slice(), limit, 0, &mut waits) {
-        return answer;
+    let lender = &mut lender;
+    if helpers.is_empty() {
+        return played(
+            rt, alloc, way, workers, limit, gate, &desk, lender, net, shells,
+        );
     }
-    let mut used = 0u32;
-    loop {
-        let whos = whos.as_slice();
-        let play = Play {
-            way,
-            whos,
-            workers,
-            limit,
-        };
-        if let Some(answer) = step(rt, alloc, &play, net, shells, &mut used, &mut waits, gate) {
-            return answer;
-        }
-    }
+    let helpers = &mut helpers;
+    helped(
+        rt, alloc, way, workers, limit, gate, &desk, helpers, lender, net, shells,
+    )
 }
 
 /// Rounds in which each shell that is not spent takes a turn, runs of neighbours at the same time,
 /// until nothing is pending for the shells' actors, `limit` deliveries were made, or a row is
 /// refused.
 ///
-/// There are as many runs as `workers`, or fewer, and none waits for one with mail. Where mail waits
-/// for the shells of one run alone, no thread is started. No shell is lost.
+/// There are as many runs as `workers`, or fewer, and none with mail waits for another with mail.
+/// For each run but one a thread is kept until the end, which sleeps while nothing is lent to it.
+/// Where mail waits in two runs or more, the caller takes the first of them and lends the others, and
+/// takes back what nobody has begun. No shell is lost.
 pub fn rounds<A: Actor, G: Gate, R: Threads + Wait + Sync>(
     rt: &R,
     alloc: Global,

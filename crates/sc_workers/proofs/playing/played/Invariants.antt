@@ -1,11 +1,13 @@
 use Rattle.std.proofs.Common.{◌≡◌, ◌<◌, ◌+◌, ◌-◌}
+use Rattle.sc_lend.specs.Offices.{IsLenderOf}
 use Rattle.sc_workers.specs.Crews.{AllSound, AreLater, rows_made}
 use Rattle.sc_workers.specs.Ends.{CanBegin}
 use Rattle.sc_workers.specs.Services.{AllServe}
-use Rattle.sc_workers.proofs.playing.rounds_by.Given as goal
+use Rattle.sc_workers.proofs.playing.played.Given as goal
 
 abbrev pub invariant-loop-answer : goal.invariant-loop-answer
 invariant-loop-answer g l = record {
+  lender : IsLenderOf l.desk l.lender;
   used : l.used < l.limit;
   later : AreLater l.fn.net l.net l.fn.shells.items l.shells.items;
   sound : AllSound l.shells.items;

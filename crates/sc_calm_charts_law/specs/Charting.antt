@@ -1,0 +1,121 @@
+-- By what it is counted what is owed in a calm journal: ways by hints and how far clients reach as in the last quiet journal, and the groups and what a coordinator asks as they are.
+use Rattle.std.specs.Prelude.{ℕ, zero, suc, ◌+◌, ◌-◌, ◌==◌, ◌&&◌, ◌||◌, max, min, not, is_some, Bool, List, [], ◌∷◌, ◌++◌, length, map, filter, take, if◌then◌else◌, Option, Some, None}
+use Rattle.std.specs.List.{list_any}
+use Rattle.sc_base.specs.Same.{same_draw}
+use Rattle.sc_base.specs.declared.names.Draw.{Draw}
+use Rattle.sc_cmd.specs.declared.cores.Core.{Core}
+use Rattle.sc_cmd.specs.declared.cores.Lock.{Lock}
+use Rattle.sc_cmd.specs.declared.cores.Lock.TheVariants.{Free, Coordinating, Promised, Watching}
+use Rattle.sc_cmd.specs.declared.links.Route.{Route}
+use Rattle.sc_cmd.specs.declared.orders.OrderLine.{OrderLine}
+use Rattle.sc_mail.specs.declared.bodies.Mail.{Mail}
+use Rattle.sc_mail.specs.declared.roles.Role.TheVariants.{Node, Client}
+use Rattle.sc_actor.specs.declared.actors.Seat.{Seat}
+use Rattle.sc_actor.specs.Replay.{value}
+use Rattle.sc_actor.specs.System.{System}
+use Rattle.sc_node_table.specs.Node.{replica_of}
+use Rattle.sc_node_table.specs.Questions.{asked_link, watcher_link}
+use Rattle.sc_node_table.specs.Replica.{ReplicaState, name_of}
+use Rattle.sc_sound.specs.Players.{Player, player_table}
+use Rattle.sc_calm_law.specs.Charts.{Chart}
+use Rattle.sc_calm_law.specs.Reach.{Reach}
+use Rattle.sc_calm_law.specs.Totals.{Rows}
+use Rattle.sc_calm_charts_law.specs.Fronts.{quiet_front}
+
+-- the replicas of a player: a client has none
+abbrev pub replicas_of : Player → List ReplicaState
+replicas_of (Node node) = node.replicas
+replicas_of (Client client) = []
+
+-- all replicas after some rows, player by player
+abbrev pub all_replicas : List (Seat Player) → Rows → List ReplicaState
+all_replicas [] rows = []
+all_replicas (seat ∷ seats) rows = replicas_of (value player_table seat rows) ++ all_replicas seats rows
+
+-- the replica of a group at the player with a number
+abbrev pub replica_at : List (Seat Player) → Rows → Draw → ℕ → Option ReplicaState
+replica_at [] rows group who = None
+replica_at (seat ∷ seats) rows group who = if seat.who == who then replica_of group (replicas_of (value player_table seat rows)) else replica_at seats rows group who
+
+-- ---- ways
+
+-- the latest round that some replicas of a group have seen
+abbrev pub latest_in : Draw → List ReplicaState → ℕ
+latest_in group [] = 0
+latest_in group (r ∷ replicas) = if same_draw (name_of r) group then max r.top.round (latest_in group replicas) else latest_in group replicas
+
+-- how many hints lead at most from a replica to one that runs or is gone, where no later round was seen, and no more than the longest way
+abbrev pub way_by : ℕ → ℕ → Option ReplicaState → ℕ
+way_by most latest None = most
+way_by most latest (Some r) = if r.running || is_some r.group.core.gone then 0 else min most (1 + latest - r.top.round)
+
+-- .. after some rows
+abbrev pub far_at : ℕ → List (Seat Player) → Rows → Draw → ℕ → ℕ
+far_at most births rows group node = way_by most (latest_in group (all_replicas births rows)) (replica_at births rows group node)
+
+-- ---- what is asked
+
+-- what a coordinator asks of whom, where this transaction locks it
+abbrev pub asked_by : Draw → Core → Lock → Option (Draw × Bool)
+asked_by tx core Free = None
+asked_by tx core (Coordinating other body order heard) = if same_draw other tx then Some ((asked_link core body heard).group, is_some (watcher_link core body heard)) else None
+asked_by tx core (Promised other offer) = None
+asked_by tx core (Watching other watch) = None
+
+-- the first replica that runs tells it whose group asks
+abbrev pub asked_in : Draw → List ReplicaState → Option (Draw × Bool)
+asked_in tx [] = None
+asked_in tx (r ∷ replicas) =
+    if r.running && is_some (asked_by tx r.group.core r.group.core.lock)
+    then asked_by tx r.group.core r.group.core.lock
+    else asked_in tx replicas
+
+-- ---- groups
+
+-- these names, and those of more that are new
+abbrev pub with_names : List Draw → List Draw → List Draw
+with_names names [] = names
+with_names names (name ∷ more) = with_names (if list_any (λ other. same_draw other name) names then names else names ++ name ∷ []) more
+
+-- the names of all replicas after so many rows, as they came
+abbrev pub names_upto : List (Seat Player) → Rows → ℕ → List Draw
+names_upto births rows zero = with_names [] (map name_of (all_replicas births []))
+names_upto births rows (suc n) = with_names (names_upto births rows n) (map name_of (all_replicas births (take (suc n) rows)))
+
+-- .. after these rows
+abbrev pub names_at : List (Seat Player) → Rows → List Draw
+names_at births rows = names_upto births rows (length rows)
+
+-- ---- how far clients reach
+
+-- where a group went, as some replica of it knows
+abbrev pub went_in : Draw → List ReplicaState → Option Route
+went_in group [] = None
+went_in group (r ∷ replicas) = if same_draw (name_of r) group && is_some r.group.core.gone then r.group.core.gone else went_in group replicas
+
+-- by how many ends, so many at most, a group is away from one that stands
+abbrev pub ends_by : ℕ → List ReplicaState → Draw → ℕ
+ends_by zero replicas group = 0
+ends_by (suc n) replicas group = elim (went_in group replicas) [ None ↦ 0 | Some into ↦ 1 + ends_by n replicas into.group ]
+
+-- the groups of these names that stand, and by how many ends the others are away
+abbrev pub reach_in : ℕ → List Draw → List ReplicaState → Reach
+reach_in most names replicas = record {
+  stands = filter (λ name. not (is_some (went_in name replicas))) names;
+  ends = ends_by (length names) replicas;
+  most = most;
+}
+
+-- ---- the chart
+
+-- The chart of some rows, where no way is longer than this, and no client is sent on more often than that.
+abbrev pub chart_at : ℕ → ℕ → System Player Mail OrderLine → Rows → Chart
+chart_at far sent s rows = record {
+  ways = record {
+    far = far_at far s.births (quiet_front s rows);
+    most = far;
+    asks = λ tx. asked_in tx (all_replicas s.births rows);
+  };
+  groups = names_at s.births rows;
+  reach = reach_in sent (names_at s.births (quiet_front s rows)) (all_replicas s.births (quiet_front s rows));
+}

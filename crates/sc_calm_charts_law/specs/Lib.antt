@@ -1,0 +1,3 @@
+pub mod Charting
+pub mod Following
+pub mod Fronts

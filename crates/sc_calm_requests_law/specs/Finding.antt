@@ -1,0 +1,38 @@
+-- That mail finds what it needs while clients ask, between two orders of a calm journal.
+use Rattle.std.specs.Prelude.{◌≡◌, ℕ, ◌+◌, ◌≤◌, List}
+use Rattle.sc_base.specs.Among.{Among, Each}
+use Rattle.sc_base.specs.Limits.{client_actor}
+use Rattle.sc_base.specs.declared.names.Draw.{Draw}
+use Rattle.sc_base.specs.declared.ops.Op.{Op}
+use Rattle.sc_cmd.specs.declared.links.Route.{Route}
+use Rattle.sc_cmd.specs.declared.orders.OrderLine.{OrderLine}
+use Rattle.sc_mail.specs.declared.bodies.Mail.{Mail}
+use Rattle.sc_mail.specs.declared.roles.Role.TheVariants.{Node}
+use Rattle.sc_actor.specs.declared.rows.Row.{Row}
+use Rattle.sc_node_table.specs.Node.{NodeState}
+use Rattle.sc_scenario.specs.declared.scenarios.Scenario.{Scenario}
+use Rattle.sc_calm_law.specs.Charts.{Chart}
+use Rattle.sc_calm_law.specs.Executing.{AreBounded}
+use Rattle.sc_calm_law.specs.Keeping.{IsCalmFor}
+use Rattle.sc_calm_law.specs.Laws.{MayPump}
+use Rattle.sc_calm_law.specs.Parties.{Elsewhere, StandsOnce}
+use Rattle.sc_budget_law.specs.CalmNode.{Setting, IsHome, HasGoneTo, IsSetting, IsCalmNode, IsCalmMail, ComesInTime}
+use Rattle.sc_budget_law.specs.Frames.{Frame}
+use Rattle.sc_budget_law.specs.PlainClient.{IsBegun}
+
+-- A chart counts as requests find it: ways as the setting has them, each group of which there is a replica once, those that stand reached and all others away from one that stands by as many ends as lead there.
+pub record CountsAs (set : Setting) (chart : Chart) : Type 0 where
+  pub bounded : AreBounded chart.ways
+  pub far : (group : Draw) (node : ℕ) → chart.ways.far group node ≡ set.ways.far group node
+  pub named : (group : Draw) (node : ℕ) → IsHome set group node → StandsOnce group chart.groups
+  pub stand : (frame : Frame) → Among frame set.frames → Among frame.core.id chart.reach.stands × (chart.reach.ends frame.core.id ≡ 0)
+  pub go : (group : Draw) (into : Route) → HasGoneTo set group into → Each (λ other. other ≡ group → ⊥) chart.reach.stands × (chart.reach.ends into.group + 1 ≤ chart.reach.ends group)
+
+-- A node whose replicas may all pump finds what it needs in each mail of requests that comes to it when it is due.
+abbrev pub RequestsAreTakenCalmly : Type 0
+RequestsAreTakenCalmly =
+    (scenario : Scenario) (rows : List (Row Mail OrderLine)) (set : Setting) (chart : Chart) (elsewhere : Elsewhere) (node : NodeState) (mail : Mail)
+    → IsSetting set → CountsAs set chart → IsCalmNode (IsBegun scenario rows) set node → Each MayPump node.replicas
+    → IsCalmMail (IsBegun scenario rows) set mail → mail.to ≡ node.me
+    → ((client seq : ℕ) (op : Op) → IsBegun scenario rows client seq op → node.me ≡ client_actor client → ⊥) → ComesInTime (IsBegun scenario rows) set node mail
+    → IsCalmFor chart elsewhere mail (Node node)

@@ -1,0 +1,10 @@
+use Rattle.std.proofs.Common.{subst, sym}
+use Rattle.crossbeam_queue.specs.Passes.{view}
+use Rattle.sc_lend.specs.Lending.{MayGiveBack}
+use Rattle.sc_lend.proofs.Keeps.{gives_back}
+use Rattle.sc_lend.proofs.office.give_back.Goals as goal
+
+pub push_as-requires-clause-rule : goal.push_as-requires-clause-rule
+push_as-requires-clause-rule g c =
+    let may : MayGiveBack g.T.Labour.leaves (view c.loop.pass) c.loop.next = subst (λ v. MayGiveBack g.T.Labour.leaves v c.loop.next) (sym c.loop.invariant.same) (subst (MayGiveBack g.T.Labour.leaves (view c.args.pass.now)) (sym c.loop.invariant.next) c.requires.may) in
+    (gives_back g.T.Labour.leaves _ _ _ _ may, λ items views k at. tt)

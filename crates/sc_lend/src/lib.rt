@@ -1,0 +1,10 @@
+//! Work that is lent to threads which are kept, and comes back.
+#![tactic(auto)]
+
+mod lender;
+mod office;
+mod rule;
+
+pub use lender::Lender;
+pub use office::{Helper, Office, help_all, open};
+pub use rule::{Clerk, Labour, Loan};

@@ -1,0 +1,352 @@
+//! Lending, helping and taking back.
+ghost use Rattle.std.specs.Prelude.{◌≡◌, ◌<◌, All, true, length, vec_len, IfOk, IfErr, IfSome};
+ghost use Rattle.std.specs.Fn.{FnReturns};
+ghost use Rattle.crossbeam_queue.specs.Passes.{view, IsPassOf};
+ghost use Rattle.sc_lend.specs.Lending.{MayGiveBack, Finished, IsLeft, IsLentUnder, IsLonger};
+ghost use Rattle.sc_lend.specs.Offices.{IsLenderOf, IsHelperOf, lent_by};
+
+use crate::lender::Lender;
+use crate::rule::{Clerk, GivesBack, Hire, Labour, Lending, Lends, Loan, Takes};
+use crossbeam_queue::{Pass, RuledArrayQueue};
+use std::alloc::{AllocError, Global};
+use std::sync::Wait;
+use std::sync::atomic::{AtomicU64, Ordering};
+use std::thread;
+use std::thread::Threads;
+
+/// How often one that helps looks before it sleeps: more often than there are loans at one time, so
+/// that it comes to each that was not begun.
+const LOOKS_TO_HELP: u32 = 32;
+
+/// How often the one that lends looks before it sleeps.
+const LOOKS_TO_COLLECT: u32 = 1_000;
+
+/// A queue of loans under the rule.
+pub type Bench<T> = RuledArrayQueue<Loan<T>, Clerk<T>, Lending<T>>;
+
+/// A pass of one that helps.
+pub type Helper<T> = Pass<Loan<T>, Clerk<T>>;
+
+// What working leaves of a loan, which may have been worked before.
+fn finished<T: Labour, F: Fn(T) -> T>(f: &F, loan: Loan<T>) -> Loan<T>
+    requires calls { F.IsAlwaysCallable f.now }
+    requires leaves { (x y : T) → FnReturns F.Fn f.now (x, tt) y → T.leaves x y }
+    ensures { Finished T.leaves loan result }
+{
+    if loan.done {
+        return loan;
+    }
+    let Loan {
+        number,
+        done: _,
+        work,
+    } = loan;
+    Loan {
+        number,
+        done: true,
+        work: f(work),
+    }
+}
+
+// Gives back what it may. The queue has room for all that is lent at one time, and else this waits.
+fn give_back<T: Labour, R: Wait>(
+    rt: &R,
+    bench: &Bench<T>,
+    pass: &mut Pass<Loan<T>, Clerk<T>>,
+    loan: Loan<T>,
+)
+    requires pass { IsPassOf bench.now pass.old }
+    requires may { MayGiveBack T.leaves (view pass.old) loan }
+    ensures pass { IsPassOf bench.now pass.new }
+    ensures same { view pass.new ≡ view pass.old }
+{
+    let mut next = loan;
+    for _ in rt.forever() {
+        match bench.push_as::<GivesBack<T>, R>(rt, pass, next) {
+            Ok(()) => return,
+            Err(again) => {
+                next = again;
+                thread::yield_now();
+            }
+        }
+    }
+    unreachable!()
+}
+
+// The number on which a sleep waits.
+fn low(count: u64) -> u32 {
+    (count % (1 << 32)) as u32
+}
+
+/// A place where work is lent: the queue, and two bells. One is rung when more is lent and at the
+/// end, the other when something is given back. The bells and the counts of those who sleep carry
+/// no fact: they only save looks.
+#[derive(Drop)]
+pub struct Office<T: Labour> {
+    pub(crate) bench: Bench<T>,
+    bell: AtomicU64,
+    asleep: AtomicU64,
+    closed: AtomicU64,
+    returns: AtomicU64,
+    awaited: AtomicU64,
+}
+
+impl<T: Labour> Office<T> {
+    // Takes what lies first, works it where it was not begun, and gives it back. Answers whether it
+    // was to be worked, and None where there was nothing.
+    fn help_once<F: Fn(T) -> T, R: Wait>(
+        &self,
+        rt: &R,
+        f: &F,
+        helper: &mut Helper<T>,
+    ) -> Option<bool>
+        requires calls { F.IsAlwaysCallable f.now }
+        requires leaves { (x y : T) → FnReturns F.Fn f.now (x, tt) y → T.leaves x y }
+        requires pass { IsHelperOf self.now helper.old }
+        ensures pass { IsHelperOf self.now helper.new }
+    {
+        let Some(loan) = self.bench.pop_as::<Takes<T>, R>(rt, helper) else {
+            return None;
+        };
+        let fresh = !loan.done;
+        let left = finished(f, loan);
+        give_back(rt, &self.bench, helper, left);
+        self.returns.fetch_add(1, Ordering::SeqCst);
+        if self.awaited.load(Ordering::SeqCst) != 0 {
+            self.returns.wake_all();
+        }
+        Some(fresh)
+    }
+
+    // Looks for something to be worked, and works it. False where there was nothing.
+    fn help_some<F: Fn(T) -> T, R: Wait>(&self, rt: &R, f: &F, helper: &mut Helper<T>) -> bool
+        requires calls { F.IsAlwaysCallable f.now }
+        requires leaves { (x y : T) → FnReturns F.Fn f.now (x, tt) y → T.leaves x y }
+        requires pass { IsHelperOf self.now helper.old }
+        ensures pass { IsHelperOf self.now helper.new }
+    {
+        for _ in 0..LOOKS_TO_HELP {
+            match self.help_once(rt, f, helper) {
+                Some(true) => return true,
+                Some(false) => {}
+                None => return false,
+            }
+        }
+        false
+    }
+
+    // Helps until the office is closed, and sleeps where there is nothing to be worked.
+    fn help<F: Fn(T) -> T, R: Wait>(&self, rt: &R, f: &F, mut helper: Helper<T>)
+        requires calls { F.IsAlwaysCallable f.now }
+        requires leaves { (x y : T) → FnReturns F.Fn f.now (x, tt) y → T.leaves x y }
+        requires pass { IsHelperOf self.now helper }
+    {
+        for _ in rt.forever() {
+            let rung = self.bell.load(Ordering::SeqCst);
+            if self.closed.load(Ordering::SeqCst) != 0 {
+                return;
+            }
+            if !self.help_some(rt, f, &mut helper) {
+                self.asleep.fetch_add(1, Ordering::SeqCst);
+                self.bell.park(rt, low(rung));
+                self.asleep.fetch_sub(1, Ordering::SeqCst);
+            }
+        }
+        unreachable!()
+    }
+
+    /// Nothing is lent any more, and those who help end.
+    pub fn close(&self) {
+        self.closed.store(1, Ordering::SeqCst);
+        self.bell.fetch_add(1, Ordering::SeqCst);
+        self.bell.wake_all();
+    }
+
+    /// Lends a piece of work, and answers its number, or hands it back where no more can be lent.
+    pub fn lend<R: Wait>(&self, rt: &R, lender: &mut Lender<T>, work: T) -> Result<u64, T>
+        requires pass { IsLenderOf self.now lender.old }
+        ensures pass { IsLenderOf self.now lender.new }
+        ensures later { IsLonger (lent_by lender.old) (lent_by lender.new) }
+        ensures ok { IfOk result (λ number. IsLentUnder (lent_by lender.new) number work) }
+        ensures err { IfErr result (λ back. back ≡ work) }
+    {
+        let number = lender.next;
+        if number == u64::MAX {
+            return Err(work);
+        }
+        let loan = Loan {
+            number,
+            done: false,
+            work,
+        };
+        match self
+            .bench
+            .push_as::<Lends<T>, R>(rt, &mut lender.pass, loan)
+        {
+            Ok(()) => {
+                lender.next = number + 1;
+                self.ring();
+                Ok(number)
+            }
+            Err(back) => {
+                let Loan {
+                    number: _,
+                    done: _,
+                    work,
+                } = back;
+                Err(work)
+            }
+        }
+    }
+
+    // Tells those who sleep that more is lent. One wakes.
+    fn ring(&self) {
+        self.bell.fetch_add(1, Ordering::SeqCst);
+        if self.asleep.load(Ordering::SeqCst) != 0 {
+            self.bell.wake_one();
+        }
+    }
+
+    // A look for what is left of what was lent under this number. What is found and was not begun is
+    // worked here.
+    fn look<F: Fn(T) -> T, R: Wait>(
+        &self,
+        rt: &R,
+        f: &F,
+        lender: &mut Lender<T>,
+        wanted: u64,
+    ) -> Option<T>
+        requires calls { F.IsAlwaysCallable f.now }
+        requires leaves { (x y : T) → FnReturns F.Fn f.now (x, tt) y → T.leaves x y }
+        requires pass { IsLenderOf self.now lender.old }
+        ensures pass { IsLenderOf self.now lender.new }
+        ensures same { lent_by lender.new ≡ lent_by lender.old }
+        ensures left { IfSome result
+            (λ left. IsLeft T.leaves (lent_by lender.old) wanted left) }
+    {
+        let Some(loan) = self.bench.pop_as::<Takes<T>, R>(rt, &mut lender.pass) else {
+            return None;
+        };
+        let left = finished(f, loan);
+        if left.number != wanted {
+            give_back(rt, &self.bench, &mut lender.pass, left);
+            return None;
+        }
+        let Loan {
+            number: _,
+            done: _,
+            work,
+        } = left;
+        Some(work)
+    }
+
+    // Looks for what is left of what was lent under this number.
+    fn looks<F: Fn(T) -> T, R: Wait>(
+        &self,
+        rt: &R,
+        f: &F,
+        lender: &mut Lender<T>,
+        wanted: u64,
+    ) -> Option<T>
+        requires calls { F.IsAlwaysCallable f.now }
+        requires leaves { (x y : T) → FnReturns F.Fn f.now (x, tt) y → T.leaves x y }
+        requires pass { IsLenderOf self.now lender.old }
+        ensures pass { IsLenderOf self.now lender.new }
+        ensures same { lent_by lender.new ≡ lent_by lender.old }
+        ensures left { IfSome result
+            (λ left. IsLeft T.leaves (lent_by lender.old) wanted left) }
+    {
+        for _ in 0..LOOKS_TO_COLLECT {
+            if let Some(work) = self.look(rt, f, lender, wanted) {
+                return Some(work);
+            }
+        }
+        None
+    }
+
+    /// What is left of what was lent under this number. Where nobody has begun it, it is worked
+    /// here.
+    pub fn collect<F: Fn(T) -> T, R: Wait>(
+        &self,
+        rt: &R,
+        f: &F,
+        lender: &mut Lender<T>,
+        wanted: u64,
+    ) -> T
+        requires calls { F.IsAlwaysCallable f.now }
+        requires leaves { (x y : T) → FnReturns F.Fn f.now (x, tt) y → T.leaves x y }
+        requires pass { IsLenderOf self.now lender.old }
+        ensures pass { IsLenderOf self.now lender.new }
+        ensures same { lent_by lender.new ≡ lent_by lender.old }
+        ensures left { IsLeft T.leaves (lent_by lender.old) wanted result }
+    {
+        for _ in rt.forever() {
+            let seen = self.returns.load(Ordering::SeqCst);
+            if let Some(work) = self.looks(rt, f, lender, wanted) {
+                return work;
+            }
+            self.awaited.store(1, Ordering::SeqCst);
+            self.returns.park(rt, low(seen));
+            self.awaited.store(0, Ordering::SeqCst);
+        }
+        unreachable!()
+    }
+}
+
+/// Those who help, each in a thread of its own where one can be made, until the office is closed.
+/// Without memory none helps.
+pub fn help_all<T: Labour + Send, F: Fn(T) -> T + Sync, R: Threads + Wait + Sync>(
+    rt: &R,
+    office: &Office<T>,
+    f: &F,
+    helpers: Vec<Helper<T>>,
+)
+    requires calls { F.IsAlwaysCallable f.now }
+    requires leaves { (x y : T) → FnReturns F.Fn f.now (x, tt) y → T.leaves x y }
+    requires passes { All (λ p. IsHelperOf office.now p) helpers.items }
+{
+    let _ = thread::map_vec(rt, helpers, &|helper| office.help(rt, f, helper));
+}
+
+// So many passes of those who help.
+fn hired<T: Labour>(
+    alloc: Global,
+    bench: &Bench<T>,
+    pass: &mut Pass<Loan<T>, Clerk<T>>,
+    many: usize,
+) -> Result<Vec<Helper<T>>, AllocError>
+    requires pass { IsPassOf bench.now pass.old }
+    ensures pass { IsPassOf bench.now pass.new }
+    ensures same { view pass.new ≡ view pass.old }
+    ensures each { IfOk result (λ v. (vec_len v ≡ many) × All (λ p. IsPassOf bench.now p) v.items) }
+{
+    let mut passes = Vec::new(alloc);
+    for _ in 0..many {
+        passes.push(bench.another::<Hire<T>>(pass))?;
+    }
+    Ok(passes)
+}
+
+/// A new office, in which so much may be lent at one time, with so many passes for those who help.
+pub fn open<T: Labour>(
+    alloc: Global,
+    room: usize,
+    helpers: usize,
+) -> Result<(Office<T>, Lender<T>, Vec<Helper<T>>), AllocError>
+    requires { 0 < room }
+    ensures pass { IfOk result (λ o. IsLenderOf o.0 o.1) }
+    ensures helpers { IfOk result
+        (λ o. (vec_len o.2 ≡ helpers) × All (λ p. IsHelperOf o.0 p) o.2.items) }
+{
+    let (bench, mut pass) = Bench::ruled(alloc, room)?;
+    let passes = hired(alloc, &bench, &mut pass, helpers)?;
+    let office = Office {
+        bench,
+        bell: AtomicU64::new(0),
+        asleep: AtomicU64::new(0),
+        closed: AtomicU64::new(0),
+        returns: AtomicU64::new(0),
+        awaited: AtomicU64::new(0),
+    };
+    Ok((office, Lender { pass, next: 0 }, passes))
+}

@@ -1,0 +1,240 @@
+//! Runs of shells that work at the same time, lent to threads which are kept.
+ghost use Rattle.std.specs.Prelude.{◌≡◌, ◌<◌, ◌≤◌, ◌+◌, ◌++◌, All, length, vec_len, vec_capacity};
+ghost use Rattle.sc_lend.specs.Lending.{IsLonger};
+ghost use Rattle.sc_lend.specs.Offices.{IsHelperOf, IsLenderOf, lent_by};
+ghost use Rattle.sc_workers.specs.Crews.{AllTook};
+ghost use Rattle.sc_workers.specs.Runs.{IsSent, RunTook};
+
+use crate::turns::{any_of, turns};
+use sc_actor::{Actor, Gate};
+use sc_lend::{Helper, Labour, Lender, Office, help_all};
+use sc_shell::Shell;
+use std::alloc::Global;
+use std::sync::Wait;
+use std::thread::Threads;
+
+/// Neighbours among the shells, which take their turns one after the other.
+#[derive(Drop)]
+pub(crate) struct Run<A: Actor> {
+    pub(crate) shells: Vec<Shell<A>>,
+}
+
+impl<A: Actor> Labour for Run<A> {
+    ghost use Rattle.sc_workers.specs.Runs.{RunTook};
+
+    ghost leaves = { RunTook };
+}
+
+// Where a run is that was sent off: lent under a number, or here, where it took its turns.
+#[derive(Drop)]
+pub(crate) enum Sent<A: Actor> {
+    Lent(u64),
+    Here(Run<A>),
+}
+
+// The shells of a vector take their turns.
+fn turns_of<A: Actor, G: Gate, R: Wait>(rt: &R, alloc: Global, gate: &G, shells: &mut Vec<Shell<A>>)
+    ensures len { length shells.new.items ≡ length shells.old.items }
+    ensures capacity { vec_capacity shells.new ≡ vec_capacity shells.old }
+    ensures took { AllTook shells.old.items shells.new.items }
+{
+    let all = shells.as_mut_slice();
+    turns(rt, alloc, gate, all);
+}
+
+// The shells of a run take their turns.
+fn run_turns<A: Actor, G: Gate, R: Wait>(rt: &R, alloc: Global, gate: &G, run: Run<A>) -> Run<A>
+    ensures { RunTook run result }
+{
+    let Run { mut shells } = run;
+    turns_of(rt, alloc, gate, &mut shells);
+    Run { shells }
+}
+
+// A run is lent, or takes its turns here, where it is not to be lent or cannot be.
+fn send<A: Actor, G: Gate, R: Wait>(
+    rt: &R,
+    alloc: Global,
+    gate: &G,
+    desk: &Office<Run<A>>,
+    lender: &mut Lender<Run<A>>,
+    has_mail: bool,
+    run: Run<A>,
+) -> Sent<A>
+    requires lender { IsLenderOf desk.now lender.old }
+    ensures lender { IsLenderOf desk.now lender.new }
+    ensures later { IsLonger (lent_by lender.old) (lent_by lender.new) }
+    ensures sent { IsSent (lent_by lender.new) run result }
+{
+    if !has_mail {
+        return Sent::Here(run_turns(rt, alloc, gate, run));
+    }
+    match desk.lend(rt, lender, run) {
+        Ok(number) => Sent::Lent(number),
+        Err(back) => Sent::Here(run_turns(rt, alloc, gate, back)),
+    }
+}
+
+// A run that was sent off comes back.
+fn fetch<A: Actor, G: Gate, R: Wait>(
+    rt: &R,
+    alloc: Global,
+    gate: &G,
+    desk: &Office<Run<A>>,
+    lender: &mut Lender<Run<A>>,
+    sent: Sent<A>,
+) -> Run<A>
+    requires lender { IsLenderOf desk.now lender.old }
+    ensures lender { IsLenderOf desk.now lender.new }
+    ensures same { lent_by lender.new ≡ lent_by lender.old }
+    ensures back { (run : _) → IsSent (lent_by lender.old) run sent → RunTook run result }
+{
+    match sent {
+        Sent::Here(run) => run,
+        Sent::Lent(number) => desk.collect(
+            rt,
+            &|run: Run<A>| -> Run<A>
+                ensures { RunTook run result }
+            { run_turns(rt, alloc, gate, run) },
+            lender,
+            number,
+        ),
+    }
+}
+
+// A run is put behind the others. There is room, since it stood there before.
+fn join<A: Actor>(shells: &mut Vec<Shell<A>>, run: Run<A>)
+    requires fits { vec_len shells.old + vec_len run.shells ≤ vec_capacity shells.old }
+    ensures items { shells.new.items ≡ shells.old.items ++ run.shells.items }
+    ensures capacity { vec_capacity shells.old ≤ vec_capacity shells.new }
+{
+    let Run { shells: mut more } = run;
+    match shells.append(&mut more) {
+        Ok(()) => {}
+        Err(_) => unreachable!(),
+    }
+}
+
+// Where the last of the runs of `size` begins among so many shells, and 0 where there is one run.
+fn last_start(many: usize, size: usize) -> usize
+    requires { 0 < size }
+    ensures inside { result ≤ many }
+    ensures less { 0 < result → result < many }
+{
+    let past = many % size;
+    let last = if past == 0 { size } else { past };
+    many.saturating_sub(last)
+}
+
+// Whether mail waits for one of so many shells, from this one on.
+fn mail_in(waits: &[bool], from: usize, many: usize) -> bool {
+    waits.iter().skip(from).take(many).any(|wait| *wait)
+}
+
+// Each shell takes a turn. From the end on, runs with mail are lent while mail waits before them;
+// the first run with mail takes its turns here, behind those before it, and then what was lent and
+// nobody has begun. Without memory to part the shells they take their turns here.
+fn apart<A: Actor, G: Gate, R: Wait>(
+    rt: &R,
+    alloc: Global,
+    gate: &G,
+    desk: &Office<Run<A>>,
+    lender: &mut Lender<Run<A>>,
+    waits: &[bool],
+    size: usize,
+    shells: &mut Vec<Shell<A>>,
+)
+    requires size { 0 < size }
+    requires lender { IsLenderOf desk.now lender.old }
+    ensures lender { IsLenderOf desk.now lender.new }
+    ensures later { IsLonger (lent_by lender.old) (lent_by lender.new) }
+    ensures len { length shells.new.items ≡ length shells.old.items }
+    ensures capacity { vec_capacity shells.old ≤ vec_capacity shells.new }
+    ensures took { AllTook shells.old.items shells.new.items }
+{
+    let cut = last_start(shells.len(), size);
+    if cut == 0 || !mail_in(waits, 0, cut) {
+        turns_of(rt, alloc, gate, shells);
+        return;
+    }
+    let Ok(last) = shells.split_off(cut) else {
+        turns_of(rt, alloc, gate, shells);
+        return;
+    };
+    let has_mail = mail_in(waits, cut, size);
+    let sent = send(
+        rt,
+        alloc,
+        gate,
+        desk,
+        lender,
+        has_mail,
+        Run { shells: last },
+    );
+    apart(rt, alloc, gate, desk, lender, waits, size, shells);
+    let run = fetch(rt, alloc, gate, desk, lender, sent);
+    join(shells, run);
+}
+
+// In how many runs of `size` mail waits.
+fn busy_runs(waits: &[bool], size: usize) -> usize
+    requires { 0 < size }
+{
+    let mut busy = 0usize;
+    for run in waits.chunks(size) {
+        if any_of(run) {
+            busy = busy.saturating_add(1);
+        }
+    }
+    busy
+}
+
+/// Each shell takes a turn, runs of `size` neighbours at the same time. `waits` tells for which of
+/// the shells mail waits.
+///
+/// No run with mail waits for another with mail, where as many help as there are others: the first
+/// takes its turns here, and the others are lent. What nobody has begun when that is done takes its
+/// turns here too. Where mail waits in one run alone, nothing is lent.
+pub(crate) fn at_once<A: Actor, G: Gate, R: Wait>(
+    rt: &R,
+    alloc: Global,
+    gate: &G,
+    desk: &Office<Run<A>>,
+    lender: &mut Lender<Run<A>>,
+    waits: &[bool],
+    size: usize,
+    shells: &mut Vec<Shell<A>>,
+)
+    requires size { 0 < size }
+    requires lender { IsLenderOf desk.now lender.old }
+    ensures lender { IsLenderOf desk.now lender.new }
+    ensures len { length shells.new.items ≡ length shells.old.items }
+    ensures took { AllTook shells.old.items shells.new.items }
+{
+    if busy_runs(waits, size) < 2 {
+        turns_of(rt, alloc, gate, shells);
+    } else {
+        apart(rt, alloc, gate, desk, lender, waits, size, shells);
+    }
+}
+
+/// Those who help give runs that were lent their turns, each in a thread of its own, until the desk
+/// is closed.
+pub(crate) fn help<A: Actor, G: Gate, R: Threads + Wait + Sync>(
+    rt: &R,
+    alloc: Global,
+    gate: &G,
+    desk: &Office<Run<A>>,
+    helpers: Vec<Helper<Run<A>>>,
+)
+    requires { All (λ p. IsHelperOf desk.now p) helpers.items }
+{
+    help_all(
+        rt,
+        desk,
+        &|run: Run<A>| -> Run<A>
+            ensures { RunTook run result }
+        { run_turns(rt, alloc, gate, run) },
+        helpers,
+    );
+}
