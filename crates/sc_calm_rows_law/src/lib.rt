@@ -16,8 +16,8 @@ ghost use Rattle.sc_calm_rows_law.specs.Turns.{NamesStay, OthersHearNothing, Oth
 ghost use Rattle.sc_calm_rows_law.specs.WellKept.{NodesAreBornWellKept, NodesStayWellKept};
 
 /// Each row that comes in time is a row of each group: what is delivered is the first of its
-/// receiver's mail, what is sent to each comes behind its mail, and the other nodes stay where they
-/// are.
+/// receiver's mail, what is sent to each comes behind its mail, and the other nodes stay where
+/// they are.
 pub fn rows_are_of_groups()
     ensures { RowsAreOfGroups }
 {}
@@ -67,8 +67,8 @@ pub fn steps_elect()
     ensures { StepsElect }
 {}
 
-/// A leader's row in its table is one in its group, whatever it takes; and where it leads on, it leads
-/// in the group's course after it.
+/// A leader's row in its table is one in its group, whatever it takes; and where it leads on, it
+/// leads in the group's course after it.
 pub fn steps_lead()
     ensures { StepsLead }
 {}
@@ -90,28 +90,28 @@ pub fn children_begin_following()
     ensures { ChildrenBeginFollowing }
 {}
 
-/// The replica that leads a group is left as it is by a row of another, by one in which it is made,
-/// and by its own where it accepts or promises.
+/// The replica that leads a group is left as it is by a row of another, by one in which it is
+/// made, and by its own where it accepts or promises.
 pub fn leads_stay()
     ensures { LeadsStay }
 {}
 
 /// A group that follows its leader after some rows does so after one more that comes in time: one
-/// that does nothing in the group, of a node that takes a mail, of the leader, or of one that elects
-/// itself.
+/// that does nothing in the group, of a node that takes a mail, of the leader, or of one that
+/// elects itself.
 pub fn rows_keep_following()
     ensures { RowsKeepFollowing }
 {}
 
-/// A replica that does not run stays where it is by mail that is no part of the agreement, and by an
-/// order, and sends nothing of its group.
+/// A replica that does not run stays where it is by mail that is no part of the agreement, and by
+/// an order, and sends nothing of its group.
 pub fn asides_stay_still()
     ensures { AsidesStayStill }
 {}
 
-/// A mail of agreement that comes to a node of its group leaves the group following its leader: one
-/// that asks to accept or to promise, an entry by which the node does not elect itself, a state, and
-/// whatever else comes to one that does not lead.
+/// A mail of agreement that comes to a node of its group leaves the group following its leader:
+/// one that asks to accept or to promise, an entry by which the node does not elect itself, a
+/// state, and whatever else comes to one that does not lead.
 pub fn nodes_keep_following()
     ensures { NodesKeepFollowing }
 {}
@@ -150,20 +150,20 @@ pub fn nodes_are_born_well_kept()
     ensures { NodesAreBornWellKept }
 {}
 
-/// In a quiet journal a group that follows its leader is even: its members have executed all, and if
-/// it stands, the replica at the node of its ballot leads, and no other runs.
+/// In a quiet journal a group that follows its leader is even: its members have executed all, and
+/// if it stands, the replica at the node of its ballot leads, and no other runs.
 pub fn quiet_groups_rest()
     ensures { QuietGroupsRest }
 {}
 
-/// A group follows its leader through a journal whose rows come in time, if it does so at first and
-/// each event keeps it so.
+/// A group follows its leader through a journal whose rows come in time, if it does so at first
+/// and each event keeps it so.
 pub fn groups_follow_through()
     ensures { GroupsFollowThrough }
 {}
 
-/// What asks to accept or to promise comes from the node of its ballot, in journals whose rows come
-/// in time, if each replica that runs at a birth does so with a ballot of its own.
+/// What asks to accept or to promise comes from the node of its ballot, in journals whose rows
+/// come in time, if each replica that runs at a birth does so with a ballot of its own.
 pub fn ballots_are_own()
     ensures { BallotsAreOwn }
 {}
