@@ -1,0 +1,4 @@
+pub mod InQuiet
+pub mod Lists
+pub mod Moves
+pub mod Told

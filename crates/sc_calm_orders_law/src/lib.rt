@@ -1,0 +1,23 @@
+//! What stands between the groups of an order that is under way alone: the stages of it, apart from
+//! tables, that each kind of row keeps them, and what of a replica's table is such a row.
+//! Definitions and laws, no logic.
+#![tactic(auto)]
+
+ghost use Rattle.sc_calm_orders_law.specs.Rows.{OrdersBegin, QuietIsStill, RestsKeep};
+
+/// Where no order is under way, one that a leader takes begins to be: its command stands at the
+/// leader, and no group is bound.
+pub fn orders_begin_alone()
+    ensures { OrdersBegin }
+{}
+
+/// A row that does nothing of an order leaves its stage.
+pub fn idle_rows_keep_orders()
+    ensures { RestsKeep }
+{}
+
+/// Where no mail of a transaction is under way and no leader has any work but calls, no group is
+/// bound.
+pub fn quiet_orders_are_over()
+    ensures { QuietIsStill }
+{}
