@@ -1,4 +1,5 @@
 pub mod InQuiet
 pub mod Lists
 pub mod Moves
+pub mod Questions
 pub mod Told

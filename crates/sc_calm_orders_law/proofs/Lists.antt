@@ -43,6 +43,10 @@ single y x (z ∷ before) behind e = (let f : [] ≡ before ++ (x ∷ behind) = 
 
 -- ---- what stands at names
 
+-- one thing at one name
+abbrev pub AreOne : {X : Type 0} → Draw × X → Draw × X → Type 0
+AreOne a b = a ≡ b
+
 -- a name stands in a list of names
 abbrev pub IsIn : {X : Type 0} → Draw → List (Draw × X) → Type 0
 IsIn name [] = ⊥

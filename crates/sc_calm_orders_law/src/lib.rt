@@ -3,7 +3,7 @@
 //! Definitions and laws, no logic.
 #![tactic(auto)]
 
-ghost use Rattle.sc_calm_orders_law.specs.Rows.{OrdersBegin, QuietIsStill, RestsKeep};
+ghost use Rattle.sc_calm_orders_law.specs.Rows.{FilesKeep, OrdersBegin, QuestionsKeep, QuietIsStill, RestsKeep};
 
 /// Where no order is under way, one that a leader takes begins to be: its command stands at the
 /// leader, and no group is bound.
@@ -14,6 +14,18 @@ pub fn orders_begin_alone()
 /// A row that does nothing of an order leaves its stage.
 pub fn idle_rows_keep_orders()
     ensures { RestsKeep }
+{}
+
+/// So do rows in which a question is sent on by one that does not lead, and in which the
+/// coordinator's leader, which is sent elsewhere, asks there.
+pub fn questions_keep_orders()
+    ensures { QuestionsKeep }
+{}
+
+/// So does a row in which a leader takes a question, a vote or an outcome, and is to put it into
+/// its log.
+pub fn takings_keep_orders()
+    ensures { FilesKeep }
 {}
 
 /// Where no mail of a transaction is under way and no leader has any work but calls, no group is
