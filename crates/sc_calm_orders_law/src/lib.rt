@@ -3,7 +3,7 @@
 //! Definitions and laws, no logic.
 #![tactic(auto)]
 
-ghost use Rattle.sc_calm_orders_law.specs.Rows.{FilesKeep, OrdersBegin, QuestionsKeep, QuietIsStill, RestsKeep};
+ghost use Rattle.sc_calm_orders_law.specs.Rows.{EntriesKeep, FilesKeep, OrdersBegin, QuestionsKeep, QuietIsStill, RestsKeep};
 
 /// Where no order is under way, one that a leader takes begins to be: its command stands at the
 /// leader, and no group is bound.
@@ -26,6 +26,13 @@ pub fn questions_keep_orders()
 /// its log.
 pub fn takings_keep_orders()
     ensures { FilesKeep }
+{}
+
+/// So does a row in which a leader executes the entry at which an order is: members come and go, or
+/// another group is asked; that one votes; the coordinator records a No, or decides, or hears its
+/// participant and asks the watcher; and a party to which the outcome came is free again.
+pub fn entries_keep_orders()
+    ensures { EntriesKeep }
 {}
 
 /// Where no mail of a transaction is under way and no leader has any work but calls, no group is
