@@ -1,8 +1,11 @@
 pub mod Begun
 pub mod Decided
+pub mod Errands
+pub mod Filing
 pub mod InQuiet
 pub mod Lists
 pub mod Moves
+pub mod Pumps
 pub mod Questions
 pub mod Told
 pub mod Works

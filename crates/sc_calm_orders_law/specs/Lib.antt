@@ -1,3 +1,5 @@
+pub mod Parts
+pub mod Rows
 pub mod Scenes
 pub mod Stages
-pub mod Rows
+pub mod Tables

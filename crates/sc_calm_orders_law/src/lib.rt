@@ -4,6 +4,7 @@
 #![tactic(auto)]
 
 ghost use Rattle.sc_calm_orders_law.specs.Rows.{EntriesKeep, FilesKeep, OrdersBegin, QuestionsKeep, QuietIsStill, RestsKeep};
+ghost use Rattle.sc_calm_orders_law.specs.Tables.{PumpsKeepWork, TablesAskOn, TablesFile, TablesPass};
 
 /// Where no order is under way, one that a leader takes begins to be: its command stands at the
 /// leader, and no group is bound.
@@ -39,4 +40,26 @@ pub fn entries_keep_orders()
 /// bound.
 pub fn quiet_orders_are_over()
     ensures { QuietIsStill }
+{}
+
+/// A pump leaves the one work of an order that a leader has where it is: it waits, is in flight or
+/// is ready; and it sends no mail of a transaction.
+pub fn pumps_keep_work()
+    ensures { PumpsKeepWork }
+{}
+
+/// A leader that has nothing to do but calls takes a question on which no vote stands, a vote for
+/// which it waits, and an outcome of the transaction that binds it, as its one work.
+pub fn leaders_file_orders()
+    ensures { TablesFile }
+{}
+
+/// A replica that does not run, and a node without one, sends the coordinator's node elsewhere.
+pub fn tables_pass_questions()
+    ensures { TablesPass }
+{}
+
+/// A settled coordinator that is sent elsewhere asks there what it asks.
+pub fn tables_ask_on()
+    ensures { TablesAskOn }
 {}
