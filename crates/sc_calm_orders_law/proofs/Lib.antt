@@ -9,3 +9,4 @@ pub mod Pumps
 pub mod Questions
 pub mod Told
 pub mod Works
+pub mod Entries

@@ -3,3 +3,4 @@ pub mod Rows
 pub mod Scenes
 pub mod Stages
 pub mod Tables
+pub mod Entries

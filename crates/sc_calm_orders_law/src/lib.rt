@@ -3,6 +3,7 @@
 //! Definitions and laws, no logic.
 #![tactic(auto)]
 
+ghost use Rattle.sc_calm_orders_law.specs.Entries.{OrdersLeave, VotesLeave};
 ghost use Rattle.sc_calm_orders_law.specs.Rows.{EntriesKeep, FilesKeep, OrdersBegin, QuestionsKeep, QuietIsStill, RestsKeep};
 ghost use Rattle.sc_calm_orders_law.specs.Tables.{PumpsKeepWork, TablesAskOn, TablesFile, TablesPass};
 
@@ -62,4 +63,17 @@ pub fn tables_pass_questions()
 /// A settled coordinator that is sent elsewhere asks there what it asks.
 pub fn tables_ask_on()
     ensures { TablesAskOn }
+{}
+
+/// A group that is free sends no mail of a transaction by a join, a leave, a split of a group that
+/// is alone, or an order that is refused, and stays free; by another order that is begun it asks its
+/// successor, and is bound so.
+pub fn orders_leave()
+    ensures { OrdersLeave }
+{}
+
+/// A group that has not voted yet votes: it sends its vote to the node that asked, and is bound by
+/// a Yes alone.
+pub fn votes_leave()
+    ensures { VotesLeave }
 {}
