@@ -52,7 +52,7 @@ use Rattle.sc_calm_orders_law.proofs.Errands.{one-errand, errands-push, errand-o
 use Rattle.sc_calm_orders_law.proofs.Filing.{question-errand}
 
 -- nothing is sent
-nothing : IsOnly [] [] (λ name. errands_for name [])
+pub nothing : IsOnly [] [] (λ name. errands_for name [])
 nothing = (tt, λ name none. refl)
 
 -- ---- orders
@@ -206,16 +206,16 @@ module _ (me : ℕ) (before : Before) (tx : Draw) (by : ℕ) where
     sends = one-errand me by (TxOutcome tx before.succ.group outcome) asked (Result tx by) (ap (λ x. Some (x, Result tx by)) e);
   }
 
-  committed_leaves : (frozen : Frozen) (asked : Draw) (plan : Plan) (group : Group) (outcome : Outcome) → before.succ.group ≡ asked → decided_in (committed plan group tx).1 ≡ Some outcome
+  pub committed_leaves : (frozen : Frozen) (asked : Draw) (plan : Plan) (group : Group) (outcome : Outcome) → before.succ.group ≡ asked → decided_in (committed plan group tx).1 ≡ Some outcome
       → Leaves Unbound (results tx asked First by) (RecordVote tx (Says.Yes frozen) by) me before (committed plan group tx)
   committed_leaves frozen asked None group outcome e d = absurd cc
   committed_leaves frozen asked (Some plan) group outcome e d = decided_leaves frozen asked plan.0 plan.1 e
 
-  aborted_leaves : (why : No) (group : Group) → Leaves Unbound [] (RecordVote tx (Says.No why) by) me before (decided group tx Abort)
+  pub aborted_leaves : (why : No) (group : Group) → Leaves Unbound [] (RecordVote tx (Says.No why) by) me before (decided group tx Abort)
   unfolding went_on
   aborted_leaves why group = record { bond_is = refl; sends = nothing }
 
-  heard_leaves : (frozen : Frozen) (asked : Draw) (order : ℕ) (group : Group) → group.core.succ.group ≡ asked
+  pub heard_leaves : (frozen : Frozen) (asked : Draw) (order : ℕ) (group : Group) → group.core.succ.group ≡ asked
       → Leaves (Asking tx frozen.succ.group (Next asked by)) ((frozen.succ.group, Question tx group.core.id true me (least_of frozen.succ.members) ∷ []) ∷ []) (RecordVote tx (Says.Yes frozen) by) me before
           (heard_group group tx At.Merge order (record { frozen = frozen; by = by }), Was.Changed)
   unfolding went_on

@@ -213,7 +213,7 @@ module _ (act : Command) (work : Work) (r : ReplicaState) (is : work_by act ≡ 
 
 -- ---- by the bond
 
-watch_is : (core : Core) (body : Body) (heard : Option Heard) → asks_watcher body heard ≡ is_watch (turn_of core body heard)
+pub watch_is : (core : Core) (body : Body) (heard : Option Heard) → asks_watcher body heard ≡ is_watch (turn_of core body heard)
 watch_is core At.Merge None = refl
 watch_is core At.Merge (Some heard) = refl
 watch_is core (At.Repart at) None = refl

@@ -10,3 +10,4 @@ pub mod Questions
 pub mod Told
 pub mod Works
 pub mod Entries
+pub mod Records

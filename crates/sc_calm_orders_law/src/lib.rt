@@ -3,7 +3,7 @@
 //! Definitions and laws, no logic.
 #![tactic(auto)]
 
-ghost use Rattle.sc_calm_orders_law.specs.Entries.{OrdersLeave, VotesLeave};
+ghost use Rattle.sc_calm_orders_law.specs.Entries.{EndsLeave, OrdersLeave, RecordsLeave, VotesLeave, WatchRecordsLeave};
 ghost use Rattle.sc_calm_orders_law.specs.Rows.{EntriesKeep, FilesKeep, OrdersBegin, QuestionsKeep, QuietIsStill, RestsKeep};
 ghost use Rattle.sc_calm_orders_law.specs.Tables.{PumpsKeepWork, TablesAskOn, TablesFile, TablesPass};
 
@@ -76,4 +76,21 @@ pub fn orders_leave()
 /// a Yes alone.
 pub fn votes_leave()
     ensures { VotesLeave }
+{}
+
+/// A coordinator that records its participant's No is free, and sends nothing; by a Yes it decides
+/// and sends the outcome to the node that brought it, or it has heard it, and asks the watcher.
+pub fn records_leave()
+    ensures { RecordsLeave }
+{}
+
+/// One that records its watcher's Yes decides, and sends the outcome to the participant that it
+/// heard and to the watcher.
+pub fn watch_records_leave()
+    ensures { WatchRecordsLeave }
+{}
+
+/// A party that takes its outcome is free, and sends nothing.
+pub fn ends_leave()
+    ensures { EndsLeave }
 {}
