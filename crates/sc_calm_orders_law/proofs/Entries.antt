@@ -70,21 +70,21 @@ module _ (P : Group × Effect → Type 0) (group after : Group) where
   -- .. by whether it has begun
   changed_only : (draw : Draw) (b : Bool) (gone : Option Route) (why : Option OrderRefusal) → is_changed (cond {A = Group × Effect} b (group, Was.NoEffect draw) (ordered gone why after group)).1 ≡ true → P (after, Was.Changed)
       → P (cond b (group, Was.NoEffect draw) (ordered gone why after group))
-  changed_only draw true gone why e p = absurd cc
+  changed_only draw true went why e p = absurd cc
   changed_only draw false (Some into) why e p = absurd cc
   changed_only draw false None (Some why) e p = absurd cc
   changed_only draw false None None e p = p
 
   unchanged_only : (draw : Draw) (b : Bool) (gone : Option Route) (why : Option OrderRefusal) → is_changed (cond {A = Group × Effect} b (group, Was.NoEffect draw) (ordered gone why after group)).1 ≡ false
       → ((effect : Effect) → is_changed effect ≡ false → P (group, effect)) → P (cond b (group, Was.NoEffect draw) (ordered gone why after group))
-  unchanged_only draw true gone why e p = p _ refl
+  unchanged_only draw true went why e p = p _ refl
   unchanged_only draw false (Some into) why e p = p _ refl
   unchanged_only draw false None (Some why) e p = p _ refl
   unchanged_only draw false None None e p = absurd cc
 
   either_order : (draw : Draw) (b : Bool) (gone : Option Route) (why : Option OrderRefusal) → ((effect : Effect) → is_changed effect ≡ false → P (group, effect)) → P (after, Was.Changed)
       → P (cond b (group, Was.NoEffect draw) (ordered gone why after group))
-  either_order draw true gone why g a = g _ refl
+  either_order draw true went why g a = g _ refl
   either_order draw false (Some into) why g a = g _ refl
   either_order draw false None (Some why) g a = g _ refl
   either_order draw false None None g a = a

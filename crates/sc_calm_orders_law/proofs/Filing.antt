@@ -123,11 +123,11 @@ kind_none (RecordWatch tx vote by) (Finish other outcome) e = refl
 kind_none (RecordWatch tx vote by) (Watched other watch) e = refl
 kind_none (RecordWatch tx vote by) (RecordWatch other vote2 by2) e = cc
 
-left_none : {X : Type 0} (xs ys : List X) → xs ++ ys ≡ [] → xs ≡ []
+pub left_none : {X : Type 0} (xs ys : List X) → xs ++ ys ≡ [] → xs ≡ []
 left_none [] ys e = refl
 left_none (x ∷ xs) ys e = cc
 
-right_none : {X : Type 0} (xs ys : List X) → xs ++ ys ≡ [] → ys ≡ []
+pub right_none : {X : Type 0} (xs ys : List X) → xs ++ ys ≡ [] → ys ≡ []
 right_none [] ys e = e
 right_none (x ∷ xs) ys e = cc
 
@@ -177,7 +177,7 @@ module _ (act : Command) (r : ReplicaState) (flying_none : works_flying r.leader
   taken_kinds (slot ∷ slots) =
       taken_kind (taken_at r slot) (taken_from r slots) (taken_idle (flight_at slot r.leader.flights) (at_slot r.ready slot) (flight_idle r.leader.flights slot flying_none) (ready_idle r.ready slot ready_none)) ∙ taken_kinds slots
 
-works_more : (commands : List Command) (command : Command) → works_in (commands ++ command ∷ []) ≡ works_in commands ++ listed (work_by command)
+pub works_more : (commands : List Command) (command : Command) → works_in (commands ++ command ∷ []) ≡ works_in commands ++ listed (work_by command)
 works_more [] command = append-nil (listed (work_by command))
 works_more (first ∷ commands) command = ap (λ l. listed (work_by first) ++ l) (works_more commands command) ∙ sym (append_assoc (listed (work_by first)) (works_in commands) (listed (work_by command)))
 

@@ -11,3 +11,6 @@ pub mod Told
 pub mod Works
 pub mod Entries
 pub mod Records
+pub mod Adds
+pub mod Ordering
+pub mod Runs

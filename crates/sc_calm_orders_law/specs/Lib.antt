@@ -4,3 +4,4 @@ pub mod Scenes
 pub mod Stages
 pub mod Tables
 pub mod Entries
+pub mod Running

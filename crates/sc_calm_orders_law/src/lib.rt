@@ -5,6 +5,7 @@
 
 ghost use Rattle.sc_calm_orders_law.specs.Entries.{EndsLeave, OrdersLeave, RecordsLeave, VotesLeave, WatchRecordsLeave};
 ghost use Rattle.sc_calm_orders_law.specs.Rows.{EntriesKeep, FilesKeep, OrdersBegin, QuestionsKeep, QuietIsStill, RestsKeep};
+ghost use Rattle.sc_calm_orders_law.specs.Running.{EntriesRunAlone, TablesOrder};
 ghost use Rattle.sc_calm_orders_law.specs.Tables.{PumpsKeepWork, TablesAskOn, TablesFile, TablesPass};
 
 /// Where no order is under way, one that a leader takes begins to be: its command stands at the
@@ -93,4 +94,15 @@ pub fn watch_records_leave()
 /// A party that takes its outcome is free, and sends nothing.
 pub fn ends_leave()
     ensures { EndsLeave }
+{}
+
+/// A leader that executes an entry of an order, alone, has no work then, and sends the errands by
+/// which the transaction goes on, and no others.
+pub fn entries_run_alone()
+    ensures { EntriesRunAlone }
+{}
+
+/// An order that a leader takes is its work; one that it refuses changes nothing.
+pub fn tables_order()
+    ensures { TablesOrder }
 {}

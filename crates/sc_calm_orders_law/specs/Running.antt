@@ -1,0 +1,44 @@
+-- What a leader's table does by an entry of an order that it counted, alone; and with an order that it is told.
+use Rattle.std.specs.Prelude.{◌≡◌, ℕ, true, List, [], ◌∷◌, Option, Some, None}
+use Rattle.sc_base.specs.Drawing.{Drawer, next_name}
+use Rattle.sc_base.specs.declared.names.Draw.{Draw}
+use Rattle.sc_cmd.specs.declared.commands.Command.{Command}
+use Rattle.sc_cmd.specs.declared.orders.OrderLine.{OrderLine}
+use Rattle.sc_cmd.specs.declared.orders.OrderRefusal.{OrderRefusal}
+use Rattle.sc_machine_table.specs.Machine.{applied}
+use Rattle.sc_member.specs.Roster.{is_member}
+use Rattle.sc_node_table.specs.Execute.{executed}
+use Rattle.sc_node_table.specs.Ordering.{ordered_command, ordered_row, untaken}
+use Rattle.sc_node_table.specs.Replica.{ReplicaState, Place, next}
+use Rattle.sc_node_table.specs.Spoken.{before_of, went_on}
+use Rattle.sc_calm_orders_law.specs.Scenes.{Work}
+use Rattle.sc_calm_orders_law.specs.Parts.{work_by, works_in, works, errands_for}
+use Rattle.sc_calm_orders_law.specs.Stages.{IsOrder}
+use Rattle.sc_calm_orders_law.specs.Tables.{IsUnbound, Works, MayFile}
+
+-- a leader at whose next slot a command is ready, alone: nothing is in flight, and no other work waits
+pub record IsLone (command : Command) (r : ReplicaState) : Type 0 where
+  pub running : r.running ≡ true
+  pub unbound : IsUnbound r
+  pub ready : r.ready ≡ (next r, command) ∷ []
+  pub flights : r.leader.flights ≡ []
+  pub acts : works_in r.acts ≡ []
+  pub calls : works_in r.calls ≡ []
+
+-- it executes the command: it has no work then, sends the errands by which the transaction goes on, and no others, and leads on where it stays a member of a group that stands
+pub record RunsAlone (command : Command) (r : ReplicaState) (after : Place) : Type 0 where
+  pub group : after.0.group ≡ (applied r.group command).0
+  pub me : after.0.me ≡ r.me
+  pub work : works after.0 ≡ []
+  pub sends : (name : Draw) → errands_for name after.1 ≡ errands_for name (went_on r.me (applied r.group command).0 (before_of r.group.core) (applied r.group command).1 command [])
+  pub leads : (applied r.group command).0.core.gone ≡ None → is_member (applied r.group command).0.core.members r.me ≡ true → after.0.running ≡ true
+
+-- a table does so by each command but calls and fillers
+abbrev pub EntriesRunAlone : Type 0
+EntriesRunAlone = (command : Command) (work : Work) (r : ReplicaState) → IsLone command r → work_by command ≡ Some work → RunsAlone command r (executed true command (r, [])).0
+
+-- an order that a leader takes is its work; one that it refuses changes nothing
+pub record TablesOrder : Type 0 where
+  pub taken : (drawer : Drawer) (line : OrderLine) (r : ReplicaState) → MayFile r → untaken drawer line r ≡ None
+      → (order : Work) × IsOrder order × (work_by (ordered_command (next_name drawer) line.number line.order) ≡ Some order) × Works (order ∷ []) [] r (ordered_row drawer line (r, []))
+  pub refused : (drawer : Drawer) (line : OrderLine) (why : OrderRefusal) (r : ReplicaState) → untaken drawer line r ≡ Some why → Works (works r) [] r (ordered_row drawer line (r, []))
