@@ -1,9 +1,8 @@
 -- The errands by which a transaction goes on come behind those that were sent.
-use Rattle.std.proofs.Common.{◌≡◌, ℕ, Bool, true, false, cond, List, [], ◌∷◌, ◌++◌, Option, Some, None, refl, sym, ◌∙◌, ap, subst, append-nil}
+use Rattle.std.proofs.Common.{◌≡◌, ℕ, Bool, true, false, cond, List, [], ◌∷◌, ◌++◌, Option, Some, None, sym, ◌∙◌, ap, append-nil}
 use Rattle.std.proofs.lemmas.List.{append_assoc}
 use Rattle.sc_base.specs.declared.names.Draw.{Draw}
 use Rattle.sc_cmd.specs.Effects.{is_changed, decided_in, cast_in}
-use Rattle.sc_cmd.specs.declared.bodies.Body.{Body}
 use Rattle.sc_cmd.specs.declared.bodies.Offer.{Offer}
 use Rattle.sc_cmd.specs.declared.bodies.Watch.{Watch}
 use Rattle.sc_cmd.specs.declared.commands.Command.{Command}
@@ -25,10 +24,8 @@ use Rattle.sc_mail.specs.declared.bodies.MailBody.TheVariants.{TxOutcome}
 use Rattle.sc_machine_table.specs.Group.{Group}
 use Rattle.sc_node_table.specs.Mails.{sent, sent_all}
 use Rattle.sc_node_table.specs.Questions.{asked_first}
-use Rattle.sc_node_table.specs.Spoken.{asked_on, begun_asks, vote_sent, watch_sent, aborted_to, aborted_watcher, given_up_by, vote_answered, released_to, watch_answered_by, went_on}
-use Rattle.sc_node_table.specs.Transactions.{voted_to, watched_to}
+use Rattle.sc_node_table.specs.Spoken.{asked_on, vote_sent, watch_sent, aborted_to, aborted_watcher, given_up_by, vote_answered, released_to, watch_answered_by, went_on}
 use Rattle.sc_node_table.specs.declared.Before.{Before}
-use Rattle.sc_calm_orders_law.specs.Scenes.{Errand}
 use Rattle.sc_calm_orders_law.specs.Parts.{errand_by, errand_for, errands_for}
 use Rattle.sc_calm_orders_law.proofs.Errands.{errands-push}
 

@@ -1,9 +1,9 @@
 -- Rows in which a coordinator records a vote, and in which a party is free again.
-use Rattle.std.proofs.Common.{◌≡◌, ℕ, Bool, true, false, List, [], ◌∷◌, ◌++◌, Option, Some, None, ◌⊎◌, inl, inr, refl, sym, ◌∙◌, ap, subst}
-use Rattle.sc_base.specs.Among.{Among, Each}
+use Rattle.std.proofs.Common.{◌≡◌, ℕ, Bool, true, false, List, [], ◌∷◌, Option, Some, inl, inr, refl, sym, ◌∙◌, ap, subst}
+use Rattle.sc_base.specs.Among.{Each}
 use Rattle.sc_base.specs.declared.names.Draw.{Draw}
-use Rattle.sc_calm_orders_law.specs.Scenes.{Turn, First, Lone, Next, is_watch, Unbound, Asking, Bound, Errand, Question, Result, Work, Answers, Records, Ends, Here, free, Scene, IsNone, IsOnly}
-use Rattle.sc_calm_orders_law.specs.Stages.{Deal, Leg, Mailed, Filed, Party, Still, Asks, Recorded, Closes, ClosesBoth, coordinator, asked_one, heard, heard_lead, bound_by, closing, party_of, IsOrder, IsAt, IsUnderWay}
+use Rattle.sc_calm_orders_law.specs.Scenes.{Turn, First, Lone, Next, is_watch, Unbound, Asking, Bound, Errand, Question, Result, Answers, Records, Ends, Here, free, Scene, IsNone, IsOnly}
+use Rattle.sc_calm_orders_law.specs.Stages.{Deal, Mailed, Filed, Party, Still, Asks, Recorded, Closes, ClosesBoth, coordinator, heard, heard_lead, bound_by, closing, party_of, IsOrder, IsAt, IsUnderWay}
 use Rattle.sc_calm_orders_law.specs.Rows.{IsRow, results, Aborted, Decided, Heard, Ended, Keeps}
 use Rattle.sc_calm_orders_law.proofs.Lists.{AreOne, cases-draw, having}
 use Rattle.sc_calm_orders_law.proofs.Moves.{other-mailed, other-same, lead-stays}

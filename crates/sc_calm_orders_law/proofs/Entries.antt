@@ -1,17 +1,13 @@
 -- What the entries of an order leave, by their kind.
-use Rattle.std.proofs.Common.{◌≡◌, ℕ, ◌&&◌, not, Bool, true, false, cond, List, [], ◌∷◌, ◌++◌, Option, Some, None, refl, sym, ◌∙◌, ap, subst, append-nil}
+use Rattle.std.proofs.Common.{◌≡◌, ℕ, Bool, true, false, cond, [], ◌∷◌, ◌++◌, Option, Some, None, refl, sym, ◌∙◌, ap, subst}
 use Rattle.std.specs.Prelude.{is_none}
-use Rattle.sc_base.specs.Same.{same_draw}
 use Rattle.sc_base.specs.declared.names.Draw.{Draw}
-use Rattle.sc_base.proofs.NameLemmas.{same_name}
-use Rattle.sc_cmd.specs.Cores.{is_alone}
-use Rattle.sc_cmd.specs.Effects.{is_changed, decided_in, cast_in}
+use Rattle.sc_cmd.specs.Effects.{is_changed, decided_in}
 use Rattle.sc_cmd.specs.declared.bodies.Body.{Body}
 use Rattle.sc_cmd.specs.declared.bodies.Body.TheVariants as At
 use Rattle.sc_cmd.specs.declared.bodies.Offer.{Offer}
 use Rattle.sc_cmd.specs.declared.bodies.Watch.{Watch}
-use Rattle.sc_cmd.specs.declared.commands.Command.{Command}
-use Rattle.sc_cmd.specs.declared.commands.Command.TheVariants.{Join, Leave, Split, Begin, Prepared, RecordVote, Finish, Watched, RecordWatch}
+use Rattle.sc_cmd.specs.declared.commands.Command.TheVariants.{Join, Leave, Split, Begin, Prepared, RecordVote, Watched}
 use Rattle.sc_cmd.specs.declared.cores.Core.{Core}
 use Rattle.sc_cmd.specs.declared.cores.Lock.{Lock}
 use Rattle.sc_cmd.specs.declared.cores.Lock.TheVariants.{Free, Coordinating, Promised, Watching}
@@ -20,36 +16,30 @@ use Rattle.sc_cmd.specs.declared.effects.Effect.TheVariants as Was
 use Rattle.sc_cmd.specs.declared.links.Route.{Route}
 use Rattle.sc_cmd.specs.declared.orders.OrderRefusal.{OrderRefusal}
 use Rattle.sc_cmd.specs.declared.votes.Frozen.{Frozen}
-use Rattle.sc_cmd.specs.declared.votes.Heard.{Heard}
 use Rattle.sc_cmd.specs.declared.votes.No.{No}
 use Rattle.sc_cmd.specs.declared.votes.Outcome.{Outcome}
 use Rattle.sc_cmd.specs.declared.votes.Outcome.TheVariants.{Abort}
-use Rattle.sc_cmd.specs.declared.votes.Past.{Past}
 use Rattle.sc_cmd.specs.declared.votes.Past.TheVariants as Cast
-use Rattle.sc_cmd.specs.declared.votes.Vote.{Vote}
 use Rattle.sc_cmd.specs.declared.votes.Vote.TheVariants as Says
-use Rattle.sc_mail.specs.declared.bodies.Mail.{Mail}
 use Rattle.sc_mail.specs.declared.bodies.MailBody.TheVariants.{TxPrepare, TxVote, TxOutcome, TxWatched}
-use Rattle.sc_machine_table.specs.Finishes.{participant_after, settled_in, finished}
 use Rattle.sc_machine_table.specs.Group.{Group}
-use Rattle.sc_machine_table.specs.Machine.{applied, ordered_by, split_group}
+use Rattle.sc_machine_table.specs.Machine.{split_group}
 use Rattle.sc_machine_table.specs.Orders.{refusal_of, ordered, with_node, without_node}
-use Rattle.sc_machine_table.specs.Plans.{Plan, closing_plan, repart_plan, migrate_plan, merge_plan, split_plan, frozen_of}
+use Rattle.sc_machine_table.specs.Plans.{Plan, frozen_of}
 use Rattle.sc_machine_table.specs.Splits.{has_named, left_group}
-use Rattle.sc_machine_table.specs.Transactions.{begun_group, decided, committed, heard_group, participant_answered, granted, vote_recorded, watch_recorded, watch_answered, asks_watcher}
-use Rattle.sc_machine_table.specs.Votes.{has_voted, vote_of, watch_vote_of, past_of, bound_by as lock_by, voted_on}
+use Rattle.sc_machine_table.specs.Transactions.{begun_group, decided, committed, heard_group}
+use Rattle.sc_machine_table.specs.Votes.{past_of, bound_by as lock_by, voted_on}
 use Rattle.sc_member.specs.Roster.{least_of}
-use Rattle.sc_node_table.specs.Questions.{offer_of, question, asked_first, asked_link}
-use Rattle.sc_node_table.specs.Spoken.{before_of, before_in, asked_on, begun_asks, vote_sent, watch_sent, vote_answered, watch_answered_by, released_to, went_on}
+use Rattle.sc_node_table.specs.Questions.{offer_of, question, asked_first}
+use Rattle.sc_node_table.specs.Spoken.{before_of, before_in, went_on}
 use Rattle.sc_node_table.specs.declared.Before.{Before}
 use Rattle.sc_node_table.specs.Mails.{sent}
-use Rattle.sc_calm_orders_law.specs.Scenes.{Turn, First, Lone, Next, is_watch, Bond, Unbound, Asking, Bound, Errand, Question, Reply, Result, IsOnly}
+use Rattle.sc_calm_orders_law.specs.Scenes.{First, Lone, Next, Unbound, Asking, Question, Reply, Result, IsOnly}
 use Rattle.sc_calm_orders_law.specs.Stages.{bound_by}
 use Rattle.sc_calm_orders_law.specs.Rows.{results}
-use Rattle.sc_calm_orders_law.specs.Parts.{turn_of, bond_in, bond_of, errand_by, errand_for, errands_for}
-use Rattle.sc_calm_orders_law.specs.Entries.{Leaves, EntryLeaves, IsBegun, OrdersLeave, VotesLeave, RecordsLeave, WatchRecordsLeave, EndsLeave}
-use Rattle.sc_calm_orders_law.proofs.Errands.{one-errand, errands-push, errand-own, errand-other}
-use Rattle.sc_calm_orders_law.proofs.Filing.{question-errand}
+use Rattle.sc_calm_orders_law.specs.Parts.{bond_in, errands_for}
+use Rattle.sc_calm_orders_law.specs.Entries.{Leaves, IsBegun, OrdersLeave, VotesLeave}
+use Rattle.sc_calm_orders_law.proofs.Errands.{one-errand}
 
 -- nothing is sent
 pub nothing : IsOnly [] [] (λ name. errands_for name [])

@@ -23,20 +23,19 @@ use Rattle.sc_cmd.specs.declared.votes.Past.TheVariants as Cast
 use Rattle.sc_cmd.specs.declared.votes.Vote.{Vote}
 use Rattle.sc_cmd.specs.declared.votes.Vote.TheVariants as Says
 use Rattle.sc_machine_table.specs.Transactions.{asks_watcher}
-use Rattle.sc_mail.specs.declared.bodies.Mail.{Mail}
 use Rattle.sc_mail.specs.declared.bodies.MailBody.TheVariants.{TxPrepare, TxVote, TxOutcome, TxElsewhere, TxWatch, TxWatched}
-use Rattle.sc_node_table.specs.Acts.{is_of_kind, has_act, with_act, act_queued}
+use Rattle.sc_node_table.specs.Acts.{is_of_kind, has_act, act_queued}
 use Rattle.sc_node_table.specs.Mails.{sent}
 use Rattle.sc_node_table.specs.Pump.{pumped}
 use Rattle.sc_node_table.specs.Questions.{question, asked_link}
-use Rattle.sc_node_table.specs.Replica.{ReplicaState, Place, flying, either, taken_at, taken_from, under_way, open_slots, settled, name_of, listed}
+use Rattle.sc_node_table.specs.Replica.{ReplicaState, Place, either, taken_at, taken_from, under_way, open_slots, name_of, listed}
 use Rattle.sc_node_table.specs.Rows.{mailed}
 use Rattle.sc_node_table.specs.Slots.{at_slot}
 use Rattle.sc_node_table.specs.Transactions.{standing_vote, sent_elsewhere, offered_by, offer_row, watched_by, watch_row, awaits_vote, awaits_watch, vote_queued, vote_met, vote_row, watch_queued, watch_met, watched_row, noted_outcome, is_bound, outcome_row, asked_next, elsewhere_row}
 use Rattle.sc_paxos_words.specs.declared.flights.Flight.{Flight}
 use Rattle.sc_paxos_words.specs.Leaders.{flight_at}
-use Rattle.sc_calm_orders_law.specs.Scenes.{Turn, First, Lone, Next, is_watch, Bond, Unbound, Asking, Bound, Errand, Question, Elsewhere, Work, Answers, Records, Ends, IsOnly}
-use Rattle.sc_calm_orders_law.specs.Parts.{turn_of, bond_in, bond_of, is_yes, is_cast_yes, work_by, works_in, works_flying, works_ready, works, errand_by, errands_for}
+use Rattle.sc_calm_orders_law.specs.Scenes.{Turn, is_watch, Asking, Bound, Question, Elsewhere, Work, Answers, Records, Ends, IsOnly}
+use Rattle.sc_calm_orders_law.specs.Parts.{turn_of, bond_in, is_yes, is_cast_yes, work_by, works_in, works_flying, works_ready, works, errand_by, errands_for}
 use Rattle.sc_calm_orders_law.specs.Tables.{Works, MayFile, TablesFile, TablesPass, TablesAskOn}
 use Rattle.sc_calm_orders_law.proofs.Errands.{one-errand}
 use Rattle.sc_calm_orders_law.proofs.Pumps.{pumps-keep}

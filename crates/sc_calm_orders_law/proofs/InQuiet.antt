@@ -1,8 +1,8 @@
 -- Where nothing is under way no order is.
-use Rattle.std.proofs.Common.{◌≡◌, ℕ, true, false, List, [], ◌∷◌, ◌++◌, Option, Some, None, ◌⊎◌, inl, inr, refl, sym, ◌∙◌, ap, subst, append-nil}
+use Rattle.std.proofs.Common.{◌≡◌, ℕ, List, [], ◌∷◌, sym, ◌∙◌, ap}
 use Rattle.sc_base.specs.declared.names.Draw.{Draw}
-use Rattle.sc_calm_orders_law.specs.Scenes.{Errand, Work, Here, free, Scene, Bond, Unbound}
-use Rattle.sc_calm_orders_law.specs.Stages.{Leg, Mailed, Filed, Party, closing, Stage, Still, Ordered, Asks, SentOn, Weighs, Replied, Recorded, Closes, ClosesBoth, IsAt, IsUnderWay, IsQuiet}
+use Rattle.sc_calm_orders_law.specs.Scenes.{Here, Scene}
+use Rattle.sc_calm_orders_law.specs.Stages.{Leg, Mailed, Filed, closing, Stage, Still, Ordered, Asks, SentOn, Weighs, Replied, Recorded, Closes, ClosesBoth, IsAt, IsQuiet}
 use Rattle.sc_calm_orders_law.specs.Rows.{QuietIsStill}
 
 cons_nil : {X : Type 0} {x : X} {xs : List X} → x ∷ xs ≡ [] → ⊥

@@ -3,8 +3,8 @@ use Rattle.std.proofs.Common.{◌≡◌, ℕ, List, [], ◌∷◌, ◌++◌, Opt
 use Rattle.sc_base.specs.Among.{Among, Each}
 use Rattle.sc_base.specs.declared.names.Draw.{Draw}
 use Rattle.sc_node_table.specs.Replica.{listed}
-use Rattle.sc_calm_orders_law.specs.Scenes.{Turn, First, Lone, Next, Bond, Bound, Errand, Result, Work, Ends, Here, free, Scene, IsNone, IsOnly, AreApart}
-use Rattle.sc_calm_orders_law.specs.Stages.{Deal, Leg, Mailed, Filed, heard, heard_lead, closing}
+use Rattle.sc_calm_orders_law.specs.Scenes.{Turn, First, Lone, Next, Errand, Result, Work, Ends, Here, free, Scene, IsNone, IsOnly, AreApart}
+use Rattle.sc_calm_orders_law.specs.Stages.{Deal, Leg, Mailed, Filed, heard, closing}
 use Rattle.sc_calm_orders_law.specs.Rows.{IsRow, GoesOn}
 use Rattle.sc_calm_orders_law.proofs.Lists.{cases-draw, having, among-right, single, tagged, tokens}
 

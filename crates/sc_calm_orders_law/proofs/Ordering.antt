@@ -1,5 +1,5 @@
 -- What a leader's table does with an order that it is told.
-use Rattle.std.proofs.Common.{◌≡◌, ℕ, List, [], ◌∷◌, ◌++◌, Option, Some, None, refl, sym, ◌∙◌, ap, subst}
+use Rattle.std.proofs.Common.{◌≡◌, ℕ, [], ◌∷◌, ◌++◌, Some, None, refl, sym, ◌∙◌, ap, subst}
 use Rattle.sc_base.specs.Drawing.{Drawer, next_name}
 use Rattle.sc_base.specs.declared.names.Draw.{Draw}
 use Rattle.sc_cmd.specs.declared.commands.Command.{Command}
@@ -12,7 +12,7 @@ use Rattle.sc_mail.specs.declared.bodies.MailBody.TheVariants.{Told}
 use Rattle.sc_node_table.specs.Ordering.{ordered_command, ordered_row, taken_or_told, untaken}
 use Rattle.sc_node_table.specs.Pump.{pumped}
 use Rattle.sc_node_table.specs.Queues.{with_call}
-use Rattle.sc_node_table.specs.Replica.{ReplicaState, Place, listed}
+use Rattle.sc_node_table.specs.Replica.{ReplicaState, listed}
 use Rattle.sc_calm_orders_law.specs.Scenes.{Work, Changes, Opens}
 use Rattle.sc_calm_orders_law.specs.Stages.{IsOrder}
 use Rattle.sc_calm_orders_law.specs.Parts.{work_by, works_in, works_flying, works_ready, works}

@@ -11,7 +11,6 @@ use Rattle.sc_cmd.specs.declared.cores.Core.{Core}
 use Rattle.sc_mail.specs.declared.bodies.AnswerBody.{AnswerBody}
 use Rattle.sc_mail.specs.declared.bodies.Mail.{Mail}
 use Rattle.sc_mail.specs.declared.bodies.MailBody.TheVariants.{Accept, Answer}
-use Rattle.sc_machine_table.specs.Group.{Group}
 use Rattle.sc_paxos_words.specs.declared.answers.Must.{Must}
 use Rattle.sc_paxos_words.specs.declared.answers.Must.TheVariants.{Free as Open}
 use Rattle.sc_paxos_words.specs.declared.flights.Flight.{Flight}
@@ -19,9 +18,9 @@ use Rattle.sc_paxos_words.specs.Leaders.{must}
 use Rattle.sc_node_table.specs.Mails.{answered}
 use Rattle.sc_node_table.specs.Pump.{Found, is_act, waits, turned_down, next_call, from_calls, from_acts, from_queues, found_by, found_for, offered, pumped_from, pumped}
 use Rattle.sc_node_table.specs.Replica.{ReplicaState, Place, name_of, next, settled, may_offer, taken_at, under_way, is_idle, last_slot, listed}
-use Rattle.sc_calm_orders_law.specs.Scenes.{Errand, Work}
+use Rattle.sc_calm_orders_law.specs.Scenes.{Work}
 use Rattle.sc_calm_orders_law.specs.Parts.{work_by, works_in, works_flying, works_ready, works, errands_for}
-use Rattle.sc_calm_orders_law.specs.Tables.{IsUnbound, Works, PumpsKeepWork}
+use Rattle.sc_calm_orders_law.specs.Tables.{IsUnbound, PumpsKeepWork}
 use Rattle.sc_calm_orders_law.proofs.Lists.{single}
 use Rattle.sc_calm_orders_law.proofs.Errands.{errands-none, errands-all}
 

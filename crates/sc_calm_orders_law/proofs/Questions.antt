@@ -1,11 +1,11 @@
 -- Rows that take a mail of a transaction: a question is sent on, or asked again elsewhere, and a leader takes a question, a vote or an outcome.
-use Rattle.std.proofs.Common.{◌≡◌, ℕ, Bool, true, false, List, [], ◌∷◌, ◌++◌, Option, Some, None, ◌⊎◌, inl, inr, refl, sym, ◌∙◌, ap, subst}
-use Rattle.sc_base.specs.Among.{Among, Each}
+use Rattle.std.proofs.Common.{◌≡◌, ℕ, Bool, List, [], ◌∷◌, ◌++◌, Option, Some, None, inl, inr, refl, sym, ◌∙◌, ap, subst}
+use Rattle.sc_base.specs.Among.{Among}
 use Rattle.sc_base.specs.declared.names.Draw.{Draw}
-use Rattle.sc_calm_orders_law.specs.Scenes.{Turn, is_watch, Unbound, Asking, Bound, Errand, Question, Elsewhere, Reply, Result, Work, Answers, Records, Ends, Here, free, Scene}
-use Rattle.sc_calm_orders_law.specs.Stages.{Deal, Leg, Mailed, Filed, Party, Stage, Still, Ordered, Asks, SentOn, Weighs, Replied, Recorded, Closes, ClosesBoth, coordinator, asked_one, heard, heard_lead, bound_by, closing, party_of, parties_of, leads_of, IsAt, IsUnderWay}
+use Rattle.sc_calm_orders_law.specs.Scenes.{is_watch, Unbound, Asking, Errand, Question, Elsewhere, Reply, Result, Work, Answers, Records, Ends, Here, Scene}
+use Rattle.sc_calm_orders_law.specs.Stages.{Deal, Leg, Mailed, Filed, Party, Stage, Still, Ordered, Asks, SentOn, Weighs, Replied, Recorded, Closes, ClosesBoth, coordinator, asked_one, heard_lead, bound_by, closing, party_of, parties_of, leads_of, IsAt, IsUnderWay}
 use Rattle.sc_calm_orders_law.specs.Rows.{IsRow, PassesOn, AsksOn, Files, work_for, Keeps}
-use Rattle.sc_calm_orders_law.proofs.Lists.{AreOne, having, here-is, tagged, tokens, found}
+use Rattle.sc_calm_orders_law.proofs.Lists.{AreOne, having, here-is, tokens, found}
 use Rattle.sc_calm_orders_law.proofs.Moves.{errands_of, other-mailed, other-same, own-taken, taken-there, lead-stays, leads-stay, deal-goes, no-errand, closing-errand}
 
 first : {X : Type 0} {a b : Draw × X} → a ≡ b → a.0 ≡ b.0

@@ -1,12 +1,11 @@
 -- What a coordinator's records of votes leave, and what an outcome leaves at a party.
-use Rattle.std.proofs.Common.{◌≡◌, ℕ, Bool, true, false, cond, List, [], ◌∷◌, ◌++◌, Option, Some, None, refl, sym, ◌∙◌, ap, subst, append-nil}
+use Rattle.std.proofs.Common.{◌≡◌, ℕ, Bool, true, false, cond, List, [], ◌∷◌, ◌++◌, Option, Some, None, refl, sym, ◌∙◌, ap, subst}
 use Rattle.sc_base.specs.Same.{same_draw}
 use Rattle.sc_base.specs.declared.names.Draw.{Draw}
 use Rattle.sc_base.proofs.NameLemmas.{same_name}
 use Rattle.sc_cmd.specs.Effects.{is_changed, decided_in}
 use Rattle.sc_cmd.specs.declared.bodies.Body.{Body}
 use Rattle.sc_cmd.specs.declared.bodies.Body.TheVariants as At
-use Rattle.sc_cmd.specs.declared.bodies.Offer.{Offer}
 use Rattle.sc_cmd.specs.declared.bodies.Watch.{Watch}
 use Rattle.sc_cmd.specs.declared.commands.Command.TheVariants.{RecordVote, Finish, RecordWatch}
 use Rattle.sc_cmd.specs.declared.cores.Core.{Core}
@@ -14,12 +13,10 @@ use Rattle.sc_cmd.specs.declared.cores.Lock.{Lock}
 use Rattle.sc_cmd.specs.declared.cores.Lock.TheVariants.{Free, Coordinating, Promised, Watching}
 use Rattle.sc_cmd.specs.declared.effects.Effect.{Effect}
 use Rattle.sc_cmd.specs.declared.effects.Effect.TheVariants as Was
-use Rattle.sc_cmd.specs.declared.links.Link.{Link}
 use Rattle.sc_cmd.specs.declared.votes.Frozen.{Frozen}
 use Rattle.sc_cmd.specs.declared.votes.Heard.{Heard}
 use Rattle.sc_cmd.specs.declared.votes.No.{No}
 use Rattle.sc_cmd.specs.declared.votes.Outcome.{Outcome}
-use Rattle.sc_cmd.specs.declared.votes.Outcome.TheVariants.{Abort}
 use Rattle.sc_cmd.specs.declared.votes.Past.TheVariants as Cast
 use Rattle.sc_cmd.specs.declared.votes.Vote.{Vote}
 use Rattle.sc_cmd.specs.declared.votes.Vote.TheVariants as Says
@@ -27,13 +24,13 @@ use Rattle.sc_mail.specs.declared.bodies.MailBody.TheVariants.{TxOutcome}
 use Rattle.sc_machine_table.specs.Finishes.{participant_after, settled_in, watch_ended, finished}
 use Rattle.sc_machine_table.specs.Group.{Group}
 use Rattle.sc_machine_table.specs.Plans.{Plan, closing_plan, repart_plan, migrate_plan, merge_plan, split_plan}
-use Rattle.sc_machine_table.specs.Transactions.{decided, committed, heard_group, participant_answered, granted, vote_recorded, watch_recorded, released, asks_watcher}
+use Rattle.sc_machine_table.specs.Transactions.{committed, heard_group, participant_answered, granted, vote_recorded, watch_recorded, released, asks_watcher}
 use Rattle.sc_member.specs.Roster.{least_of}
 use Rattle.sc_node_table.specs.Mails.{sent}
 use Rattle.sc_node_table.specs.Questions.{asked_link}
-use Rattle.sc_node_table.specs.Spoken.{before_of, before_in, released_to, went_on}
+use Rattle.sc_node_table.specs.Spoken.{before_in, released_to, went_on}
 use Rattle.sc_node_table.specs.declared.Before.{Before}
-use Rattle.sc_calm_orders_law.specs.Scenes.{Turn, First, Lone, Next, is_watch, Bond, Unbound, Asking, Bound, Errand, Question, Result, IsOnly}
+use Rattle.sc_calm_orders_law.specs.Scenes.{Turn, First, Lone, Next, is_watch, Unbound, Asking, Bound, Errand, Question, Result, IsOnly}
 use Rattle.sc_calm_orders_law.specs.Rows.{results}
 use Rattle.sc_calm_orders_law.specs.Parts.{turn_of, bond_in, errand_for, errands_for}
 use Rattle.sc_calm_orders_law.specs.Entries.{Leaves, RecordsLeave, WatchRecordsLeave, EndsLeave}

@@ -1,10 +1,10 @@
 -- A row that does nothing of an order, and one that takes an order where none is under way.
-use Rattle.std.proofs.Common.{◌≡◌, ℕ, List, [], ◌∷◌, ◌++◌, Option, Some, None, ◌⊎◌, inl, inr, refl, sym, ◌∙◌, ap, subst, append-nil}
-use Rattle.sc_base.specs.Among.{Among, Each}
+use Rattle.std.proofs.Common.{◌≡◌, List, [], ◌∷◌, ◌++◌, inl, inr, sym, ◌∙◌, ap, append-nil}
+use Rattle.sc_base.specs.Among.{Each}
 use Rattle.sc_base.specs.declared.names.Draw.{Draw}
-use Rattle.sc_calm_orders_law.specs.Scenes.{Unbound, Errand, Work, Here, free, Scene}
-use Rattle.sc_calm_orders_law.specs.Stages.{Stage, Still, Ordered, parties_of, leads_of, IsAt}
-use Rattle.sc_calm_orders_law.specs.Rows.{IsRow, Rests, IsTold, RestsKeep, OrdersBegin}
+use Rattle.sc_calm_orders_law.specs.Scenes.{Unbound, Here, free}
+use Rattle.sc_calm_orders_law.specs.Stages.{Ordered, parties_of, leads_of}
+use Rattle.sc_calm_orders_law.specs.Rows.{RestsKeep, OrdersBegin}
 use Rattle.sc_calm_orders_law.proofs.Lists.{cases-draw, having, here-is}
 use Rattle.sc_calm_orders_law.proofs.Moves.{other-same, own-idle, leads-stay}
 

@@ -1,5 +1,5 @@
 -- What the entries of an order make of a group's bond, and which errands its leader sends by them.
-use Rattle.std.specs.Prelude.{◌≡◌, ℕ, Bool, true, false, List, [], ◌∷◌, Option, Some, None, is_none}
+use Rattle.std.specs.Prelude.{◌≡◌, ℕ, true, false, List, [], ◌∷◌, Option, Some, None, is_none}
 use Rattle.sc_base.specs.declared.names.Draw.{Draw}
 use Rattle.sc_cmd.specs.Cores.{is_alone}
 use Rattle.sc_cmd.specs.Effects.{is_changed, decided_in}
@@ -8,7 +8,7 @@ use Rattle.sc_cmd.specs.declared.bodies.Body.TheVariants as At
 use Rattle.sc_cmd.specs.declared.bodies.Offer.{Offer}
 use Rattle.sc_cmd.specs.declared.bodies.Watch.{Watch}
 use Rattle.sc_cmd.specs.declared.commands.Command.{Command}
-use Rattle.sc_cmd.specs.declared.commands.Command.TheVariants.{Noop, Call, Join, Leave, Split, Begin, Prepared, RecordVote, GiveUp, Finish, Watched, RecordWatch}
+use Rattle.sc_cmd.specs.declared.commands.Command.TheVariants.{Join, Leave, Split, Begin, Prepared, RecordVote, Finish, Watched, RecordWatch}
 use Rattle.sc_cmd.specs.declared.cores.Lock.TheVariants.{Free}
 use Rattle.sc_cmd.specs.declared.effects.Effect.{Effect}
 use Rattle.sc_cmd.specs.declared.votes.Frozen.{Frozen}
@@ -22,7 +22,7 @@ use Rattle.sc_machine_table.specs.Votes.{has_voted, vote_of, watch_vote_of}
 use Rattle.sc_member.specs.Roster.{least_of}
 use Rattle.sc_node_table.specs.Spoken.{before_of, went_on}
 use Rattle.sc_node_table.specs.declared.Before.{Before}
-use Rattle.sc_calm_orders_law.specs.Scenes.{Turn, First, Lone, Next, is_watch, Bond, Unbound, Asking, Bound, Errand, Question, Reply, Result, IsOnly}
+use Rattle.sc_calm_orders_law.specs.Scenes.{Turn, First, Lone, Next, is_watch, Bond, Unbound, Asking, Bound, Errand, Question, Reply, IsOnly}
 use Rattle.sc_calm_orders_law.specs.Stages.{bound_by}
 use Rattle.sc_calm_orders_law.specs.Rows.{results}
 use Rattle.sc_calm_orders_law.specs.Parts.{bond_of, errands_for}

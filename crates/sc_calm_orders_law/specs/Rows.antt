@@ -2,8 +2,8 @@
 use Rattle.std.specs.Prelude.{◌≡◌, ℕ, Bool, true, false, List, [], ◌∷◌, ◌++◌, if◌then◌else◌, Option, Some, None}
 use Rattle.sc_base.specs.declared.names.Draw.{Draw}
 use Rattle.sc_node_table.specs.Replica.{listed}
-use Rattle.sc_calm_orders_law.specs.Scenes.{Turn, First, Lone, Next, is_watch, Bond, Unbound, Asking, Bound, Errand, Question, Elsewhere, Reply, Result, Work, Changes, Opens, Answers, Records, GivesUp, Ends, Here, free, Scene, IsNone, IsOnly}
-use Rattle.sc_calm_orders_law.specs.Stages.{bound_by, IsOrder, IsVote, IsAt, Still, IsUnderWay, IsQuiet}
+use Rattle.sc_calm_orders_law.specs.Scenes.{Turn, First, Lone, Next, is_watch, Unbound, Asking, Errand, Question, Elsewhere, Reply, Result, Work, Opens, Answers, Records, Ends, Scene, IsOnly}
+use Rattle.sc_calm_orders_law.specs.Stages.{bound_by, IsOrder, IsAt, Still, IsUnderWay, IsQuiet}
 
 -- A row of a group, at one of its nodes, that takes an errand for it or none: to the others comes what is sent to them, and whoever leads one of them goes on.
 pub record IsRow (now after : Scene) (group : Draw) (taken : Option Errand) (sent : Draw → List Errand) : Type 0 where

@@ -1,5 +1,5 @@
 -- The stages of an order that is under way: exactly one of these stands.
-use Rattle.std.specs.Prelude.{◌≡◌, ℕ, Bool, true, false, List, [], ◌∷◌, if◌then◌else◌, Option, Some}
+use Rattle.std.specs.Prelude.{◌≡◌, ℕ, Bool, true, List, [], ◌∷◌, if◌then◌else◌, Some}
 use Rattle.sc_base.specs.Among.{Each}
 use Rattle.sc_base.specs.declared.names.Draw.{Draw}
 use Rattle.sc_calm_orders_law.specs.Scenes.{Turn, First, Lone, Next, is_watch, Bond, Unbound, Asking, Bound, Errand, Question, Elsewhere, Reply, Result, Work, Changes, Opens, Answers, Records, GivesUp, Ends, Here, free, Scene, IsOnly, AreApart}

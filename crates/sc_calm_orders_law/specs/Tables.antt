@@ -14,7 +14,7 @@ use Rattle.sc_node_table.specs.Rows.{mailed}
 use Rattle.sc_node_table.specs.Transactions.{standing_vote, noted_outcome}
 use Rattle.sc_paxos_words.specs.declared.answers.Must.TheVariants.{Free as Open}
 use Rattle.sc_paxos_words.specs.Leaders.{must}
-use Rattle.sc_calm_orders_law.specs.Scenes.{Turn, is_watch, Bond, Asking, Bound, Errand, Question, Elsewhere, Work, Answers, Records, Ends, IsOnly}
+use Rattle.sc_calm_orders_law.specs.Scenes.{Turn, is_watch, Asking, Bound, Errand, Question, Elsewhere, Work, Answers, Records, Ends, IsOnly}
 use Rattle.sc_calm_orders_law.specs.Parts.{bond_of, is_yes, is_cast_yes, works, errands_for}
 
 -- no report binds a leader at an open slot
