@@ -71,18 +71,24 @@ module _ (now after : Scene) (group : Draw) (taken : Option Errand) (sent : Draw
     rest other c b = other-same now after group taken sent row other c (d.sends.1 other (b, tt)) ∙ a.parties.1 other ((λ i. c (i ∙ is)), tt)
 
     opened_turn : (watch : Bool) → d.watch ≡ watch → IsUnderWay after
-    opened_turn true w = (Asks (begun Lone) d.node, record {
-      parties = ((at_coord Lone (d.bond ∙ ap (λ x. Asking d.tx d.asked (cond x Lone First)) w), (at_asked ∙ ap (λ x. having Unbound [] (Question d.tx group x d.chief d.node ∷ [])) w, tt)), λ other none. rest other none.0 none.1.0);
-      leads = (d.leads d.chief d.led, tt);
-      apart = (((λ i. d.apart (sym i)), tt), (tt, tt));
-      sound = tt;
-    })
-    opened_turn false w = (Asks (begun First) d.node, record {
-      parties = ((at_coord First (d.bond ∙ ap (λ x. Asking d.tx d.asked (cond x Lone First)) w), (at_asked ∙ ap (λ x. having Unbound [] (Question d.tx group x d.chief d.node ∷ [])) w, tt)), λ other none. rest other none.0 none.1.0);
-      leads = (d.leads d.chief d.led, tt);
-      apart = (((λ i. d.apart (sym i)), tt), (tt, tt));
-      sound = tt;
-    })
+    opened_turn true w = (
+      Asks (begun Lone) d.node,
+      record {
+        parties = ((at_coord Lone (d.bond ∙ ap (λ x. Asking d.tx d.asked (cond x Lone First)) w), (at_asked ∙ ap (λ x. having Unbound [] (Question d.tx group x d.chief d.node ∷ [])) w, tt)), λ other none. rest other none.0 none.1.0);
+        leads = (d.leads d.chief d.led, tt);
+        apart = (((λ i. d.apart (sym i)), tt), (tt, tt));
+        sound = tt;
+      },
+    )
+    opened_turn false w = (
+      Asks (begun First) d.node,
+      record {
+        parties = ((at_coord First (d.bond ∙ ap (λ x. Asking d.tx d.asked (cond x Lone First)) w), (at_asked ∙ ap (λ x. having Unbound [] (Question d.tx group x d.chief d.node ∷ [])) w, tt)), λ other none. rest other none.0 none.1.0);
+        leads = (d.leads d.chief d.led, tt);
+        apart = (((λ i. d.apart (sym i)), tt), (tt, tt));
+        sound = tt;
+      },
+    )
 
   opened_at : AtEach (Opens d.tx) now group (IsUnderWay after)
   opened_at = record {
@@ -106,17 +112,20 @@ vote_ok (Next part host) agreed w = w refl
 
 module _ (now after : Scene) (group : Draw) (taken : Option Errand) (sent : Draw → List Errand) (row : IsRow now after group taken sent) (d : Voted now after group taken sent) where
   voted_in : (deal : Deal) (host : ℕ) → IsAt (Weighs deal host) now → AreOne (deal.asked, Answers deal.tx deal.coord (is_watch deal.turn) deal.chief) (group, Answers d.tx d.coord d.watch d.by) → IsUnderWay after
-  voted_in deal host a e = (Replied deal d.agreed host, record {
-    parties = deal-goes now.at after.at deal (coordinator deal [] []).1 (asked_one deal Unbound (Answers deal.tx deal.coord (is_watch deal.turn) deal.chief ∷ []) []).1 a.parties a.apart
-        (λ other c b. other-same now after group taken sent row other (λ i. b (i ∙ sym is)) (d.sends.1 other ((λ i. c (i ∙ sym coord_is)), tt)))
-        (coordinator deal [] (Reply deal.tx (is_watch deal.turn) d.agreed host deal.chief ∷ [])).1 (asked_one deal (bound_by d.agreed deal.tx) [] []).1
-        (other-mailed now after group taken sent row deal.coord (coordinator deal [] []).1 (Reply deal.tx (is_watch deal.turn) d.agreed host deal.chief ∷ []) (λ i. a.apart.0.0 (i ∙ sym is)) a.parties.0.0 mail)
-        (ap after.at is ∙ own-done (Answers d.tx d.coord d.watch d.by) now after group taken sent row d.executes (asked_one deal Unbound (Answers deal.tx deal.coord (is_watch deal.turn) deal.chief ∷ []) []).1
-            (bound_by d.agreed deal.tx) (ap now.at (sym is) ∙ a.parties.0.1.0) refl (d.sends.1 group ((λ i. a.apart.0.0 (coord_is ∙ (sym i ∙ sym is))), tt)) (d.bond ∙ ap (bound_by d.agreed) (sym tx_is)));
-    leads = leads-stay now after group taken sent row d.leads (leads_of (Weighs deal host)) a.leads;
-    apart = a.apart;
-    sound = vote_ok deal.turn d.agreed (λ w. d.willing (sym watch_is ∙ w));
-  })
+  voted_in deal host a e = (
+    Replied deal d.agreed host,
+    record {
+      parties = deal-goes now.at after.at deal (coordinator deal [] []).1 (asked_one deal Unbound (Answers deal.tx deal.coord (is_watch deal.turn) deal.chief ∷ []) []).1 a.parties a.apart
+          (λ other c b. other-same now after group taken sent row other (λ i. b (i ∙ sym is)) (d.sends.1 other ((λ i. c (i ∙ sym coord_is)), tt)))
+          (coordinator deal [] (Reply deal.tx (is_watch deal.turn) d.agreed host deal.chief ∷ [])).1 (asked_one deal (bound_by d.agreed deal.tx) [] []).1
+          (other-mailed now after group taken sent row deal.coord (coordinator deal [] []).1 (Reply deal.tx (is_watch deal.turn) d.agreed host deal.chief ∷ []) (λ i. a.apart.0.0 (i ∙ sym is)) a.parties.0.0 mail)
+          (ap after.at is ∙ own-done (Answers d.tx d.coord d.watch d.by) now after group taken sent row d.executes (asked_one deal Unbound (Answers deal.tx deal.coord (is_watch deal.turn) deal.chief ∷ []) []).1
+          (bound_by d.agreed deal.tx) (ap now.at (sym is) ∙ a.parties.0.1.0) refl (d.sends.1 group ((λ i. a.apart.0.0 (coord_is ∙ (sym i ∙ sym is))), tt)) (d.bond ∙ ap (bound_by d.agreed) (sym tx_is)));
+      leads = leads-stay now after group taken sent row d.leads (leads_of (Weighs deal host)) a.leads;
+      apart = a.apart;
+      sound = vote_ok deal.turn d.agreed (λ w. d.willing (sym watch_is ∙ w));
+    },
+  )
     where
       is : deal.asked ≡ group
       is = first e

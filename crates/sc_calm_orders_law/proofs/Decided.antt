@@ -105,29 +105,43 @@ module _ (now after : Scene) (group : Draw) (taken : Option Errand) (sent : Draw
 
     -- one party
     d_single : IsOnly [] ((deal.asked, Result deal.tx host ∷ []) ∷ []) sent → ((other : Draw) → IsNone other (heard deal.tx deal.turn)) → IsUnderWay after
-    d_single only none = (Closes deal.tx (record { group = deal.asked; host = host; leg = Mailed }), record {
-      parties = ((other-mailed now after group taken sent row deal.asked (having (Bound deal.tx) [] []) (Result deal.tx host ∷ []) d_ne d_bound only.0.0, tt), λ other n. elim (cases-draw other group) [
-        | inl i ↦ ap after.at i ∙ d_own (only.1 group ((λ j. d_ne (sym j)), tt))
-        | inr ne ↦ other-same now after group taken sent row other ne (only.1 other (n.0, tt)) ∙ a.parties.1 other ((λ i. ne (i ∙ d_is)), (n.0, none other))
-      ]);
-      leads = (d_lead, tt);
-      apart = (tt, tt);
-      sound = tt;
-    })
+    d_single only none = (
+      Closes deal.tx (record { group = deal.asked; host = host; leg = Mailed }),
+      record {
+        parties = (
+          (other-mailed now after group taken sent row deal.asked (having (Bound deal.tx) [] []) (Result deal.tx host ∷ []) d_ne d_bound only.0.0, tt),
+          λ other n. elim (cases-draw other group) [
+            | inl i ↦ ap after.at i ∙ d_own (only.1 group ((λ j. d_ne (sym j)), tt))
+            | inr ne ↦ other-same now after group taken sent row other ne (only.1 other (n.0, tt)) ∙ a.parties.1 other ((λ i. ne (i ∙ d_is)), (n.0, none other))
+          ],
+        );
+        leads = (d_lead, tt);
+        apart = (tt, tt);
+        sound = tt;
+      },
+    )
 
     -- the participant that was heard, and the watcher
     d_both : (part : Draw) (node : ℕ) → IsOnly [] ((part, Result deal.tx node ∷ []) ∷ (deal.asked, Result deal.tx host ∷ []) ∷ []) sent → now.at part ≡ having (Bound deal.tx) [] [] → (part ≡ group → ⊥) → (part ≡ deal.asked → ⊥)
         → now.lead part ≡ Some node → ((other : Draw) → (other ≡ part → ⊥) → IsNone other (heard deal.tx deal.turn)) → IsUnderWay after
-    d_both part node only was ne apart led none = (ClosesBoth deal.tx (record { group = part; host = node; leg = Mailed }) (record { group = deal.asked; host = host; leg = Mailed }), record {
-      parties = ((other-mailed now after group taken sent row part (having (Bound deal.tx) [] []) (Result deal.tx node ∷ []) ne was only.0.0,
-          (other-mailed now after group taken sent row deal.asked (having (Bound deal.tx) [] []) (Result deal.tx host ∷ []) d_ne d_bound only.0.1.0, tt)), λ other n. elim (cases-draw other group) [
-        | inl i ↦ ap after.at i ∙ d_own (only.1 group ((λ j. ne (sym j)), ((λ j. d_ne (sym j)), tt)))
-        | inr ng ↦ other-same now after group taken sent row other ng (only.1 other (n.0, (n.1.0, tt))) ∙ a.parties.1 other ((λ i. ng (i ∙ d_is)), (n.1.0, none other n.0))
-      ]);
-      leads = (row.leads part node ne led, (d_lead, tt));
-      apart = ((apart, tt), (tt, tt));
-      sound = tt;
-    })
+    d_both part node only was ne apart led none = (
+      ClosesBoth deal.tx (record { group = part; host = node; leg = Mailed }) (record { group = deal.asked; host = host; leg = Mailed }),
+      record {
+        parties = (
+          (
+            other-mailed now after group taken sent row part (having (Bound deal.tx) [] []) (Result deal.tx node ∷ []) ne was only.0.0,
+            (other-mailed now after group taken sent row deal.asked (having (Bound deal.tx) [] []) (Result deal.tx host ∷ []) d_ne d_bound only.0.1.0, tt),
+          ),
+          λ other n. elim (cases-draw other group) [
+            | inl i ↦ ap after.at i ∙ d_own (only.1 group ((λ j. ne (sym j)), ((λ j. d_ne (sym j)), tt)))
+            | inr ng ↦ other-same now after group taken sent row other ng (only.1 other (n.0, (n.1.0, tt))) ∙ a.parties.1 other ((λ i. ng (i ∙ d_is)), (n.1.0, none other n.0))
+          ],
+        );
+        leads = (row.leads part node ne led, (d_lead, tt));
+        apart = ((apart, tt), (tt, tt));
+        sound = tt;
+      },
+    )
 
     d_turns : (turn : Turn) → deal.turn ≡ turn → IsUnderWay after
     d_turns First t = d_single (subst (λ x. IsOnly [] (results deal.tx deal.asked x host) sent) t d_results) (λ other. subst (λ x. IsNone other (heard deal.tx x)) (sym t) tt)
@@ -199,16 +213,25 @@ module _ (now after : Scene) (group : Draw) (taken : Option Errand) (sent : Draw
     h_free other c b = a.parties.1 other ((λ i. c (i ∙ h_is)), ((λ i. b (i ∙ sym h_asked)), subst (λ x. IsNone other (heard deal.tx x)) h_turn tt))
 
     heard_on : IsUnderWay after
-    heard_on = (Asks h_deal d.node, record {
-      parties = ((own-done (Records d.tx false true d.by) now after group taken sent row d.executes (coordinator deal (Records deal.tx (is_watch deal.turn) agreed host ∷ []) []).1 (Asking d.tx d.watcher (Next d.asked d.by)) h_was refl
-              (d.sends.1 group ((λ i. d.third.0 (sym i)), tt)) d.bond,
-          (other-mailed now after group taken sent row d.watcher free (Question d.tx group true d.chief d.node ∷ []) d.third.0 (h_free d.watcher d.third.0 d.third.1) d.sends.0.0,
-          (other-same now after group taken sent row d.asked h_ne (d.sends.1 d.asked ((λ i. d.third.1 (sym i)), tt)) ∙ h_bound, tt))),
-          λ other n. other-same now after group taken sent row other n.0 (d.sends.1 other (n.1.0, tt)) ∙ h_free other n.0 n.1.1.0);
-      leads = (d.leads d.chief d.led, (lead-stays now after group taken sent row d.leads d.asked d.by (ap now.lead h_asked ∙ (a.leads.1.0 ∙ ap (λ x. Some x) h_by)), tt));
-      apart = (((λ i. d.third.0 (sym i)), ((λ i. h_ne (sym i)), tt)), ((d.third.1, tt), (tt, tt)));
-      sound = tt;
-    })
+    heard_on = (
+      Asks h_deal d.node,
+      record {
+        parties = (
+          (
+            own-done (Records d.tx false true d.by) now after group taken sent row d.executes (coordinator deal (Records deal.tx (is_watch deal.turn) agreed host ∷ []) []).1 (Asking d.tx d.watcher (Next d.asked d.by)) h_was refl
+                (d.sends.1 group ((λ i. d.third.0 (sym i)), tt)) d.bond,
+            (
+              other-mailed now after group taken sent row d.watcher free (Question d.tx group true d.chief d.node ∷ []) d.third.0 (h_free d.watcher d.third.0 d.third.1) d.sends.0.0,
+              (other-same now after group taken sent row d.asked h_ne (d.sends.1 d.asked ((λ i. d.third.1 (sym i)), tt)) ∙ h_bound, tt),
+            ),
+          ),
+          λ other n. other-same now after group taken sent row other n.0 (d.sends.1 other (n.1.0, tt)) ∙ h_free other n.0 n.1.1.0,
+        );
+        leads = (d.leads d.chief d.led, (lead-stays now after group taken sent row d.leads d.asked d.by (ap now.lead h_asked ∙ (a.leads.1.0 ∙ ap (λ x. Some x) h_by)), tt));
+        apart = (((λ i. d.third.0 (sym i)), ((λ i. h_ne (sym i)), tt)), ((d.third.1, tt), (tt, tt)));
+        sound = tt;
+      },
+    )
 
   heard_at : AtEach (Records d.tx false true d.by) now group (IsUnderWay after)
   heard_at = record {
@@ -234,40 +257,58 @@ module _ (now after : Scene) (group : Draw) (taken : Option Errand) (sent : Draw
   ended_other other ne = other-same now after group taken sent row other ne (d.sends.1 other tt)
 
   ended_last : (tx : Draw) (party : Party) → IsAt (Closes tx party) now → party.leg ≡ Filed → AreOne (party.group, Ends tx) (group, Ends d.tx) → IsUnderWay after
-  ended_last tx party a leg e = (Still, record {
-    parties = (tt, λ other none. elim (cases-draw other group) [
-      | inl i ↦ ap after.at i ∙ ended_own tx party a.parties.0.0 leg (first e)
-      | inr ne ↦ ended_other other ne ∙ a.parties.1 other ((λ i. ne (i ∙ first e)), tt)
-    ]);
-    leads = tt;
-    apart = tt;
-    sound = tt;
-  })
+  ended_last tx party a leg e = (
+    Still,
+    record {
+      parties = (
+        tt,
+        λ other none. elim (cases-draw other group) [
+          | inl i ↦ ap after.at i ∙ ended_own tx party a.parties.0.0 leg (first e)
+          | inr ne ↦ ended_other other ne ∙ a.parties.1 other ((λ i. ne (i ∙ first e)), tt)
+        ],
+      );
+      leads = tt;
+      apart = tt;
+      sound = tt;
+    },
+  )
 
   ended_one : (tx : Draw) (one two : Party) → IsAt (ClosesBoth tx one two) now → one.leg ≡ Filed → AreOne (one.group, Ends tx) (group, Ends d.tx) → IsUnderWay after
-  ended_one tx one two a leg e = (Closes tx two, record {
-    parties = ((ended_other two.group ne_two ∙ a.parties.0.1.0, tt), λ other none. elim (cases-draw other group) [
-      | inl i ↦ ap after.at i ∙ ended_own tx one a.parties.0.0 leg (first e)
-      | inr ne ↦ ended_other other ne ∙ a.parties.1 other ((λ i. ne (i ∙ first e)), (none.0, tt))
-    ]);
-    leads = (row.leads two.group two.host ne_two a.leads.1.0, tt);
-    apart = (tt, tt);
-    sound = tt;
-  })
+  ended_one tx one two a leg e = (
+    Closes tx two,
+    record {
+      parties = (
+        (ended_other two.group ne_two ∙ a.parties.0.1.0, tt),
+        λ other none. elim (cases-draw other group) [
+          | inl i ↦ ap after.at i ∙ ended_own tx one a.parties.0.0 leg (first e)
+          | inr ne ↦ ended_other other ne ∙ a.parties.1 other ((λ i. ne (i ∙ first e)), (none.0, tt))
+        ],
+      );
+      leads = (row.leads two.group two.host ne_two a.leads.1.0, tt);
+      apart = (tt, tt);
+      sound = tt;
+    },
+  )
     where
       ne_two : two.group ≡ group → ⊥
       ne_two i = a.apart.0.0 (first e ∙ sym i)
 
   ended_two : (tx : Draw) (one two : Party) → IsAt (ClosesBoth tx one two) now → two.leg ≡ Filed → AreOne (two.group, Ends tx) (group, Ends d.tx) → IsUnderWay after
-  ended_two tx one two a leg e = (Closes tx one, record {
-    parties = ((ended_other one.group ne_one ∙ a.parties.0.0, tt), λ other none. elim (cases-draw other group) [
-      | inl i ↦ ap after.at i ∙ ended_own tx two a.parties.0.1.0 leg (first e)
-      | inr ne ↦ ended_other other ne ∙ a.parties.1 other (none.0, ((λ i. ne (i ∙ first e)), tt))
-    ]);
-    leads = (row.leads one.group one.host ne_one a.leads.0, tt);
-    apart = (tt, tt);
-    sound = tt;
-  })
+  ended_two tx one two a leg e = (
+    Closes tx one,
+    record {
+      parties = (
+        (ended_other one.group ne_one ∙ a.parties.0.0, tt),
+        λ other none. elim (cases-draw other group) [
+          | inl i ↦ ap after.at i ∙ ended_own tx two a.parties.0.1.0 leg (first e)
+          | inr ne ↦ ended_other other ne ∙ a.parties.1 other (none.0, ((λ i. ne (i ∙ first e)), tt))
+        ],
+      );
+      leads = (row.leads one.group one.host ne_one a.leads.0, tt);
+      apart = (tt, tt);
+      sound = tt;
+    },
+  )
     where
       ne_one : one.group ≡ group → ⊥
       ne_one i = a.apart.0.0 (i ∙ sym (first e))

@@ -145,7 +145,7 @@ orders-leave = record {
   split = λ at child order me group is c. changed_only (Leaves (Asking child group.core.succ.group Lone) ((group.core.succ.group, Question child group.core.id true me (least_of group.core.succ.members) ∷ []) ∷ []) (Split at child order) me (before_of group.core))
       group (split_group group at child order) child (has_named group.core child) group.core.gone (refusal_of group.core (Split at child order)) c
       (subst (λ b. Leaves (Asking child group.core.succ.group Lone) ((group.core.succ.group, Question child group.core.id true me (least_of group.core.succ.members) ∷ []) ∷ []) (Split at child order) me (before_of group.core)
-          (cond b (left_group group at child) (begun_group group child (At.Split at child) order), Was.Changed)) (sym is) (split_asks me (before_of group.core) at child order group));
+      (cond b (left_group group at child) (begun_group group child (At.Split at child) order), Was.Changed)) (sym is) (split_asks me (before_of group.core) at child order group));
   begin = λ tx body order me group b c. changed_only (Leaves (Asking tx group.core.succ.group First) ((group.core.succ.group, Question tx group.core.id false me (least_of group.core.succ.members) ∷ []) ∷ []) (Begin tx body order) me (before_of group.core))
       group (begun_group group tx body order) tx (has_named group.core tx) group.core.gone (refusal_of group.core (Begin tx body order)) c (begin_asks me (before_of group.core) tx body order group b);
 }
@@ -173,10 +173,10 @@ pub votes-leave : VotesLeave
 votes-leave = record {
   prepared = λ tx offer why me group e none is. subst (λ w. Leaves (bound_by (is_none why) tx) ((offer.coord, Reply tx false (is_none why) me offer.by ∷ []) ∷ []) (Prepared tx offer) me (before_of group.core) (voted_on w (Promised tx offer) group tx)) (sym is)
       (subst (λ b. Leaves (bound_by (is_none why) tx) ((offer.coord, Reply tx false (is_none why) me offer.by ∷ []) ∷ []) (Prepared tx offer) me (before_of group.core)
-          (cond b (group, Was.NoEffect tx) (voted_group me (before_of group.core) group tx why (Promised tx offer), Was.Voted (past_of why)))) (sym none) (prepared_leaves me (before_of group.core) group tx offer why e));
+      (cond b (group, Was.NoEffect tx) (voted_group me (before_of group.core) group tx why (Promised tx offer), Was.Voted (past_of why)))) (sym none) (prepared_leaves me (before_of group.core) group tx offer why e));
   watched = λ tx watch me group none is. subst (λ w. Leaves (bound_by true tx) ((watch.coord, Reply tx true true me watch.by ∷ []) ∷ []) (Watched tx watch) me (before_of group.core) (voted_on w (Watching tx watch) group tx)) (sym is)
       (subst (λ b. Leaves (bound_by true tx) ((watch.coord, Reply tx true true me watch.by ∷ []) ∷ []) (Watched tx watch) me (before_of group.core)
-          (cond b (group, Was.NoEffect tx) (voted_group me (before_of group.core) group tx None (Watching tx watch), Was.Voted Cast.Yes))) (sym none) (watched_leaves me (before_of group.core) group tx watch));
+      (cond b (group, Was.NoEffect tx) (voted_group me (before_of group.core) group tx None (Watching tx watch), Was.Voted Cast.Yes))) (sym none) (watched_leaves me (before_of group.core) group tx watch));
 }
 
 -- ---- what a coordinator records
@@ -207,7 +207,7 @@ module _ (me : ℕ) (before : Before) (tx : Draw) (by : ℕ) where
 
   pub heard_leaves : (frozen : Frozen) (asked : Draw) (order : ℕ) (group : Group) → group.core.succ.group ≡ asked
       → Leaves (Asking tx frozen.succ.group (Next asked by)) ((frozen.succ.group, Question tx group.core.id true me (least_of frozen.succ.members) ∷ []) ∷ []) (RecordVote tx (Says.Yes frozen) by) me before
-          (heard_group group tx At.Merge order (record { frozen = frozen; by = by }), Was.Changed)
+      (heard_group group tx At.Merge order (record { frozen = frozen; by = by }), Was.Changed)
   unfolding went_on
   heard_leaves frozen asked order group e = record {
     bond_is = ap (λ x. Asking tx frozen.succ.group (Next x by)) e;

@@ -41,6 +41,7 @@ errand-other name other errand ne = by (same_draw other name) refl
 
 -- one errand alone
 pub one-errand : (me to : ℕ) (body : MailBody) (name : Draw) (errand : Errand) → errand_by me to body ≡ Some (name, errand) → IsOnly [] ((name, errand ∷ []) ∷ []) (λ other. errands_for other (sent me to body []))
-one-errand me to body name errand e =
-    ((append-nil (errand_for name (errand_by me to body)) ∙ (ap (errand_for name) e ∙ errand-own name errand), tt),
-    λ other none. append-nil (errand_for other (errand_by me to body)) ∙ (ap (errand_for other) e ∙ errand-other other name errand none.0))
+one-errand me to body name errand e = (
+  (append-nil (errand_for name (errand_by me to body)) ∙ (ap (errand_for name) e ∙ errand-own name errand), tt),
+  λ other none. append-nil (errand_for other (errand_by me to body)) ∙ (ap (errand_for other) e ∙ errand-other other name errand none.0),
+)

@@ -56,9 +56,13 @@ order_taken : (drawer : Drawer) (line : OrderLine) (r : ReplicaState) → MayFil
     → (order : Work) × IsOrder order × (work_by (ordered_command (next_name drawer) line.number line.order) ≡ Some order) × Works (order ∷ []) [] r (ordered_row drawer line (r, []))
 unfolding ordered_row
 order_taken drawer line r may none =
-    (let w = order_work (next_name drawer) line.number line.order in
-    (w.0, w.1, w.2, subst (λ o. Works (w.0 ∷ []) [] r (taken_or_told o line.number (ordered_command (next_name drawer) line.number line.order) (r, []))) (sym none)
-        (called_works (ordered_command (next_name drawer) line.number line.order) w.0 r w.2 may)))
+    (let w = order_work (next_name drawer) line.number line.order in (
+      w.0,
+      w.1,
+      w.2,
+      subst (λ o. Works (w.0 ∷ []) [] r (taken_or_told o line.number (ordered_command (next_name drawer) line.number line.order) (r, []))) (sym none)
+          (called_works (ordered_command (next_name drawer) line.number line.order) w.0 r w.2 may),
+    ))
 
 order_refused : (drawer : Drawer) (line : OrderLine) (why : OrderRefusal) (r : ReplicaState) → untaken drawer line r ≡ Some why → Works (works r) [] r (ordered_row drawer line (r, []))
 unfolding ordered_row

@@ -136,9 +136,11 @@ module _ (r0 : ReplicaState) (mails0 : List Mail) (o : Option Work) where
   acts_found (act ∷ acts) r mails e p = by (is_idle r)
     where
       by : (b : Bool) → IsFound (cond b (Some act, (record r { acts = acts }, mails)) (None, (r, mails)))
-      by true = (record { group = p.0.group; me = p.0.me; running = p.0.running; musts = p.0.musts; errands = p.0.errands },
-          sym (append_assoc (listed (work_by act)) (works_in acts) (works_in r.calls ++ (works_flying r.leader.flights ++ works_ready r.ready)))
-          ∙ (ap (λ l. works_in l ++ (works_in r.calls ++ (works_flying r.leader.flights ++ works_ready r.ready))) (sym e) ∙ p.1))
+      by true = (
+        record { group = p.0.group; me = p.0.me; running = p.0.running; musts = p.0.musts; errands = p.0.errands },
+        sym (append_assoc (listed (work_by act)) (works_in acts) (works_in r.calls ++ (works_flying r.leader.flights ++ works_ready r.ready)))
+            ∙ (ap (λ l. works_in l ++ (works_in r.calls ++ (works_flying r.leader.flights ++ works_ready r.ready))) (sym e) ∙ p.1),
+      )
       by false = p
 
   queues_found : (r : ReplicaState) (mails : List Mail) → IsPumped (r, mails) → IsFound (from_queues (r, mails))
@@ -155,16 +157,19 @@ module _ (r0 : ReplicaState) (mails0 : List Mail) (o : Option Work) where
 
   offered_pumps : (slot : ℕ) (set : List ℕ) (command : Command) (r : ReplicaState) (mails : List Mail) → IsFound (Some command, (r, mails)) → IsPumped (offered slot set command (r, mails))
   unfolding offered
-  offered_pumps slot set command r mails f = (record {
-    group = f.0.group;
-    me = f.0.me;
-    running = f.0.running;
-    musts = f.0.musts;
-    errands = λ name. errands-all name r.me set (Accept (name_of r) r.leader.ballot slot command) mails (λ to. refl) ∙ f.0.errands name;
-  }, ap (λ l. works_in r.acts ++ (works_in r.calls ++ (l ++ works_ready r.ready))) (flying_more r.leader.flights (record { slot = slot; value = command; voters = None }))
-      ∙ (ap (λ l. works_in r.acts ++ (works_in r.calls ++ l)) (append_assoc (works_flying r.leader.flights) (listed (work_by command)) (works_ready r.ready))
-      ∙ (sym (assoc (listed (work_by command) ++ works_ready r.ready)) ∙ from-front (work_by command) (works_in r.acts ++ (works_in r.calls ++ works_flying r.leader.flights)) (works_ready r.ready) o
-          (ap (λ l. listed (work_by command) ++ l) (assoc (works_ready r.ready)) ∙ f.1))))
+  offered_pumps slot set command r mails f = (
+    record {
+      group = f.0.group;
+      me = f.0.me;
+      running = f.0.running;
+      musts = f.0.musts;
+      errands = λ name. errands-all name r.me set (Accept (name_of r) r.leader.ballot slot command) mails (λ to. refl) ∙ f.0.errands name;
+    },
+    ap (λ l. works_in r.acts ++ (works_in r.calls ++ (l ++ works_ready r.ready))) (flying_more r.leader.flights (record { slot = slot; value = command; voters = None }))
+        ∙ (ap (λ l. works_in r.acts ++ (works_in r.calls ++ l)) (append_assoc (works_flying r.leader.flights) (listed (work_by command)) (works_ready r.ready))
+        ∙ (sym (assoc (listed (work_by command) ++ works_ready r.ready)) ∙ from-front (work_by command) (works_in r.acts ++ (works_in r.calls ++ works_flying r.leader.flights)) (works_ready r.ready) o
+        (ap (λ l. listed (work_by command) ++ l) (assoc (works_ready r.ready)) ∙ f.1))),
+  )
     where
       assoc : (l : List Work) → (works_in r.acts ++ (works_in r.calls ++ works_flying r.leader.flights)) ++ l ≡ works_in r.acts ++ (works_in r.calls ++ (works_flying r.leader.flights ++ l))
       assoc l = append_assoc (works_in r.acts) (works_in r.calls ++ works_flying r.leader.flights) l ∙ ap (λ x. works_in r.acts ++ x) (append_assoc (works_in r.calls) (works_flying r.leader.flights) l)

@@ -30,14 +30,17 @@ module _ (now after : Scene) (group : Draw) (taken : Option Errand) (sent : Draw
   passed = Question d.tx d.coord d.watch d.by d.to
 
   passes_goes : (deal : Deal) (to : ℕ) → IsAt (Asks deal to) now → AreOne (deal.asked, Question deal.tx deal.coord (is_watch deal.turn) deal.chief to) (group, passed) → IsUnderWay after
-  passes_goes deal to a e = (SentOn deal, record {
-    parties = deal-goes now.at after.at deal (coordinator deal [] []).1 (asked_one deal Unbound [] (Question deal.tx deal.coord (is_watch deal.turn) deal.chief to ∷ [])).1 a.parties a.apart
-        (λ other c b. other-same now after group taken sent row other (λ i. b (i ∙ sym is)) (d.sends.1 other ((λ i. c (i ∙ sym coord_is)), tt)))
-        (coordinator deal [] (Elsewhere deal.tx deal.chief ∷ [])).1 (asked_one deal Unbound [] []).1 at_coord at_asked;
-    leads = leads-stay now after group taken sent row d.leads (leads_of (Asks deal to)) a.leads;
-    apart = a.apart;
-    sound = tt;
-  })
+  passes_goes deal to a e = (
+    SentOn deal,
+    record {
+      parties = deal-goes now.at after.at deal (coordinator deal [] []).1 (asked_one deal Unbound [] (Question deal.tx deal.coord (is_watch deal.turn) deal.chief to ∷ [])).1 a.parties a.apart
+          (λ other c b. other-same now after group taken sent row other (λ i. b (i ∙ sym is)) (d.sends.1 other ((λ i. c (i ∙ sym coord_is)), tt)))
+          (coordinator deal [] (Elsewhere deal.tx deal.chief ∷ [])).1 (asked_one deal Unbound [] []).1 at_coord at_asked;
+      leads = leads-stay now after group taken sent row d.leads (leads_of (Asks deal to)) a.leads;
+      apart = a.apart;
+      sound = tt;
+    },
+  )
     where
       is : deal.asked ≡ group
       is = first e
@@ -100,14 +103,17 @@ module _ (now after : Scene) (group : Draw) (taken : Option Errand) (sent : Draw
   sent_on = Elsewhere d.tx d.to
 
   asks_goes : (deal : Deal) → IsAt (SentOn deal) now → AreOne (deal.coord, Elsewhere deal.tx deal.chief) (group, sent_on) → IsUnderWay after
-  asks_goes deal a e = (Asks deal d.node, record {
-    parties = deal-goes now.at after.at deal (coordinator deal [] (Elsewhere deal.tx deal.chief ∷ [])).1 (asked_one deal Unbound [] []).1 a.parties a.apart
-        (λ other c b. other-same now after group taken sent row other (λ i. c (i ∙ sym is)) (d.sends.1 other ((λ i. b (i ∙ asked_is)), tt)))
-        (coordinator deal [] []).1 (asked_one deal Unbound [] (Question deal.tx deal.coord (is_watch deal.turn) deal.chief d.node ∷ [])).1 at_coord at_asked;
-    leads = leads-stay now after group taken sent row d.leads (leads_of (SentOn deal)) a.leads;
-    apart = a.apart;
-    sound = tt;
-  })
+  asks_goes deal a e = (
+    Asks deal d.node,
+    record {
+      parties = deal-goes now.at after.at deal (coordinator deal [] (Elsewhere deal.tx deal.chief ∷ [])).1 (asked_one deal Unbound [] []).1 a.parties a.apart
+          (λ other c b. other-same now after group taken sent row other (λ i. c (i ∙ sym is)) (d.sends.1 other ((λ i. b (i ∙ asked_is)), tt)))
+          (coordinator deal [] []).1 (asked_one deal Unbound [] (Question deal.tx deal.coord (is_watch deal.turn) deal.chief d.node ∷ [])).1 at_coord at_asked;
+      leads = leads-stay now after group taken sent row d.leads (leads_of (SentOn deal)) a.leads;
+      apart = a.apart;
+      sound = tt;
+    },
+  )
     where
       is : deal.coord ≡ group
       is = first e
@@ -196,34 +202,42 @@ module _ (now after : Scene) (group : Draw) (taken : Option Errand) (sent : Draw
       (d.work ∙ (ap (λ l. l ++ d.filed ∷ []) (ap (λ (k : Here). k.work) is ∙ idle) ∙ ap (λ x. x ∷ []) (filed only work e w))) (none group)
 
   weighs : (deal : Deal) (to : ℕ) → IsAt (Asks deal to) now → AreOne (deal.asked, Question deal.tx deal.coord (is_watch deal.turn) deal.chief to) (group, d.errand) → IsUnderWay after
-  weighs deal to a e = (Weighs deal d.host, record {
-    parties = deal-goes now.at after.at deal (coordinator deal [] []).1 (asked_one deal Unbound [] (Question deal.tx deal.coord (is_watch deal.turn) deal.chief to ∷ [])).1 a.parties a.apart
-        (λ name c b. other name (λ i. b (i ∙ sym is)))
-        (coordinator deal [] []).1 (asked_one deal Unbound (Answers deal.tx deal.coord (is_watch deal.turn) deal.chief ∷ []) []).1
-        (other deal.coord (λ i. a.apart.0.0 (i ∙ sym is)) ∙ a.parties.0.0)
-        (ap after.at is ∙ own (asked_one deal Unbound [] (Question deal.tx deal.coord (is_watch deal.turn) deal.chief to ∷ [])).1 (Question deal.tx deal.coord (is_watch deal.turn) deal.chief to)
-            (Answers deal.tx deal.coord (is_watch deal.turn) deal.chief) (ap now.at (sym is) ∙ a.parties.0.1.0) refl refl (second e) refl);
-    leads = (lead-stays now after group taken sent row d.leads deal.coord deal.chief a.leads.0,
-        (ap after.lead is ∙ d.leads d.host d.led, leads-stay now after group taken sent row d.leads (heard_lead deal.turn) a.leads.1));
-    apart = a.apart;
-    sound = tt;
-  })
+  weighs deal to a e = (
+    Weighs deal d.host,
+    record {
+      parties = deal-goes now.at after.at deal (coordinator deal [] []).1 (asked_one deal Unbound [] (Question deal.tx deal.coord (is_watch deal.turn) deal.chief to ∷ [])).1 a.parties a.apart
+          (λ name c b. other name (λ i. b (i ∙ sym is)))
+          (coordinator deal [] []).1 (asked_one deal Unbound (Answers deal.tx deal.coord (is_watch deal.turn) deal.chief ∷ []) []).1
+          (other deal.coord (λ i. a.apart.0.0 (i ∙ sym is)) ∙ a.parties.0.0)
+          (ap after.at is ∙ own (asked_one deal Unbound [] (Question deal.tx deal.coord (is_watch deal.turn) deal.chief to ∷ [])).1 (Question deal.tx deal.coord (is_watch deal.turn) deal.chief to)
+          (Answers deal.tx deal.coord (is_watch deal.turn) deal.chief) (ap now.at (sym is) ∙ a.parties.0.1.0) refl refl (second e) refl);
+      leads = (
+        lead-stays now after group taken sent row d.leads deal.coord deal.chief a.leads.0,
+        (ap after.lead is ∙ d.leads d.host d.led, leads-stay now after group taken sent row d.leads (heard_lead deal.turn) a.leads.1),
+      );
+      apart = a.apart;
+      sound = tt;
+    },
+  )
     where
       is : deal.asked ≡ group
       is = first e
 
   records : (deal : Deal) (agreed : Bool) (host : ℕ) → IsAt (Replied deal agreed host) now → AreOne (deal.coord, Reply deal.tx (is_watch deal.turn) agreed host deal.chief) (group, d.errand) → IsUnderWay after
-  records deal agreed host a e = (Recorded deal agreed host, record {
-    parties = deal-goes now.at after.at deal (coordinator deal [] (Reply deal.tx (is_watch deal.turn) agreed host deal.chief ∷ [])).1 (asked_one deal (bound_by agreed deal.tx) [] []).1 a.parties a.apart
-        (λ name c b. other name (λ i. c (i ∙ sym is)))
-        (coordinator deal (Records deal.tx (is_watch deal.turn) agreed host ∷ []) []).1 (asked_one deal (bound_by agreed deal.tx) [] []).1
-        (ap after.at is ∙ own (coordinator deal [] (Reply deal.tx (is_watch deal.turn) agreed host deal.chief ∷ [])).1 (Reply deal.tx (is_watch deal.turn) agreed host deal.chief)
-            (Records deal.tx (is_watch deal.turn) agreed host) (ap now.at (sym is) ∙ a.parties.0.0) refl refl (second e) refl)
-        (other deal.asked (λ i. a.apart.0.0 (is ∙ sym i)) ∙ a.parties.0.1.0);
-    leads = leads-stay now after group taken sent row d.leads (leads_of (Replied deal agreed host)) a.leads;
-    apart = a.apart;
-    sound = a.sound;
-  })
+  records deal agreed host a e = (
+    Recorded deal agreed host,
+    record {
+      parties = deal-goes now.at after.at deal (coordinator deal [] (Reply deal.tx (is_watch deal.turn) agreed host deal.chief ∷ [])).1 (asked_one deal (bound_by agreed deal.tx) [] []).1 a.parties a.apart
+          (λ name c b. other name (λ i. c (i ∙ sym is)))
+          (coordinator deal (Records deal.tx (is_watch deal.turn) agreed host ∷ []) []).1 (asked_one deal (bound_by agreed deal.tx) [] []).1
+          (ap after.at is ∙ own (coordinator deal [] (Reply deal.tx (is_watch deal.turn) agreed host deal.chief ∷ [])).1 (Reply deal.tx (is_watch deal.turn) agreed host deal.chief)
+          (Records deal.tx (is_watch deal.turn) agreed host) (ap now.at (sym is) ∙ a.parties.0.0) refl refl (second e) refl)
+          (other deal.asked (λ i. a.apart.0.0 (is ∙ sym i)) ∙ a.parties.0.1.0);
+      leads = leads-stay now after group taken sent row d.leads (leads_of (Replied deal agreed host)) a.leads;
+      apart = a.apart;
+      sound = a.sound;
+    },
+  )
     where
       is : deal.coord ≡ group
       is = first e
@@ -234,28 +248,37 @@ module _ (now after : Scene) (group : Draw) (taken : Option Errand) (sent : Draw
       (ap now.at (sym (first e)) ∙ (was ∙ ap (λ l. closing tx l party.host) leg)) refl refl (second e) refl
 
   closes : (tx : Draw) (party : Party) → IsAt (Closes tx party) now → (party.leg ≡ Mailed) × (AreOne (party.group, Result tx party.host) (group, d.errand)) → IsUnderWay after
-  closes tx party a e = (Closes tx (now_filed party), record {
-    parties = ((ends tx party a.parties.0.0 e.0 e.1, tt), λ name n. other name (λ i. n.0 (i ∙ sym (first e.1))) ∙ a.parties.1 name n);
-    leads = leads-stay now after group taken sent row d.leads (leads_of (Closes tx party)) a.leads;
-    apart = a.apart;
-    sound = tt;
-  })
+  closes tx party a e = (
+    Closes tx (now_filed party),
+    record {
+      parties = ((ends tx party a.parties.0.0 e.0 e.1, tt), λ name n. other name (λ i. n.0 (i ∙ sym (first e.1))) ∙ a.parties.1 name n);
+      leads = leads-stay now after group taken sent row d.leads (leads_of (Closes tx party)) a.leads;
+      apart = a.apart;
+      sound = tt;
+    },
+  )
 
   closes_one : (tx : Draw) (one two : Party) → IsAt (ClosesBoth tx one two) now → (one.leg ≡ Mailed) × (AreOne (one.group, Result tx one.host) (group, d.errand)) → IsUnderWay after
-  closes_one tx one two a e = (ClosesBoth tx (now_filed one) two, record {
-    parties = ((ends tx one a.parties.0.0 e.0 e.1, (other two.group (λ i. a.apart.0.0 (first e.1 ∙ sym i)) ∙ a.parties.0.1.0, tt)), λ name n. other name (λ i. n.0 (i ∙ sym (first e.1))) ∙ a.parties.1 name n);
-    leads = leads-stay now after group taken sent row d.leads (leads_of (ClosesBoth tx one two)) a.leads;
-    apart = a.apart;
-    sound = tt;
-  })
+  closes_one tx one two a e = (
+    ClosesBoth tx (now_filed one) two,
+    record {
+      parties = ((ends tx one a.parties.0.0 e.0 e.1, (other two.group (λ i. a.apart.0.0 (first e.1 ∙ sym i)) ∙ a.parties.0.1.0, tt)), λ name n. other name (λ i. n.0 (i ∙ sym (first e.1))) ∙ a.parties.1 name n);
+      leads = leads-stay now after group taken sent row d.leads (leads_of (ClosesBoth tx one two)) a.leads;
+      apart = a.apart;
+      sound = tt;
+    },
+  )
 
   closes_two : (tx : Draw) (one two : Party) → IsAt (ClosesBoth tx one two) now → (two.leg ≡ Mailed) × (AreOne (two.group, Result tx two.host) (group, d.errand)) → IsUnderWay after
-  closes_two tx one two a e = (ClosesBoth tx one (now_filed two), record {
-    parties = ((other one.group (λ i. a.apart.0.0 (i ∙ sym (first e.1))) ∙ a.parties.0.0, (ends tx two a.parties.0.1.0 e.0 e.1, tt)), λ name n. other name (λ i. n.1.0 (i ∙ sym (first e.1))) ∙ a.parties.1 name n);
-    leads = leads-stay now after group taken sent row d.leads (leads_of (ClosesBoth tx one two)) a.leads;
-    apart = a.apart;
-    sound = tt;
-  })
+  closes_two tx one two a e = (
+    ClosesBoth tx one (now_filed two),
+    record {
+      parties = ((other one.group (λ i. a.apart.0.0 (i ∙ sym (first e.1))) ∙ a.parties.0.0, (ends tx two a.parties.0.1.0 e.0 e.1, tt)), λ name n. other name (λ i. n.1.0 (i ∙ sym (first e.1))) ∙ a.parties.1 name n);
+      leads = leads-stay now after group taken sent row d.leads (leads_of (ClosesBoth tx one two)) a.leads;
+      apart = a.apart;
+      sound = tt;
+    },
+  )
 
   files_by : (s : Stage) → IsAt s now → Among (group, d.errand) (tokens errands_of (parties_of s)) → IsUnderWay after
   files_by Still a t = absurd t

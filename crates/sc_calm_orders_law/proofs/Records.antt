@@ -94,7 +94,7 @@ module _ (me : ℕ) (group : Group) (tx asked : Draw) (by : ℕ) where
       where
         hears : (b : Bool) → is_changed (cond {A = Group × Effect} b (committed (closing_plan group frozen) group tx) (heard_group group tx At.Merge order (record { frozen = frozen; by = by }), Was.Changed)).1 ≡ true
             → Leaves (Asking tx frozen.succ.group (Next asked by)) asks_watcher_next (RecordVote tx (Says.Yes frozen) by) me before
-                (cond b (committed (closing_plan group frozen) group tx) (heard_group group tx At.Merge order (record { frozen = frozen; by = by }), Was.Changed))
+            (cond b (committed (closing_plan group frozen) group tx) (heard_group group tx At.Merge order (record { frozen = frozen; by = by }), Was.Changed))
         hears true d = absurd (not_decided (closing_plan group frozen) d)
         hears false d = heard_leaves me before tx by frozen asked order group own_is
     hearing_leaves (At.Repart at) d = absurd (not_decided (repart_plan group at frozen) d)
@@ -137,10 +137,13 @@ records-leave = record {
 -- two outcomes for two groups
 two_results : (me by host : ℕ) (tx part asked : Draw) (outcome : Outcome) → (part ≡ asked → ⊥)
     → IsOnly [] ((part, Result tx host ∷ []) ∷ (asked, Result tx by ∷ []) ∷ []) (λ name. errands_for name (sent me by (TxOutcome tx asked outcome) (sent me host (TxOutcome tx part outcome) [])))
-two_results me by host tx part asked outcome ne = ((
+two_results me by host tx part asked outcome ne = (
+  (
     ap (λ l. l ++ (errand_for part (Some (asked, Result tx by)) ++ [])) (errand-own part (Result tx host)) ∙ ap (λ l. Result tx host ∷ (l ++ [])) (errand-other part asked (Result tx by) ne),
-    (ap (λ l. l ++ (errand_for asked (Some (asked, Result tx by)) ++ [])) (errand-other asked part (Result tx host) (λ e. ne (sym e))) ∙ ap (λ l. l ++ []) (errand-own asked (Result tx by)), tt)),
-    λ name none. ap (λ l. l ++ (errand_for name (Some (asked, Result tx by)) ++ [])) (errand-other name part (Result tx host) none.0) ∙ ap (λ l. l ++ []) (errand-other name asked (Result tx by) none.1.0))
+    (ap (λ l. l ++ (errand_for asked (Some (asked, Result tx by)) ++ [])) (errand-other asked part (Result tx host) (λ e. ne (sym e))) ∙ ap (λ l. l ++ []) (errand-own asked (Result tx by)), tt),
+  ),
+  λ name none. ap (λ l. l ++ (errand_for name (Some (asked, Result tx by)) ++ [])) (errand-other name part (Result tx host) none.0) ∙ ap (λ l. l ++ []) (errand-other name asked (Result tx by) none.1.0),
+)
 
 module _ (me : ℕ) (group : Group) (tx : Draw) (by : ℕ) (outcome : Outcome) where
   -- a decision tells the parties

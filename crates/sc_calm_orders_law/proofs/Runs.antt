@@ -251,9 +251,20 @@ module _ (command : Command) (work : Work) (r : ReplicaState) (lone : IsLone com
 
   over_done : (mails : List Mail) → ((name : Draw) → errands_for name mails ≡ errands_for name goes_on) → IsDoneAt (over, mails)
   unfolding entered forgotten
-  over_done mails sends = (record {
-    group = refl; me = refl; next_is = entered_next command r; acts = lone.acts; calls = lone.calls; flights = over_flights; ready = over_ready; musts = lone.unbound; sends = sends;
-  }, λ stands member. lone.running)
+  over_done mails sends = (
+    record {
+      group = refl;
+      me = refl;
+      next_is = entered_next command r;
+      acts = lone.acts;
+      calls = lone.calls;
+      flights = over_flights;
+      ready = over_ready;
+      musts = lone.unbound;
+      sends = sends;
+    },
+    λ stands member. lone.running,
+  )
 
   landed_done : (q : ReplicaState) (mails : List Mail) → q ≡ entered command r → ((name : Draw) → errands_for name mails ≡ errands_for name goes_on) → IsDoneAt (landed true (next r) command (q, mails))
   unfolding landed
@@ -264,7 +275,14 @@ module _ (command : Command) (work : Work) (r : ReplicaState) (lone : IsLone com
   ended_done : (hint : Option ℕ) (answer : AnswerBody) (q : ReplicaState) (mails : List Mail) → IsDone q mails → IsDone (ended hint answer (q, mails)).0 (ended hint answer (q, mails)).1
   unfolding ended
   ended_done hint answer q mails d = record {
-    group = d.group; me = d.me; next_is = d.next_is; acts = refl; calls = refl; flights = refl; ready = refl; musts = λ slot le. refl;
+    group = d.group;
+    me = d.me;
+    next_is = d.next_is;
+    acts = refl;
+    calls = refl;
+    flights = refl;
+    ready = refl;
+    musts = λ slot le. refl;
     sends = λ name. all_dismissed_none name q.me (name_of q) hint answer q.calls (answered_all q.me (name_of q) answer (under_way q) mails)
         ∙ (all_answered_none name q.me (name_of q) answer (under_way q) mails ∙ d.sends name);
   }
@@ -296,11 +314,25 @@ module _ (command : Command) (work : Work) (r : ReplicaState) (lone : IsLone com
   unfolding elected
   elected_done q mails d = by (eqb q.top.round (2 ^ 32 - 1))
     where
-      by : (b : Bool) → IsDoneAt (cond b (q, mails) (record q { top = record { round = q.top.round + 1; node = q.me }; hint = Some q.me; running = true; leader = new_leader (record { round = q.top.round + 1; node = q.me }) (next q); ready = []; waits = 0 },
-          sent_all q.me (open_nodes q.sets) (Prepare (name_of q) (record { round = q.top.round + 1; node = q.me }) (next q)) mails))
+      by : (b : Bool) → IsDoneAt (cond b (q, mails) (
+        record q { top = record { round = q.top.round + 1; node = q.me }; hint = Some q.me; running = true; leader = new_leader (record { round = q.top.round + 1; node = q.me }) (next q); ready = []; waits = 0 },
+        sent_all q.me (open_nodes q.sets) (Prepare (name_of q) (record { round = q.top.round + 1; node = q.me }) (next q)) mails,
+      ))
       by true = d
-      by false = (record { group = d.0.group; me = d.0.me; next_is = d.0.next_is; acts = d.0.acts; calls = d.0.calls; flights = refl; ready = refl; musts = λ slot le. refl;
-        sends = λ name. errands-all name q.me (open_nodes q.sets) (Prepare (name_of q) (record { round = q.top.round + 1; node = q.me }) (next q)) mails (λ to. refl) ∙ d.0.sends name }, λ stands member. refl)
+      by false = (
+        record {
+          group = d.0.group;
+          me = d.0.me;
+          next_is = d.0.next_is;
+          acts = d.0.acts;
+          calls = d.0.calls;
+          flights = refl;
+          ready = refl;
+          musts = λ slot le. refl;
+          sends = λ name. errands-all name q.me (open_nodes q.sets) (Prepare (name_of q) (record { round = q.top.round + 1; node = q.me }) (next q)) mails (λ to. refl) ∙ d.0.sends name;
+        },
+        λ stands member. refl,
+      )
 
   look_done : (went : Option Route) (q : ReplicaState) (mails : List Mail) → IsDoneAt (q, mails) → IsDoneAt (looked_for went (q, mails))
   look_done (Some into) q mails d = d
@@ -336,8 +368,8 @@ module _ (command : Command) (work : Work) (r : ReplicaState) (lone : IsLone com
   runs-alone =
       (let after : Place = executed_one true command (r, []) in let d = one_done in
       let p = pump-stays after.0 after.1 None (λ slot le. d.0.musts slot (let n = d.0.next_is in omega (arith, le, n)))
-          (ap (λ l. l ++ (works_in after.0.calls ++ (works_flying after.0.leader.flights ++ works_ready after.0.ready))) d.0.acts
-          ∙ (ap (λ l. l ++ (works_flying after.0.leader.flights ++ works_ready after.0.ready)) d.0.calls ∙ (ap (λ l. works_flying l ++ works_ready after.0.ready) d.0.flights ∙ ap works_ready d.0.ready))) in
+      (ap (λ l. l ++ (works_in after.0.calls ++ (works_flying after.0.leader.flights ++ works_ready after.0.ready))) d.0.acts
+      ∙ (ap (λ l. l ++ (works_flying after.0.leader.flights ++ works_ready after.0.ready)) d.0.calls ∙ (ap (λ l. works_flying l ++ works_ready after.0.ready) d.0.flights ∙ ap works_ready d.0.ready))) in
       subst (λ (x : Executed). RunsAlone command r (pumped x.0)) (sym (ready_none after after.0.ready d.0.ready)) (record {
         group = p.0.group ∙ d.0.group;
         me = p.0.me ∙ d.0.me;

@@ -13,12 +13,15 @@ each_same value after [] same e = tt
 each_same value after (entry ∷ named) same e = (same entry.0 ∙ e.0, each_same value after named same e.1)
 
 pub rests-keep : RestsKeep
-rests-keep now after group taken sent row d (s, a) = (s, record {
-  parties = (each_same now.at after.at (parties_of s) all a.parties.0, λ name none. all name ∙ a.parties.1 name none);
-  leads = leads-stay now after group taken sent row d.leads (leads_of s) a.leads;
-  apart = a.apart;
-  sound = a.sound;
-})
+rests-keep now after group taken sent row d (s, a) = (
+  s,
+  record {
+    parties = (each_same now.at after.at (parties_of s) all a.parties.0, λ name none. all name ∙ a.parties.1 name none);
+    leads = leads-stay now after group taken sent row d.leads (leads_of s) a.leads;
+    apart = a.apart;
+    sound = a.sound;
+  },
+)
   where
     own : after.at group ≡ now.at group
     own = here-is (after.at group) (now.at group).bond (now.at group).work (now.at group).errands d.bond d.work
@@ -31,12 +34,15 @@ rests-keep now after group taken sent row d (s, a) = (s, record {
     ]
 
 pub orders-begin : OrdersBegin
-orders-begin now after group taken sent row d a = (Ordered group d.chief d.order, record {
-  parties = ((own, tt), λ name none. other-same now after group taken sent row name none.0 (d.sends.1 name tt) ∙ a.parties.1 name tt);
-  leads = (d.leads, tt);
-  apart = (tt, tt);
-  sound = d.is_order;
-})
+orders-begin now after group taken sent row d a = (
+  Ordered group d.chief d.order,
+  record {
+    parties = ((own, tt), λ name none. other-same now after group taken sent row name none.0 (d.sends.1 name tt) ∙ a.parties.1 name tt);
+    leads = (d.leads, tt);
+    apart = (tt, tt);
+    sound = d.is_order;
+  },
+)
   where
     was : now.at group ≡ free
     was = a.parties.1 group tt
