@@ -14,3 +14,5 @@ pub mod Records
 pub mod Adds
 pub mod Ordering
 pub mod Runs
+pub mod Counting
+pub mod Resting

@@ -48,7 +48,7 @@ module _ (name : Draw) where
       by true = refl
       by false = errands-none name me node body mails (e node)
 
-  order_none : (me number : ℕ) (result : ToldResult) (mails : List Mail) → errands_for name (told_order me number result mails) ≡ errands_for name mails
+  pub order_none : (me number : ℕ) (result : ToldResult) (mails : List Mail) → errands_for name (told_order me number result mails) ≡ errands_for name mails
   unfolding told_order
   order_none me number result mails = by (is_told number)
     where
@@ -60,7 +60,7 @@ module _ (name : Draw) where
   told_none me number None mails = refl
   told_none me number (Some result) mails = order_none me number result mails
 
-  begun_none : (me : ℕ) (before : Before) (effect : Effect) (command : Command) (mails : List Mail) → errands_for name (told_begun me before effect command mails) ≡ errands_for name mails
+  pub begun_none : (me : ℕ) (before : Before) (effect : Effect) (command : Command) (mails : List Mail) → errands_for name (told_begun me before effect command mails) ≡ errands_for name mails
   unfolding told_begun
   begun_none me before effect command mails = told_none me _ (begun_result before.alone effect command) mails
 
@@ -79,7 +79,7 @@ module _ (name : Draw) where
   answered_none me group answer (Watched tx watch) mails = refl
   answered_none me group answer (RecordWatch tx vote by) mails = refl
 
-  all_answered_none : (me : ℕ) (group : Draw) (answer : AnswerBody) (commands : List Command) (mails : List Mail) → errands_for name (answered_all me group answer commands mails) ≡ errands_for name mails
+  pub all_answered_none : (me : ℕ) (group : Draw) (answer : AnswerBody) (commands : List Command) (mails : List Mail) → errands_for name (answered_all me group answer commands mails) ≡ errands_for name mails
   unfolding answered_all
   all_answered_none me group answer [] mails = refl
   all_answered_none me group answer (command ∷ commands) mails = all_answered_none me group answer commands (answered me group answer command mails) ∙ answered_none me group answer command mails
@@ -99,7 +99,7 @@ module _ (name : Draw) where
   dismissed_none me group hint answer (Watched tx watch) mails = order_none me _ _ mails
   dismissed_none me group hint answer (RecordWatch tx vote by) mails = order_none me _ _ mails
 
-  all_dismissed_none : (me : ℕ) (group : Draw) (hint : Option ℕ) (answer : AnswerBody) (commands : List Command) (mails : List Mail) → errands_for name (dismissed_all me group hint answer commands mails) ≡ errands_for name mails
+  pub all_dismissed_none : (me : ℕ) (group : Draw) (hint : Option ℕ) (answer : AnswerBody) (commands : List Command) (mails : List Mail) → errands_for name (dismissed_all me group hint answer commands mails) ≡ errands_for name mails
   unfolding dismissed_all
   all_dismissed_none me group hint answer [] mails = refl
   all_dismissed_none me group hint answer (command ∷ commands) mails = all_dismissed_none me group hint answer commands (dismissed me group hint answer command mails) ∙ dismissed_none me group hint answer command mails

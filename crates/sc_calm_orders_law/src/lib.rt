@@ -5,7 +5,7 @@
 
 ghost use Rattle.sc_calm_orders_law.specs.Entries.{EndsLeave, OrdersLeave, RecordsLeave, VotesLeave, WatchRecordsLeave};
 ghost use Rattle.sc_calm_orders_law.specs.Rows.{EntriesKeep, FilesKeep, OrdersBegin, QuestionsKeep, QuietIsStill, RestsKeep};
-ghost use Rattle.sc_calm_orders_law.specs.Running.{EntriesRunAlone, TablesOrder};
+ghost use Rattle.sc_calm_orders_law.specs.Running.{EntriesRunAlone, TablesOrder, TablesRest, VotesCountAlone};
 ghost use Rattle.sc_calm_orders_law.specs.Tables.{PumpsKeepWork, TablesAskOn, TablesFile, TablesPass};
 
 /// Where no order is under way, one that a leader takes begins to be: its command stands at the
@@ -105,4 +105,17 @@ pub fn entries_run_alone()
 /// An order that a leader takes is its work; one that it refuses changes nothing.
 pub fn tables_order()
     ensures { TablesOrder }
+{}
+
+/// A vote for the one command that a leader has in flight leaves it there, or decides it: then it is
+/// executed alone.
+pub fn votes_count_alone()
+    ensures { VotesCountAlone }
+{}
+
+/// A replica that is asked to accept or to promise, and does not stop by it, keeps its work; and one
+/// that learns an entry and has no work has none after it, also where it is elected by it. Neither
+/// sends a mail of a transaction.
+pub fn tables_rest()
+    ensures { TablesRest }
 {}
