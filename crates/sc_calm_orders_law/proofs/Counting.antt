@@ -1,6 +1,6 @@
 -- A leader counts a vote for the one command that is in flight.
 use Rattle.std.proofs.Common.{◌≡◌, ℕ, ◌&&◌, eqb, Bool, true, false, cond, List, [], ◌∷◌, ◌++◌, length, Option, Some, None, ◌⊎◌, inl, inr, refl, sym, ◌∙◌, ap, subst, append-nil}
-use Rattle.std.proofs.lemmas.Bool.{eqb-true, eq-eqb, and_parts}
+use Rattle.std.proofs.lemmas.Bool.{eqb-true, eq-eqb}
 use Rattle.sc_base.specs.Same.{same_ballot}
 use Rattle.sc_base.specs.declared.names.Ballot.{Ballot}
 use Rattle.sc_base.specs.declared.names.Draw.{Draw}
@@ -13,11 +13,10 @@ use Rattle.sc_paxos_words.specs.declared.flights.Flight.{Flight}
 use Rattle.sc_paxos_words.specs.Leaders.{LeaderState, flight_at, without_flight, without_flight_at}
 use Rattle.sc_paxos_words.specs.Votes.{kept_voters, voters_after, with_voters, tallied, vote_at, counted}
 use Rattle.sc_node_table.specs.Execute.{has_room, executed}
-use Rattle.sc_node_table.specs.Replica.{ReplicaState, Place, Executed, childless, next, set_at, listed}
+use Rattle.sc_node_table.specs.Replica.{ReplicaState, Executed, childless, next, set_at, listed}
 use Rattle.sc_node_table.specs.Rows.{mailed}
 use Rattle.sc_node_table.specs.Slots.{with_slot}
 use Rattle.sc_node_table.specs.Voting.{leads, readied, vote_tallied, voted, accepted_row}
-use Rattle.sc_calm_orders_law.specs.Scenes.{Work}
 use Rattle.sc_calm_orders_law.specs.Parts.{work_by, works_in, works_flying, works_ready, works}
 use Rattle.sc_calm_orders_law.specs.Tables.{Works}
 use Rattle.sc_calm_orders_law.specs.Running.{IsLone, FliesLone, Decides, VotesCountAlone}

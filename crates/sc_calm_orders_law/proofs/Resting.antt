@@ -1,29 +1,32 @@
 -- Rows that do nothing of an order: what is asked for, and an entry that is learnt.
-use Rattle.std.proofs.Common.{◌≡◌, ℕ, ◌+◌, ◌-◌, ◌^◌, ◌&&◌, eqb, Bool, true, false, cond, List, [], ◌∷◌, ◌++◌, Option, Some, None, refl, sym, ◌∙◌, ap, subst}
+use Rattle.std.proofs.Common.{◌≡◌, ℕ, ◌+◌, ◌-◌, ◌^◌, ◌&&◌, ◌||◌, not, length, append-nil, eqb, Bool, true, false, cond, List, [], ◌∷◌, ◌++◌, Option, Some, None, refl, sym, ◌∙◌, ap, subst}
 use Rattle.std.specs.Option.{option_map}
 use Rattle.std.specs.Prelude.{nat_lt, nat_le}
+use Rattle.sc_base.specs.Same.{same_ballot}
 use Rattle.sc_base.specs.declared.names.Ballot.{Ballot}
 use Rattle.sc_base.specs.declared.names.Draw.{Draw}
 use Rattle.sc_cmd.specs.declared.commands.Command.{Command}
+use Rattle.sc_cmd.specs.declared.commands.Command.TheVariants.{Noop}
+use Rattle.sc_cmd.specs.declared.cores.Base.{Base}
 use Rattle.sc_cmd.specs.declared.effects.Effect.{Effect}
 use Rattle.sc_cmd.specs.declared.links.Route.{Route}
 use Rattle.sc_cmd.specs.declared.orders.ToldResult.{ToldResult}
 use Rattle.sc_mail.specs.declared.bodies.AnswerBody.{AnswerBody}
 use Rattle.sc_mail.specs.declared.bodies.AnswerBody.TheVariants as Says
 use Rattle.sc_mail.specs.declared.bodies.Mail.{Mail}
-use Rattle.sc_mail.specs.declared.bodies.MailBody.TheVariants.{Accept, Ask, Learn, Nack, Prepare}
+use Rattle.sc_mail.specs.declared.bodies.MailBody.TheVariants.{Accept, Ask, Install, Learn, Nack, Prepare, Promise}
 use Rattle.sc_machine_table.specs.Machine.{applied}
 use Rattle.sc_member.specs.Roster.{is_member, least_of}
 use Rattle.sc_node_table.specs.Election.{saw, ended, stopped, elected, open_nodes}
 use Rattle.sc_node_table.specs.Execute.{entered, announced, order_result, told_effect, learnt_to, welcomed, slot_lost, landed, left_gone, left, is_among, looked_for, looked, executed_one, executed_ready, executed}
-use Rattle.sc_node_table.specs.Install.{install_to}
+use Rattle.sc_node_table.specs.Install.{install_to, jumped}
 use Rattle.sc_node_table.specs.Mails.{sent, sent_all, answered_all, order_number}
 use Rattle.sc_node_table.specs.Pump.{pumped}
-use Rattle.sc_node_table.specs.Replica.{ReplicaState, Place, Executed, childless, name_of, next, members, flying, under_way, forgotten, last_slot}
-use Rattle.sc_node_table.specs.Rows.{mailed, learn_row}
+use Rattle.sc_node_table.specs.Replica.{ReplicaState, Place, Executed, childless, name_of, next, members, flying, under_way, forgotten, last_slot, listed}
+use Rattle.sc_node_table.specs.Rows.{mailed, learn_row, looked_up, took_over, install_row}
 use Rattle.sc_node_table.specs.Slots.{without_slot}
 use Rattle.sc_node_table.specs.Spoken.{before_of, spoken, spoken_mails}
-use Rattle.sc_node_table.specs.Voting.{hinted, promise_to, promised, prepare_row, accepted_to, took, accept_row, nack_row}
+use Rattle.sc_node_table.specs.Voting.{leads, promise_row, hinted, promise_to, promised, prepare_row, accepted_to, took, accept_row, nack_row}
 use Rattle.sc_paxos_words.specs.declared.answers.AcceptAnswer.{AcceptAnswer}
 use Rattle.sc_paxos_words.specs.declared.answers.AcceptAnswer.TheVariants as Asked
 use Rattle.sc_paxos_words.specs.declared.answers.Must.TheVariants.{Free as Open}
@@ -34,15 +37,17 @@ use Rattle.sc_paxos_words.specs.declared.reports.Report.{Report}
 use Rattle.sc_paxos_words.specs.Accepting.{accepted as accepted_by}
 use Rattle.sc_paxos_words.specs.Acceptors.{AcceptorState}
 use Rattle.sc_paxos_words.specs.Ballots.{below}
-use Rattle.sc_paxos_words.specs.Leaders.{LeaderState, must, flight_at, new_leader, without_flight, without_flight_at}
+use Rattle.sc_paxos_words.specs.Choice.{chosen_value, names_above}
+use Rattle.sc_paxos_words.specs.Leaders.{LeaderState, must, must_without, flight_at, new_leader, without_flight, without_flight_at}
 use Rattle.sc_paxos_words.specs.Preparing.{prepared}
 use Rattle.sc_law_lemmas.proofs.Entries.{idle_pump}
 use Rattle.sc_law_lemmas.specs.Steps.{GoesOn}
+use Rattle.sc_calm_orders_law.specs.Scenes.{Work}
 use Rattle.sc_calm_orders_law.specs.Parts.{works_in, works_flying, works_ready, works, errands_for}
-use Rattle.sc_calm_orders_law.specs.Tables.{Works}
-use Rattle.sc_calm_orders_law.specs.Running.{IsIdle, Rested, TablesRest}
+use Rattle.sc_calm_orders_law.specs.Tables.{IsUnbound, Works}
+use Rattle.sc_calm_orders_law.specs.Running.{IsIdle, Rested, TablesRest, PromisesKeepWork}
 use Rattle.sc_calm_orders_law.proofs.Errands.{errands-none, errands-all}
-use Rattle.sc_calm_orders_law.proofs.Pumps.{pump-stays}
+use Rattle.sc_calm_orders_law.proofs.Pumps.{pump-stays, pumps-keep}
 use Rattle.sc_calm_orders_law.proofs.Runs.{order_none, begun_none, all_answered_none, all_dismissed_none}
 
 -- ---- what is asked for
@@ -64,7 +69,9 @@ module _ (r : ReplicaState) where
 
   same_works : (place : Place) → Same place → Works (works r) [] r place
   same_works place s = record {
-    group = s.group; me = s.me; running = s.running;
+    group = s.group;
+    me = s.me;
+    running = s.running;
     work = ap (λ l. works_in l ++ (works_in place.0.calls ++ (works_flying place.0.leader.flights ++ works_ready place.0.ready))) s.acts
         ∙ (ap (λ l. works_in r.acts ++ (works_in l ++ (works_flying place.0.leader.flights ++ works_ready place.0.ready))) s.calls
         ∙ (ap (λ (l : LeaderState Command). works_in r.acts ++ (works_in r.calls ++ (works_flying l.flights ++ works_ready place.0.ready))) s.leader ∙ ap (λ l. works_in r.acts ++ (works_in r.calls ++ (works_flying r.leader.flights ++ works_ready l))) s.ready));
@@ -193,7 +200,11 @@ module _ (command : Command) (r : ReplicaState) (idle : IsIdle r) where
   ended_still : (hint : Option ℕ) (answer : AnswerBody) (q : ReplicaState) (mails : List Mail) → IsStill q mails → Still (ended hint answer (q, mails))
   unfolding ended
   ended_still hint answer q mails s = record {
-    acts = refl; calls = refl; flights = refl; ready = refl; musts = λ e slot. refl;
+    acts = refl;
+    calls = refl;
+    flights = refl;
+    ready = refl;
+    musts = λ e slot. refl;
     sends = λ name. all_dismissed_none name q.me (name_of q) hint answer q.calls (answered_all q.me (name_of q) answer (under_way q) mails)
         ∙ (all_answered_none name q.me (name_of q) answer (under_way q) mails ∙ s.sends name);
   }
@@ -221,11 +232,19 @@ module _ (command : Command) (r : ReplicaState) (idle : IsIdle r) where
   unfolding elected
   elected_still q mails s = by (eqb q.top.round (2 ^ 32 - 1))
     where
-      by : (b : Bool) → Still (cond b (q, mails) (record q { top = record { round = q.top.round + 1; node = q.me }; hint = Some q.me; running = true; leader = new_leader (record { round = q.top.round + 1; node = q.me }) (next q); ready = []; waits = 0 },
-          sent_all q.me (open_nodes q.sets) (Prepare (name_of q) (record { round = q.top.round + 1; node = q.me }) (next q)) mails))
+      by : (b : Bool) → Still (cond b (q, mails) (
+        record q { top = record { round = q.top.round + 1; node = q.me }; hint = Some q.me; running = true; leader = new_leader (record { round = q.top.round + 1; node = q.me }) (next q); ready = []; waits = 0 },
+        sent_all q.me (open_nodes q.sets) (Prepare (name_of q) (record { round = q.top.round + 1; node = q.me }) (next q)) mails,
+      ))
       by true = s
-      by false = record { acts = s.acts; calls = s.calls; flights = refl; ready = refl; musts = λ e slot. refl;
-        sends = λ name. errands-all name q.me (open_nodes q.sets) (Prepare (name_of q) (record { round = q.top.round + 1; node = q.me }) (next q)) mails (λ to. refl) ∙ s.sends name }
+      by false = record {
+        acts = s.acts;
+        calls = s.calls;
+        flights = refl;
+        ready = refl;
+        musts = λ e slot. refl;
+        sends = λ name. errands-all name q.me (open_nodes q.sets) (Prepare (name_of q) (record { round = q.top.round + 1; node = q.me }) (next q)) mails (λ to. refl) ∙ s.sends name;
+      }
 
   look_still : (went : Option Route) (q : ReplicaState) (mails : List Mail) → IsStill q mails → Still (looked_for went (q, mails))
   look_still (Some into) q mails s = s
@@ -290,10 +309,70 @@ module _ (command : Command) (r : ReplicaState) (idle : IsIdle r) where
       by false false true = record { work = still_work r [] start_still; sends = (tt, λ name none. errands-none name r.me from (Ask (name_of r) (next r)) [] refl) }
       by false false false = nothing_rests
 
+  -- ---- a state that is taken over
+
+  jumped_still : (slot : ℕ) (base : Base) (sets : List (List ℕ)) (q : ReplicaState) (mails : List Mail) → IsStill q mails → IsStill (jumped slot base sets q) mails
+  unfolding jumped forgotten
+  jumped_still slot base sets q mails s = record { acts = s.acts; calls = s.calls; flights = s.flights; ready = s.ready; musts = s.musts; sends = s.sends }
+
+  looked_up_still : (from : ℕ) (q : ReplicaState) (mails : List Mail) → IsStill q mails → Still (looked_up from (q, mails))
+  unfolding looked_up
+  looked_up_still from q mails s = by (is_member (members q) from)
+    where
+      by : (b : Bool) → Still (cond b (record q { hint = Some from }, mails) (looked (q, mails)))
+      by true = hinted_still (Some from) q mails s
+      by false = looked_still q mails s
+
+  stopped_still : (from : ℕ) → Still (cond r.running (stopped (Some from) (r, [])) (r, []))
+  stopped_still from = by r.running
+    where
+      by : (b : Bool) → Still (cond b (stopped (Some from) (r, [])) (r, []))
+      by true = ended_still (Some from) (Says.NotLeader (Some from)) r [] start_still
+      by false = start_still
+
+  took_over_still : (from slot : ℕ) (base : Base) (sets : List (List ℕ)) → Still (took_over from slot base sets (r, []))
+  unfolding took_over
+  took_over_still from slot base sets =
+      (let place : Place = cond r.running (stopped (Some from) (r, [])) (r, []) in let s = stopped_still from in
+      looked_up_still from (jumped slot base sets place.0) place.1 (jumped_still slot base sets place.0 place.1 s))
+
+  still_rests : (place : Place) → Still place → Rested place
+  still_rests place s = record { work = still_work place.0 place.1 s; sends = (tt, λ name none. s.sends name) }
+
+  install_rests : (from : ℕ) (group : Draw) (slot : ℕ) (base : Base) (sets : List (List ℕ)) → Rested (mailed from (Install group slot base sets) (r, [])).0
+  unfolding mailed install_row
+  install_rests from group slot base sets = by (not (eqb (length sets) (length r.sets)) || (nat_lt last_slot slot || nat_lt slot (next r)))
+    where
+      by : (b : Bool) → Rested (cond b (r, []) (took_over from slot base sets (r, [])))
+      by true = nothing_rests
+      by false = still_rests (took_over from slot base sets (r, [])) (took_over_still from slot base sets)
+
+-- ---- a promise
+
+module _ (from : ℕ) (ballot : Ballot) (o : Option Work) (r : ReplicaState) (unbound : IsUnbound r) (one : works r ≡ listed o) where
+  counted_keep : (leader : LeaderState Command) → leader.flights ≡ r.leader.flights → leader.reports ≡ r.leader.reports → Works (listed o) [] r (pumped (record r { leader = leader }, []))
+  counted_keep leader flights reports =
+      (let w = pumps-keep o (record r { leader = leader }) (λ slot le. ap (λ l. must_without (names_above slot l) (chosen_value slot l)) reports ∙ unbound slot le)
+      (ap (λ l. works_in r.acts ++ (works_in r.calls ++ (works_flying l ++ works_ready r.ready))) flights ∙ one) in
+      record { group = w.group; me = w.me; running = w.running; work = w.work; sends = w.sends })
+
+  promise_keeps : (group : Draw) → Works (listed o) [] r (mailed from (Promise group ballot []) (r, [])).0
+  unfolding mailed promise_row
+  promise_keeps group = by (leads ballot r) (same_ballot ballot r.leader.ballot && not (is_member r.leader.promisers from))
+    where
+      by : (b c : Bool) → Works (listed o) [] r (cond b (pumped (record r { leader = (cond {A = Bool × LeaderState Command} c (true, record r.leader { promisers = r.leader.promisers ++ from ∷ []; reports = r.leader.reports ++ [] }) (false, r.leader)).1 }, [])) (r, []))
+      by true true = counted_keep (record r.leader { promisers = r.leader.promisers ++ from ∷ []; reports = r.leader.reports ++ [] }) refl (append-nil r.leader.reports)
+      by true false = counted_keep r.leader refl refl
+      by false c = record { group = refl; me = refl; running = refl; work = one; sends = (tt, λ name none. refl) }
+
+pub promises-keep : PromisesKeepWork
+promises-keep from group ballot o r unbound one = promise_keeps from ballot o r unbound one group
+
 pub tables-rest : TablesRest
 tables-rest = record {
   accept = λ from group ballot slot command r goes. accept_rests r from group ballot slot command goes;
   prepare = λ from group ballot from_slot r goes. prepare_rests r from group ballot from_slot goes;
   nack = λ from group ballot r goes. nack_rests r from group ballot goes;
   learn = λ from group slot command r idle. learn_rests command r idle from group slot;
+  install = λ from group slot base sets r idle. install_rests Noop r idle from group slot base sets;
 }

@@ -1,18 +1,19 @@
 -- What a leader's table does by an entry of an order that it counted, alone; and with an order that it is told.
-use Rattle.std.specs.Prelude.{◌≡◌, ℕ, true, false, [], ◌∷◌, Some, None, ◌⊎◌}
+use Rattle.std.specs.Prelude.{◌≡◌, ℕ, true, false, [], ◌∷◌, List, Option, Some, None, ◌⊎◌}
 use Rattle.sc_base.specs.Drawing.{Drawer, next_name}
 use Rattle.sc_base.specs.declared.names.Ballot.{Ballot}
 use Rattle.sc_base.specs.declared.names.Draw.{Draw}
 use Rattle.sc_cmd.specs.declared.commands.Command.{Command}
+use Rattle.sc_cmd.specs.declared.cores.Base.{Base}
 use Rattle.sc_cmd.specs.declared.orders.OrderLine.{OrderLine}
 use Rattle.sc_cmd.specs.declared.orders.OrderRefusal.{OrderRefusal}
 use Rattle.sc_law_lemmas.specs.Steps.{GoesOn}
 use Rattle.sc_machine_table.specs.Machine.{applied}
-use Rattle.sc_mail.specs.declared.bodies.MailBody.TheVariants.{Accept, Accepted, Learn, Nack, Prepare}
+use Rattle.sc_mail.specs.declared.bodies.MailBody.TheVariants.{Accept, Accepted, Install, Learn, Nack, Prepare, Promise}
 use Rattle.sc_member.specs.Roster.{is_member}
 use Rattle.sc_node_table.specs.Execute.{executed}
 use Rattle.sc_node_table.specs.Ordering.{ordered_command, ordered_row, untaken}
-use Rattle.sc_node_table.specs.Replica.{ReplicaState, Place, next}
+use Rattle.sc_node_table.specs.Replica.{ReplicaState, Place, next, listed}
 use Rattle.sc_node_table.specs.Rows.{mailed}
 use Rattle.sc_node_table.specs.Spoken.{before_of, went_on}
 use Rattle.sc_paxos_words.specs.declared.flights.Flight.{Flight}
@@ -85,9 +86,15 @@ pub record Rested (after : Place) : Type 0 where
   pub work : works after.0 ≡ []
   pub sends : IsOnly [] [] (λ name. errands_for name after.1)
 
--- what is asked for, or was promised elsewhere, leaves the work of one that does not stop by it; an entry that is learnt makes no work, also where the replica is elected by it
+-- what is asked for, or was promised elsewhere, leaves the work of one that does not stop by it; an entry that is learnt, or a state that is taken over, makes no work, also where the replica is elected by it
 pub record TablesRest : Type 0 where
   pub accept : (from : ℕ) (group : Draw) (ballot : Ballot) (slot : ℕ) (command : Command) (r : ReplicaState) → GoesOn ballot r → Works (works r) [] r (mailed from (Accept group ballot slot command) (r, [])).0
   pub prepare : (from : ℕ) (group : Draw) (ballot : Ballot) (from_slot : ℕ) (r : ReplicaState) → GoesOn ballot r → Works (works r) [] r (mailed from (Prepare group ballot from_slot) (r, [])).0
   pub nack : (from : ℕ) (group : Draw) (ballot : Ballot) (r : ReplicaState) → GoesOn ballot r → Works (works r) [] r (mailed from (Nack group ballot) (r, [])).0
   pub learn : (from : ℕ) (group : Draw) (slot : ℕ) (command : Command) (r : ReplicaState) → IsIdle r → Rested (mailed from (Learn group slot command) (r, [])).0
+  pub install : (from : ℕ) (group : Draw) (slot : ℕ) (base : Base) (sets : List (List ℕ)) (r : ReplicaState) → IsIdle r → Rested (mailed from (Install group slot base sets) (r, [])).0
+
+-- a promise that reports nothing leaves a leader's one work, or none, where it is
+abbrev pub PromisesKeepWork : Type 0
+PromisesKeepWork =
+    (from : ℕ) (group : Draw) (ballot : Ballot) (work : Option Work) (r : ReplicaState) → IsUnbound r → works r ≡ listed work → Works (listed work) [] r (mailed from (Promise group ballot []) (r, [])).0

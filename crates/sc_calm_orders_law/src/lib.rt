@@ -5,7 +5,7 @@
 
 ghost use Rattle.sc_calm_orders_law.specs.Entries.{EndsLeave, OrdersLeave, RecordsLeave, VotesLeave, WatchRecordsLeave};
 ghost use Rattle.sc_calm_orders_law.specs.Rows.{EntriesKeep, FilesKeep, OrdersBegin, QuestionsKeep, QuietIsStill, RestsKeep};
-ghost use Rattle.sc_calm_orders_law.specs.Running.{EntriesRunAlone, TablesOrder, TablesRest, VotesCountAlone};
+ghost use Rattle.sc_calm_orders_law.specs.Running.{EntriesRunAlone, PromisesKeepWork, TablesOrder, TablesRest, VotesCountAlone};
 ghost use Rattle.sc_calm_orders_law.specs.Tables.{PumpsKeepWork, TablesAskOn, TablesFile, TablesPass};
 
 /// Where no order is under way, one that a leader takes begins to be: its command stands at the
@@ -114,8 +114,14 @@ pub fn votes_count_alone()
 {}
 
 /// A replica that is asked to accept or to promise, and does not stop by it, keeps its work; and one
-/// that learns an entry and has no work has none after it, also where it is elected by it. Neither
+/// that learns an entry, or takes over a state, and has no work has none after it, also where it is
+/// elected by it. Neither
 /// sends a mail of a transaction.
 pub fn tables_rest()
     ensures { TablesRest }
+{}
+
+/// A promise that reports nothing leaves the one work of an order that a leader has where it is.
+pub fn promises_keep_work()
+    ensures { PromisesKeepWork }
 {}
