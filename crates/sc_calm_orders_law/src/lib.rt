@@ -67,8 +67,8 @@ pub fn tables_ask_on()
 {}
 
 /// A group that is free sends no mail of a transaction by a join, a leave, a split of a group that
-/// is alone, or an order that is refused, and stays free; by another order that is begun it asks its
-/// successor, and is bound so.
+/// is alone, or an order that is refused, and stays free; by another order that is begun it asks
+/// its successor, and is bound so.
 pub fn orders_leave()
     ensures { OrdersLeave }
 {}
@@ -107,15 +107,15 @@ pub fn tables_order()
     ensures { TablesOrder }
 {}
 
-/// A vote for the one command that a leader has in flight leaves it there, or decides it: then it is
-/// executed alone.
+/// A vote for the one command that a leader has in flight leaves it there, or decides it: then it
+/// is executed alone.
 pub fn votes_count_alone()
     ensures { VotesCountAlone }
 {}
 
-/// A replica that is asked to accept or to promise, and does not stop by it, keeps its work; and one
-/// that learns an entry, or takes over a state, and has no work has none after it, also where it is
-/// elected by it. Neither
+/// A replica that is asked to accept or to promise, and does not stop by it, keeps its work; and
+/// one that learns an entry, or takes over a state, and has no work has none after it, also where
+/// it is elected by it. Neither
 /// sends a mail of a transaction.
 pub fn tables_rest()
     ensures { TablesRest }
