@@ -1,0 +1,17 @@
+//! What the stages of an order give of what rows of calm journals have to find. Definitions and
+//! laws, no logic.
+#![tactic(auto)]
+
+ghost use Rattle.sc_calm_entries_law.specs.Paid.{BondsAsk, LoneEntriesCount};
+
+/// What a coordinator asks of a node is what the ways say that it asks, where they say what its
+/// bond says.
+pub fn bonds_ask()
+    ensures { BondsAsk }
+{}
+
+/// A leader at which the begin of a transaction or a vote in one is in flight, alone, may count a
+/// vote of its nodes: the entry is paid for.
+pub fn lone_entries_count()
+    ensures { LoneEntriesCount }
+{}
