@@ -1,2 +1,4 @@
 mod Taken
 mod Calls
+mod Taking
+mod Serving
