@@ -2,3 +2,4 @@ mod Taken
 mod Calls
 mod Taking
 mod Serving
+mod RowServes
