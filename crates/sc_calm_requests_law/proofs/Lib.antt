@@ -1,1 +1,5 @@
 mod Taken
+mod Calls
+mod Taking
+mod Serving
+mod RowServes
