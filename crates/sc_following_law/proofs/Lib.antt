@@ -24,6 +24,8 @@ pub mod Offers
 pub mod Ordered
 pub mod Orderly
 pub mod Own
+pub mod OwnMarks
+pub mod Owning
 pub mod Polled
 pub mod Spoken
 pub mod TableHints

@@ -8,5 +8,6 @@ pub mod Hints
 pub mod Leading
 pub mod Offers
 pub mod Orderly
+pub mod Owning
 pub mod Rows
 pub mod Tables

@@ -12,6 +12,7 @@ ghost use Rattle.sc_following_law.specs.Hints.{HintsAreKept, NodesHeed};
 ghost use Rattle.sc_following_law.specs.Leading.{ActsStopAlone, OwnRowsKeep, RowsLead};
 ghost use Rattle.sc_following_law.specs.Offers.{PumpsOffer};
 ghost use Rattle.sc_following_law.specs.Orderly.{OrderIsKept};
+ghost use Rattle.sc_following_law.specs.Owning.{OwnIsKept};
 ghost use Rattle.sc_following_law.specs.Rows.{GroupsBeginFollowing, IdleRowsKeep, LeadersKeep, ElectionsKeep, TakersKeep, QuietGroupsAreEven};
 ghost use Rattle.sc_following_law.specs.Tables.{EntriesTell, StatesMake, TablesElect, TablesFollow};
 
@@ -193,4 +194,10 @@ pub fn leaders_begin()
 /// a node that takes the mail.
 pub fn steps_take()
     ensures { StepsTake }
+{}
+
+/// A leader's own Prepare is taken before any promise of its ballot is counted, and so before it
+/// executes an entry: each kind of row keeps it.
+pub fn own_is_kept()
+    ensures { OwnIsKept }
 {}
