@@ -3,3 +3,4 @@ mod Calls
 mod Taking
 mod Serving
 mod RowServes
+mod LinesServe

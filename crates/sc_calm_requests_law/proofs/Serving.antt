@@ -73,6 +73,7 @@ pub record Rests (r after : ReplicaState) : Type 0 where
 -- A replica after a row of requests: it knows the leader, has seen and promised its ballot or none that it had not, and accepted what the row asks, or nothing new. At a node that is no member it executed nothing.
 pub record Serves (frame : Frame) (me : ℕ) (body : MailBody) (r after : ReplicaState) : Type 0 where
   pub next_up : next r ≤ next after
+  pub hint_was : r.hint ≡ Some frame.lead
   pub hint_is : after.hint ≡ Some frame.lead
   pub core_is : after.group.core ≡ r.group.core
   pub running_is : after.running ≡ r.running
@@ -92,6 +93,7 @@ module _ (begun : Requests) (frame : Frame) (is : IsFrame frame) (r : ReplicaSta
       → IsRun begun frame is (next r) (next r + taken) held bound wanted place → Leaves r place.0 → Serves frame me body r place.0
   by_run body me taken bound held wanted place e p l run leaves = record {
     next_up = run.leads.low;
+    hint_was = p.hint_is;
     hint_is = run.leads.plain.hint_is;
     core_is = run.leads.plain.group.core_is ∙ sym p.group.core_is;
     running_is = run.leads.leader.running ∙ sym l.running;
@@ -108,6 +110,7 @@ module _ (begun : Requests) (frame : Frame) (is : IsFrame frame) (r : ReplicaSta
   stays : (me : ℕ) (body : MailBody) → r.hint ≡ Some frame.lead → Serves frame me body r r
   stays me body hint = record {
     next_up = omega arith;
+    hint_was = hint;
     hint_is = hint;
     core_is = refl;
     running_is = refl;
@@ -148,9 +151,10 @@ module _ (begun : Requests) (frame : Frame) (is : IsFrame frame) (r : ReplicaSta
         ]
       ]
 
-  accepted_serves : (me : ℕ) (group : Draw) (ballot : Ballot) (slot : ℕ) (command : Command) → Serves frame me (Accept group ballot slot command) r (takes_it frame r slot command)
-  accepted_serves me group ballot slot command = record {
+  accepted_serves : (me : ℕ) (group : Draw) (ballot : Ballot) (slot : ℕ) (command : Command) → r.hint ≡ Some frame.lead → Serves frame me (Accept group ballot slot command) r (takes_it frame r slot command)
+  accepted_serves me group ballot slot command hint = record {
     next_up = omega arith;
+    hint_was = hint;
     hint_is = refl;
     core_is = refl;
     running_is = refl;
@@ -165,7 +169,7 @@ module _ (begun : Requests) (frame : Frame) (is : IsFrame frame) (r : ReplicaSta
   by_accept : (me : ℕ) (group : Draw) (slot : ℕ) (command : Command) → IsPlainAt begun frame me r → is_member (frame.at slot) me ≡ true → next r ≤ slot → Serves frame me (Accept group frame.ballot slot command) r (mailed from (Accept group frame.ballot slot command) (r, [])).0.0
   unfolding mailed
   by_accept me group slot command k m low =
-      subst (λ (p : Place). Serves frame me (Accept group frame.ballot slot command) r p.0) (sym (accept_takes frame is me r (voter k) from slot command low (none_stops begun frame is me r k))) (accepted_serves me group frame.ballot slot command)
+      subst (λ (p : Place). Serves frame me (Accept group frame.ballot slot command) r p.0) (sym (accept_takes frame is me r (voter k) from slot command low (none_stops begun frame is me r k))) (accepted_serves me group frame.ballot slot command (voter k).hint_is)
     where
       voter : IsPlainAt begun frame me r → IsPlainVoter frame me r
       voter (inl p) = as_voter begun frame is me r p.0
@@ -185,6 +189,7 @@ module _ (begun : Requests) (frame : Frame) (is : IsFrame frame) (r : ReplicaSta
       let leaves = subst (λ (place : Place). Leaves r place.0) place_is (learn_leaves begun frame is me r p f client seq op c from slot low at) in
       subst (λ (place : Place). Serves frame me (Learn group slot (Call client seq op)) r place.0) (sym place_is) (record {
         next_up = omega (arith, up);
+        hint_was = p.hint_is;
         hint_is = after.hint_is;
         core_is = after.group.core_is ∙ sym p.group.core_is;
         running_is = stopped.stopped ∙ sym f.stopped;
