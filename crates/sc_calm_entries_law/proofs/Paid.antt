@@ -52,7 +52,7 @@ bonds-ask ways tx asked turn node r bond asks body heard order lock =
     (let b : Asking tx (asked_link r.group.core body heard).group (turn_of r.group.core body heard) ≡ Asking tx asked turn = sym (ap (λ (l : Lock). bond_in l r.group.core) lock) ∙ bond in
     let g : (asked_link r.group.core body heard).group ≡ asked = cc in let t : turn_of r.group.core body heard ≡ turn = cc in
     let e = question_owes ways r.me node r.group.core tx body heard
-        ∙ (ap (λ x. asked_owes ways node (Some (x, is_watch (turn_of r.group.core body heard)))) g ∙ (ap (λ x. asked_owes ways node (Some (asked, is_watch x))) t ∙ ap (asked_owes ways node) (sym asks))) in
+    ∙ (ap (λ x. asked_owes ways node (Some (x, is_watch (turn_of r.group.core body heard)))) g ∙ (ap (λ x. asked_owes ways node (Some (asked, is_watch x))) t ∙ ap (asked_owes ways node) (sym asks))) in
     omega (arith, e))
 
 -- ---- entries by which no member comes or goes
@@ -110,13 +110,16 @@ paid (Finish tx outcome) r k l = absurd k
 paid (RecordWatch tx vote by) r k l = absurd k
 
 pub lone-entries-count : LoneEntriesCount
-lone-entries-count slot flight r lone may few mine stands k = inr (inr (flight, record {
-  flights = lone.flights;
-  ready = lone.ready;
-  may = may;
-  paid = λ e. paid flight.value (readied_at slot flight.value r) k (leads_on flight.value (readied_at slot flight.value r) k (counting e) stands);
-  leaves = λ e. leaves_few flight.value (readied_at slot flight.value r) k few;
-}))
+lone-entries-count slot flight r lone may few mine stands k = inr (inr (
+  flight,
+  record {
+    flights = lone.flights;
+    ready = lone.ready;
+    may = may;
+    paid = λ e. paid flight.value (readied_at slot flight.value r) k (leads_on flight.value (readied_at slot flight.value r) k (counting e) stands);
+    leaves = λ e. leaves_few flight.value (readied_at slot flight.value r) k few;
+  },
+))
   where
     counting : slot ≡ next r → IsCounting flight.value (readied_at slot flight.value r)
     counting e = record {
