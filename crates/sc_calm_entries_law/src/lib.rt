@@ -16,8 +16,8 @@ pub fn lone_entries_count()
     ensures { LoneEntriesCount }
 {}
 
-/// So may one at which any entry of an order is in flight, alone, and no call waits: it is paid for,
-/// also where the leader leaves by it, or its group is gone.
+/// So may one at which any entry of an order is in flight, alone, and no call waits: it is paid
+/// for, also where the leader leaves by it, or its group is gone.
 pub fn order_entries_count()
     ensures { OrderEntriesCount }
 {}
