@@ -1,5 +1,5 @@
 -- A coordinator's question, and entries by which no member comes or goes.
-use Rattle.std.proofs.Common.{◌≡◌, ℕ, ◌≤◌, Bool, true, false, cond, List, [], ◌∷◌, length, Option, Some, None, inl, inr, refl, sym, ◌∙◌, ap, subst, arith}
+use Rattle.std.proofs.Common.{◌≡◌, ℕ, ◌≤◌, Bool, true, false, cond, length, Option, Some, None, inr, refl, sym, ◌∙◌, ap, arith}
 use Rattle.std.proofs.lemmas.Bool.{eq-eqb, cond_both}
 use Rattle.sc_base.specs.declared.names.Draw.{Draw}
 use Rattle.sc_cmd.specs.declared.bodies.Body.{Body}
@@ -8,7 +8,7 @@ use Rattle.sc_cmd.specs.declared.commands.Command.{Command}
 use Rattle.sc_cmd.specs.declared.commands.Command.TheVariants.{Noop, Call, Join, Leave, Split, Begin, Prepared, RecordVote, GiveUp, Finish, Watched, RecordWatch}
 use Rattle.sc_cmd.specs.declared.cores.Core.{Core}
 use Rattle.sc_cmd.specs.declared.cores.Lock.{Lock}
-use Rattle.sc_cmd.specs.declared.cores.Lock.TheVariants.{Coordinating, Promised, Watching}
+use Rattle.sc_cmd.specs.declared.cores.Lock.TheVariants.{Promised, Watching}
 use Rattle.sc_cmd.specs.declared.effects.Effect.{Effect}
 use Rattle.sc_cmd.specs.declared.effects.Effect.TheVariants as Was
 use Rattle.sc_cmd.specs.declared.links.Route.{Route}
@@ -26,13 +26,11 @@ use Rattle.sc_node_table.specs.Execute.{entered}
 use Rattle.sc_node_table.specs.Questions.{question, asked_link}
 use Rattle.sc_node_table.specs.Replica.{ReplicaState, next, members, forgotten}
 use Rattle.sc_node_table.specs.Slots.{at_slot, with_slot}
-use Rattle.sc_paxos_words.specs.declared.flights.Flight.{Flight}
-use Rattle.sc_calm_law.specs.Executing.{IsPaid, LeavesFew, FliesAlone}
-use Rattle.sc_calm_law.specs.Laws.{IsCounting, LeadsOn, MayPump, readied_at}
+use Rattle.sc_calm_law.specs.Executing.{IsPaid, LeavesFew}
+use Rattle.sc_calm_law.specs.Laws.{IsCounting, LeadsOn, readied_at}
 use Rattle.sc_calm_law.specs.Owed.{Ways, asked_owes, body_owes}
-use Rattle.sc_calm_orders_law.specs.Scenes.{Turn, is_watch, Asking}
-use Rattle.sc_calm_orders_law.specs.Parts.{turn_of, bond_in, bond_of}
-use Rattle.sc_calm_orders_law.specs.Running.{FliesLone}
+use Rattle.sc_calm_orders_law.specs.Scenes.{is_watch, Asking}
+use Rattle.sc_calm_orders_law.specs.Parts.{turn_of, bond_in}
 use Rattle.sc_calm_entries_law.specs.Paid.{BondsAsk, KeepsMembers, LoneEntriesCount}
 
 -- ---- what a coordinator asks
@@ -83,7 +81,7 @@ applied_same group (GiveUp tx) k = absurd k
 applied_same group (Finish tx outcome) k = absurd k
 applied_same group (RecordWatch tx vote by) k = absurd k
 
-leads_on : (command : Command) (r : ReplicaState) → KeepsMembers command → IsCounting command r → r.group.core.gone ≡ None → LeadsOn command r
+pub leads_on : (command : Command) (r : ReplicaState) → KeepsMembers command → IsCounting command r → r.group.core.gone ≡ None → LeadsOn command r
 unfolding entered forgotten
 leads_on command r k c stands = (let s = applied_same r.group command k in record {
   counting = c;
