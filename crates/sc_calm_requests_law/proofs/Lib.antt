@@ -4,3 +4,4 @@ mod Taking
 mod Serving
 mod RowServes
 mod LinesServe
+mod EndGroups
