@@ -65,7 +65,7 @@ module _ (words : ℕ → ℕ → ℕ × ℕ) (scenario : Scenario) (begins : Is
     seat_of : (node : ℕ) (r : ReplicaState) → replica_at scenario rows frame.core.id node ≡ Some r → (1 ≤ node) × (node ≤ scenario.nodes)
     seat_of node r e = seated.homes frame.core.id node (served.homes frame.core.id node r e)
 
-    found : (node : ℕ) (at : (1 ≤ node) × (node ≤ scenario.nodes)) → replica_at scenario rows frame.core.id node ≡ replica_of frame.core.id (j.nodes node at.0 at.1).node.replicas
+    pub found : (node : ℕ) (at : (1 ≤ node) × (node ≤ scenario.nodes)) → replica_at scenario rows frame.core.id node ≡ replica_of frame.core.id (j.nodes node at.0 at.1).node.replicas
     found node at = (let n = j.nodes node at.0 at.1 in replica_is words scenario rows frame.core.id node (Node n.node) (node_number words scenario begins node at.0 at.1) n.is)
 
     pub plain_at : (node : ℕ) (r : ReplicaState) → replica_at scenario rows frame.core.id node ≡ Some r → IsPlainAt (IsBegun scenario rows) frame node r
@@ -93,10 +93,10 @@ module _ (words : ℕ → ℕ → ℕ × ℕ) (scenario : Scenario) (begins : Is
     abbrev pub g : IsGroupAt words scenario rows frame
     g = j.groups frame a
 
-    leads : IsPlainReplica (IsBegun scenario rows) frame frame.lead g.r × IsLeading (IsBegun scenario rows) frame g.r
+    pub leads : IsPlainReplica (IsBegun scenario rows) frame frame.lead g.r × IsLeading (IsBegun scenario rows) frame g.r
     leads = leading_at (IsBegun scenario rows) frame frame_is frame.lead g.r refl (plain_at frame.lead g.r g.there)
 
-    none_at : (node : ℕ) → (1 ≤ node) × (node ≤ scenario.nodes) → marks_at words scenario rows frame.core.id node ≡ []
+    pub none_at : (node : ℕ) → (1 ≤ node) × (node ≤ scenario.nodes) → marks_at words scenario rows frame.core.id node ≡ []
     none_at node at =
         let seat = node_seat as_nodes scenario.groups scenario.policy node in
         ap (map (mark frame.core.id)) (none node (is_born-from (system_of as_nodes words scenario) node seat (seat_found (births as_nodes scenario) seat begins.seats_apart (node_born words scenario begins node at.0 at.1))))
@@ -131,13 +131,13 @@ module _ (words : ℕ → ℕ → ℕ × ℕ) (scenario : Scenario) (begins : Is
     no_ready (entry ∷ ready) e = (let c = call_of entry.1 (subst (Each (λ (x : ℕ × Command). IsPlainCommand (IsBegun scenario rows) frame x.1)) e leads.1.leader.ready).0 in
         absurd (idle c.0 c.1 (record { number = c.1; op = c.2; later = omega arith; where_ = inr (inr (entry.0, subst (Among (entry.0, Call c.0 c.1 c.2)) (sym e) (inl (ap (λ (x : Command). (entry.0, x)) c.3)))) })))
 
-    calls_none : g.r.calls ≡ []
+    pub calls_none : g.r.calls ≡ []
     calls_none = no_calls g.r.calls refl
 
-    flights_none : g.r.leader.flights ≡ []
+    pub flights_none : g.r.leader.flights ≡ []
     flights_none = no_flights g.r.leader.flights refl
 
-    ready_none : g.r.ready ≡ []
+    pub ready_none : g.r.ready ≡ []
     ready_none = no_ready g.r.ready refl
 
     not_none : (n taken : ℕ) → (taken ≡ 0 → ⊥) → n < n + taken
@@ -145,7 +145,7 @@ module _ (words : ℕ → ℕ → ℕ × ℕ) (scenario : Scenario) (begins : Is
     not_none n (suc taken) ne = omega arith
 
     -- so no slot is taken
-    taken_none : g.taken ≡ 0
+    pub taken_none : g.taken ≡ 0
     taken_none = elim (cases_eq g.taken 0) [
       | inl e ↦ e
       | inr some ↦ absurd (taken_some (next g.r) g.taken (g.slots.once (next g.r)) (λ e. some e))
@@ -160,7 +160,7 @@ module _ (words : ℕ → ℕ → ℕ × ℕ) (scenario : Scenario) (begins : Is
 
     -- ---- at rest
 
-    rests_at : (node : ℕ) (r : ReplicaState) → replica_at scenario rows frame.core.id node ≡ Some r → (first : ReplicaState) → IsAtRest first → HasServed scenario rows frame node first r → IsPlainAt (IsBegun scenario rows) frame node r → IsAtRest r
+    pub rests_at : (node : ℕ) (r : ReplicaState) → replica_at scenario rows frame.core.id node ≡ Some r → (first : ReplicaState) → IsAtRest first → HasServed scenario rows frame node first r → IsPlainAt (IsBegun scenario rows) frame node r → IsAtRest r
     rests_at node r e first rest h (inl (p, inl l)) =
         let same : g.r ≡ r = some_is (sym g.there ∙ (ap (replica_at scenario rows frame.core.id) (sym l.0) ∙ e)) in
         record {

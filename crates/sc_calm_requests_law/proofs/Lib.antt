@@ -5,3 +5,4 @@ mod Serving
 mod RowServes
 mod LinesServe
 mod EndGroups
+mod EndStands
