@@ -71,31 +71,31 @@ module _ (words : ℕ → ℕ → ℕ × ℕ) (scenario : Scenario) (begins : Is
     abbrev f : Frame
     f = frame_at_rest stands.lead
 
-    a : Among (frame_at_rest stands.lead) frames
+    pub a : Among (frame_at_rest stands.lead) frames
     a = s.stand group stands
 
-    frame_is : IsFrame (frame_at_rest stands.lead)
+    pub frame_is : IsFrame (frame_at_rest stands.lead)
     frame_is = is.are (frame_at_rest stands.lead) a
 
-    lead_there : replica_at scenario before group stands.lead.me ≡ Some stands.lead
+    pub lead_there : replica_at scenario before group stands.lead.me ≡ Some stands.lead
     lead_there = stands.newest.is_there
 
-    kept_lead : IsKept group stands.lead.me stands.lead
+    pub kept_lead : IsKept group stands.lead.me stands.lead
     kept_lead = q.kept group stands.lead.me stands.lead lead_there
 
-    name : name_of stands.lead ≡ group
+    pub name : name_of stands.lead ≡ group
     name = kept_lead.name_is
 
-    by_id : (node : ℕ) (r : ReplicaState) → replica_at scenario rows group node ≡ Some r → replica_at scenario rows (name_of stands.lead) node ≡ Some r
+    pub by_id : (node : ℕ) (r : ReplicaState) → replica_at scenario rows group node ≡ Some r → replica_at scenario rows (name_of stands.lead) node ≡ Some r
     by_id node r e = ap (λ d. replica_at scenario rows d node) name ∙ e
 
     by_group : (node : ℕ) (r : ReplicaState) → replica_at scenario rows (name_of stands.lead) node ≡ Some r → replica_at scenario rows group node ≡ Some r
     by_group node r e = sym (ap (λ d. replica_at scenario rows d node) name) ∙ e
 
-    plain_at : (node : ℕ) (r : ReplicaState) → replica_at scenario rows group node ≡ Some r → IsPlainAt (IsBegun scenario rows) (frame_at_rest stands.lead) node r
+    pub plain_at : (node : ℕ) (r : ReplicaState) → replica_at scenario rows group node ≡ Some r → IsPlainAt (IsBegun scenario rows) (frame_at_rest stands.lead) node r
     plain_at node r e = end_of_line.plain_at words scenario begins set is seated rows j served none (frame_at_rest stands.lead) a node r (by_id node r e)
 
-    me_at : (node : ℕ) (r : ReplicaState) → replica_at scenario rows group node ≡ Some r → r.me ≡ node
+    pub me_at : (node : ℕ) (r : ReplicaState) → replica_at scenario rows group node ≡ Some r → r.me ≡ node
     me_at node r e = end_of_line.me_at words scenario begins set is seated rows j served none (frame_at_rest stands.lead) a node r (by_id node r e)
 
     -- what a replica was
@@ -104,7 +104,7 @@ module _ (words : ℕ → ℕ → ℕ × ℕ) (scenario : Scenario) (begins : Is
       pub there : replica_at scenario before group node ≡ Some first
       pub is_served : HasServed scenario rows (frame_at_rest stands.lead) node first r
 
-    was : (node : ℕ) (r : ReplicaState) → replica_at scenario rows group node ≡ Some r → WasHere node r
+    pub was : (node : ℕ) (r : ReplicaState) → replica_at scenario rows group node ≡ Some r → WasHere node r
     was node r e =
         let w = end_of_line.was_at words scenario begins set is seated rows j served none (frame_at_rest stands.lead) a node r (by_id node r e) in
         record { first = w.first; there = sym (ap (λ d. replica_at scenario before d node) name) ∙ w.there; is_served = w.served_is }
@@ -115,7 +115,7 @@ module _ (words : ℕ → ℕ → ℕ × ℕ) (scenario : Scenario) (begins : Is
       pub there : replica_at scenario rows group node ≡ Some r
       pub is_served : HasServed scenario rows (frame_at_rest stands.lead) node first r
 
-    now : (node : ℕ) (first : ReplicaState) → replica_at scenario before group node ≡ Some first → IsNow node first
+    pub now : (node : ℕ) (first : ReplicaState) → replica_at scenario before group node ≡ Some first → IsNow node first
     now node first e =
         let w = served.standing (frame_at_rest stands.lead) node first a (ap (λ d. replica_at scenario before d node) name ∙ e) in
         record { r = w.0; there = by_group node w.0 w.1; is_served = w.2 }
@@ -135,10 +135,10 @@ module _ (words : ℕ → ℕ → ℕ × ℕ) (scenario : Scenario) (begins : Is
     lead_id : replica_at scenario rows (name_of stands.lead) stands.lead.me ≡ Some lead
     lead_id = by_id stands.lead.me lead lead_now
 
-    lead_me : lead.me ≡ stands.lead.me
+    pub lead_me : lead.me ≡ stands.lead.me
     lead_me = me_at stands.lead.me lead lead_now
 
-    leads : IsPlainReplica (IsBegun scenario rows) (frame_at_rest stands.lead) stands.lead.me lead × IsLeading (IsBegun scenario rows) (frame_at_rest stands.lead) lead
+    pub leads : IsPlainReplica (IsBegun scenario rows) (frame_at_rest stands.lead) stands.lead.me lead × IsLeading (IsBegun scenario rows) (frame_at_rest stands.lead) lead
     unfolding lead g
     leads = end_of_line.leads words scenario begins set is seated rows j served none (frame_at_rest stands.lead) a
 
@@ -244,7 +244,7 @@ module _ (words : ℕ → ℕ → ℕ × ℕ) (scenario : Scenario) (begins : Is
 
     -- ---- voters
 
-    set_among : (slot : ℕ) → Among ((frame_at_rest stands.lead).at slot) stands.lead.sets
+    pub set_among : (slot : ℕ) → Among ((frame_at_rest stands.lead).at slot) stands.lead.sets
     set_among slot = by (slice_get stands.lead.sets (slot - next stands.lead)) refl
       where
         by : (o : Option (List ℕ)) → slice_get stands.lead.sets (slot - next stands.lead) ≡ o → Among (unwrap_or (slice_get stands.lead.sets (slot - next stands.lead)) (members stands.lead)) stands.lead.sets

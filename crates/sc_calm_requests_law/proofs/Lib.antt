@@ -6,3 +6,4 @@ mod RowServes
 mod LinesServe
 mod EndGroups
 mod EndStands
+mod EndAll
