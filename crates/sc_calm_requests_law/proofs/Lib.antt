@@ -7,3 +7,4 @@ mod LinesServe
 mod EndGroups
 mod EndStands
 mod EndAll
+mod LinesEnd

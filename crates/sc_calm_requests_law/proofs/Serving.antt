@@ -84,7 +84,7 @@ pub record Serves (frame : Frame) (me : ℕ) (body : MailBody) (r after : Replic
   pub rest : Rests r after ⊎ (is_member frame.core.members me ≡ true)
   pub bound : me ≡ frame.lead → (taken : ℕ) → AreTaken r taken → (later : ℕ) × AreTaken after later × (next r + taken ≤ next after + later)
 
-rests_itself : (r : ReplicaState) → Rests r r
+pub rests_itself : (r : ReplicaState) → Rests r r
 rests_itself r = record { sets_are = refl; group_is = refl; acts_are = refl; waits_are = refl; next_is = refl; floor_is = refl }
 
 module _ (begun : Requests) (frame : Frame) (is : IsFrame frame) (r : ReplicaState) (from : ℕ) (room : next r + slots_ahead ≤ last_slot) where
