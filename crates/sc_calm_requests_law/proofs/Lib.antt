@@ -8,3 +8,4 @@ mod EndGroups
 mod EndStands
 mod EndAll
 mod LinesEnd
+mod LinesKeep
