@@ -70,13 +70,13 @@ module _ (words : ℕ → ℕ → ℕ × ℕ) (scenario : Scenario) (begins : Is
   abbrev Was : Draw → ℕ → ReplicaState → Type 0
   Was group node first = replica_at scenario before group node ≡ Some first
 
-  home_still : (group : Draw) (node : ℕ) → HasReplica (replicas_after scenario before) group node → HasReplica (replicas_after scenario rows) group node
+  pub home_still : (group : Draw) (node : ℕ) → HasReplica (replicas_after scenario before) group node → HasReplica (replicas_after scenario rows) group node
   home_still group node h = elim (q.quiet.groups group node h) [
     | inl stands ↦ (let n = ends.now words scenario begins before q frames ways s is seated rows j served none one_log group stands node h.0 h.1 in (n.r, n.there))
     | inr gone ↦ (h.0, same group gone node ∙ h.1)
   ]
 
-  home_was : (group : Draw) (node : ℕ) → HasReplica (replicas_after scenario rows) group node → HasReplica (replicas_after scenario before) group node
+  pub home_was : (group : Draw) (node : ℕ) → HasReplica (replicas_after scenario rows) group node → HasReplica (replicas_after scenario before) group node
   home_was group node h = (let w = served.homes group node h.0 h.1 in (w.r, w.is_there))
 
   -- ---- a group that is gone
@@ -269,7 +269,7 @@ module _ (words : ℕ → ℕ → ℕ × ℕ) (scenario : Scenario) (begins : Is
 
   -- ---- all replicas
 
-  which : (group : Draw) (node : ℕ) (r : ReplicaState) → replica_at scenario rows group node ≡ Some r → StandsQuiet (replicas_after scenario before) group ⊎ IsGoneQuiet (replicas_after scenario before) group
+  pub which : (group : Draw) (node : ℕ) (r : ReplicaState) → replica_at scenario rows group node ≡ Some r → StandsQuiet (replicas_after scenario before) group ⊎ IsGoneQuiet (replicas_after scenario before) group
   which group node r e = q.quiet.groups group node (home_was group node (r, e))
 
   pub all_quiet : AreReplicasQuiet (replicas_after scenario before) (replicas_after scenario rows)

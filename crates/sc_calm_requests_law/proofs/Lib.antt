@@ -9,3 +9,4 @@ mod EndStands
 mod EndAll
 mod LinesEnd
 mod LinesKeep
+mod QuietEnd

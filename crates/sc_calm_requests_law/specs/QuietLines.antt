@@ -41,3 +41,14 @@ LinesLeaveReplicasQuiet =
     → ((who : ℕ) → is_born (system_of as_nodes words scenario) who ≡ true → rest (system_of as_nodes words scenario) (before ++ after) who ≡ [])
     → HaveOneLog (replicas_after scenario before) → HaveOneLog (replicas_after scenario (before ++ after))
     → AreReplicasQuiet (replicas_after scenario before) (replicas_after scenario (before ++ after))
+
+-- .. and so the journal is quiet again
+abbrev pub LinesLeaveQuiet : Type 0
+LinesLeaveQuiet =
+    (words : ℕ → ℕ → ℕ × ℕ) (scenario : Scenario) (first : Base) (others : List Base) (before after : List (Row Mail OrderLine)) (frames : List Frame) (ways : Ways)
+    → IsValid scenario → scenario.groups ≡ first ∷ others → IsQuietJournal words scenario first before → AreFramesOf (replicas_after scenario before) frames → DoHintsRise (replicas_after scenario before) ways
+    → IsLinkedSetting (setting_at (replicas_after scenario before) frames ways) → AreSeated scenario (setting_at (replicas_after scenario before) frames ways)
+    → AreRequests words scenario (setting_at (replicas_after scenario before) frames ways) before after
+    → ((who : ℕ) → is_born (system_of as_nodes words scenario) who ≡ true → rest (system_of as_nodes words scenario) (before ++ after) who ≡ [])
+    → HaveOneLog (replicas_after scenario before) → HaveOneLog (replicas_after scenario (before ++ after))
+    → IsQuietJournal words scenario first (before ++ after)

@@ -3,7 +3,7 @@
 #![tactic(auto)]
 
 ghost use Rattle.sc_calm_requests_law.specs.Finding.{RequestsAreTakenCalmly};
-ghost use Rattle.sc_calm_requests_law.specs.QuietLines.{LinesLeaveReplicasQuiet};
+ghost use Rattle.sc_calm_requests_law.specs.QuietLines.{LinesLeaveQuiet, LinesLeaveReplicasQuiet};
 
 use sc_scenario::valid_scenarios_are_bounded;
 
@@ -18,6 +18,14 @@ pub fn requests_are_taken_calmly()
 /// rise. That replicas of one group which executed as much are in one state is a premise.
 pub fn lines_leave_replicas_quiet()
     ensures { LinesLeaveReplicasQuiet }
+{
+    valid_scenarios_are_bounded();
+}
+
+/// .. and the journal is quiet again: each client that was told to go has all replies, and one that
+/// was not is as at its birth; what the executed states note is begun, and no mail is left.
+pub fn lines_leave_quiet()
+    ensures { LinesLeaveQuiet }
 {
     valid_scenarios_are_bounded();
 }
