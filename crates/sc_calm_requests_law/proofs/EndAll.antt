@@ -1,7 +1,7 @@
 -- At the end of a line of requests all replicas are quiet again: links, hints, and groups that are gone.
-use Rattle.std.proofs.Common.{◌≡◌, ℕ, zero, suc, ◌+◌, ◌-◌, ◌<◌, ◌≤◌, true, false, List, [], ◌∷◌, length, map, Option, Some, None, ◌⊎◌, inl, inr, refl, sym, ◌∙◌, ap, subst, arith}
+use Rattle.std.proofs.Common.{◌≡◌, ℕ, ◌+◌, ◌-◌, ◌≤◌, true, false, List, [], ◌∷◌, length, Some, None, ◌⊎◌, inl, inr, sym, ◌∙◌, ap, subst, arith}
 use Rattle.std.specs.Prelude.{slice_get, unwrap_or}
-use Rattle.std.proofs.lemmas.Bool.{cases_eq, cases_lt, both_ways}
+use Rattle.std.proofs.lemmas.Bool.{cases_lt, both_ways}
 use Rattle.std.proofs.lemmas.Option.{slice_get_past}
 use Rattle.sc_base.specs.Among.{Among, Each}
 use Rattle.sc_base.specs.Arc.{end_of}
@@ -9,15 +9,12 @@ use Rattle.sc_base.specs.declared.names.Ballot.{Ballot}
 use Rattle.sc_base.specs.declared.names.Draw.{Draw}
 use Rattle.sc_cmd.specs.declared.commands.Command.{Command}
 use Rattle.sc_cmd.specs.declared.cores.Core.{Core}
-use Rattle.sc_cmd.specs.declared.links.Route.{Route}
 use Rattle.sc_machine_table.specs.Group.{Group}
 use Rattle.sc_member.specs.Roster.{is_member}
-use Rattle.sc_paxos_words.specs.declared.answers.Must.TheVariants.{Free as Open}
 use Rattle.sc_paxos_words.specs.Ballots.{below}
 use Rattle.sc_paxos_words.specs.Leaders.{LeaderState, must}
 use Rattle.sc_paxos_words.proofs.BallotLemmas.{not_below_parts}
-use Rattle.sc_node_table.specs.Replica.{ReplicaState, name_of, next, members}
-use Rattle.sc_node_table.specs.Slots.{numbers_from, slots_ahead}
+use Rattle.sc_node_table.specs.Replica.{ReplicaState, next, members}
 use Rattle.sc_scenario.specs.declared.scenarios.Scenario.{Scenario}
 use Rattle.sc_sound.specs.Players.{system_of, as_nodes}
 use Rattle.sc_orderly_law.specs.Orderly.{rest, is_born}
@@ -29,19 +26,16 @@ use Rattle.sc_budget_law.specs.AskingLines.{AreSeated}
 use Rattle.sc_budget_law.specs.AskingQuiet.{replicas_after, setting_at, AreFramesOf, IsQuietJournal}
 use Rattle.sc_budget_law.specs.AtRest.{IsOfNodes, IsKept, frame_at_rest}
 use Rattle.sc_budget_law.specs.BetweenJournal.{replica_at}
-use Rattle.sc_budget_law.specs.CalmNode.{Setting, IsSetting}
+use Rattle.sc_budget_law.specs.CalmNode.{IsSetting}
 use Rattle.sc_budget_law.specs.Frames.{Frame, IsFrame}
 use Rattle.sc_budget_law.specs.PlainClient.{IsBegun}
 use Rattle.sc_budget_law.specs.PlainNode.{IsPlainAt}
 use Rattle.sc_budget_law.proofs.BetweenStage.{IsStage}
 use Rattle.sc_budget_law.proofs.BetweenViews.{Journal}
-use Rattle.sc_budget_law.proofs.Lists.{some_is}
 use Rattle.sc_calm_requests_law.specs.QuietLines.{HaveOneLog, AreReplicasQuiet}
-use Rattle.sc_calm_requests_law.proofs.Calls.{knows}
 use Rattle.sc_calm_requests_law.proofs.EndGroups as end_of_line
 use Rattle.sc_calm_requests_law.proofs.EndStands as ends
-use Rattle.sc_calm_requests_law.proofs.LinesServe.{HasServed, HaveServed}
-use Rattle.sc_calm_requests_law.proofs.Serving.{Rests}
+use Rattle.sc_calm_requests_law.proofs.LinesServe.{HaveServed}
 
 few_of : (sets : List (List ℕ)) → Each IsOfNodes sets → AreNines sets
 few_of [] e = tt

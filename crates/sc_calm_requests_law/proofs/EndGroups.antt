@@ -1,41 +1,26 @@
 -- At the end of a line of requests each group that stood is quiet again.
-use Rattle.std.proofs.Common.{◌≡◌, ℕ, zero, suc, ◌+◌, ◌-◌, ◌<◌, ◌≤◌, ◌&&◌, eqb, true, false, List, [], ◌∷◌, ◌++◌, length, map, count_by, Option, Some, None, ◌⊎◌, inl, inr, refl, sym, ◌∙◌, ap, subst, arith}
-use Rattle.std.specs.Prelude.{slice_get, unwrap_or}
-use Rattle.std.proofs.lemmas.Bool.{cases_Bool, cases_eq, cases_lt, both_ways, and_from}
-use Rattle.std.proofs.lemmas.Option.{slice_get_past}
+use Rattle.std.proofs.Common.{◌≡◌, ℕ, zero, suc, ◌+◌, ◌<◌, ◌≤◌, eqb, true, List, [], ◌∷◌, map, count_by, Some, inl, inr, refl, sym, ◌∙◌, ap, subst, arith}
+use Rattle.std.proofs.lemmas.Bool.{cases_eq, both_ways}
 use Rattle.sc_base.specs.Among.{Among, Each}
-use Rattle.sc_base.specs.declared.names.Draw.{Draw}
 use Rattle.sc_cmd.specs.declared.commands.Command.{Command}
 use Rattle.sc_cmd.specs.declared.commands.Command.TheVariants.{Call}
 use Rattle.sc_cmd.specs.declared.cores.Core.{Core}
-use Rattle.sc_cmd.specs.declared.orders.OrderLine.{OrderLine}
-use Rattle.sc_mail.specs.declared.bodies.Mail.{Mail}
 use Rattle.sc_mail.specs.declared.roles.Role.TheVariants.{Node}
 use Rattle.sc_member.specs.Roster.{is_member}
 use Rattle.sc_paxos_words.specs.declared.flights.Flight.{Flight}
-use Rattle.sc_paxos_words.specs.declared.reports.Report.{Report}
-use Rattle.sc_paxos_words.specs.Ballots.{below}
-use Rattle.sc_paxos_words.specs.Leaders.{LeaderState, must}
-use Rattle.sc_paxos_words.proofs.BallotLemmas.{at_least_itself}
-use Rattle.sc_paxos_words.proofs.ListLemmas.{Each-among}
 use Rattle.sc_node_table.specs.Node.{replica_of}
-use Rattle.sc_node_table.specs.Replica.{ReplicaState, name_of, next, members, settled, first_set, may_offer}
-use Rattle.sc_node_table.specs.Slots.{numbers_from, slots_ahead}
-use Rattle.sc_paxos_law.proofs.Among.{place_among}
+use Rattle.sc_node_table.specs.Replica.{ReplicaState, next}
 use Rattle.sc_scenario.specs.declared.scenarios.Scenario.{Scenario}
-use Rattle.sc_sound.specs.Players.{Player, node_seat, births, system_of, as_nodes}
+use Rattle.sc_sound.specs.Players.{node_seat, births, system_of, as_nodes}
 use Rattle.sc_orderly_law.specs.Orderly.{rest, is_born}
 use Rattle.sc_orderly_law.proofs.Resting.{is_born-from}
 use Rattle.sc_orderly_law.proofs.Seats.{seat_found}
-use Rattle.sc_calm_law.specs.Laws.{IsUnbound, AreNines, MayPump}
-use Rattle.sc_calm_law.specs.Quiet.{View as Replicas, HasReplica, IsNewest, IsAtRest, LeadsAtRest, IsBelow, MayVote, IsUpToDate, StandsQuiet}
+use Rattle.sc_calm_law.specs.Quiet.{IsAtRest}
 use Rattle.sc_budget_law.specs.Asking.{IsAsking}
 use Rattle.sc_budget_law.specs.AskingLines.{AreSeated}
-use Rattle.sc_budget_law.specs.AskingQuiet.{replicas_after}
-use Rattle.sc_budget_law.specs.AtRest.{IsOfNodes, IsKept, frame_at_rest}
-use Rattle.sc_budget_law.specs.Between.{Asks as AsksFor, Votes, mark, told, IsLearning, IsVoting}
-use Rattle.sc_budget_law.specs.BetweenJournal.{replica_at, next_in, votes_in, marks_at, IsGroupAt}
-use Rattle.sc_budget_law.specs.CalmNode.{Setting, IsHome, IsSetting}
+use Rattle.sc_budget_law.specs.Between.{Asks as AsksFor, Votes, mark, IsVoting}
+use Rattle.sc_budget_law.specs.BetweenJournal.{replica_at, votes_in, marks_at, IsGroupAt}
+use Rattle.sc_budget_law.specs.CalmNode.{Setting, IsSetting}
 use Rattle.sc_budget_law.specs.Frames.{Frame, IsFrame}
 use Rattle.sc_budget_law.specs.PlainClient.{IsBegun}
 use Rattle.sc_budget_law.specs.PlainMail.{IsPlainCommand}
@@ -50,9 +35,7 @@ use Rattle.sc_budget_law.proofs.Lists.{some_is}
 use Rattle.sc_budget_law.proofs.Pumping.{call_is}
 use Rattle.sc_budget_law.proofs.QuietLeader.{leader_idle}
 use Rattle.sc_budget_law.proofs.ReplicaRows.{leading_at}
-use Rattle.sc_calm_requests_law.proofs.Calls.{knows}
 use Rattle.sc_calm_requests_law.proofs.LinesServe.{HasServed, HaveServed}
-use Rattle.sc_calm_requests_law.proofs.Serving.{Rests, taken_once}
 
 module _ (words : ℕ → ℕ → ℕ × ℕ) (scenario : Scenario) (begins : IsStage scenario) (set : Setting) (is : IsSetting set) (seated : AreSeated scenario set) (rows : Journal) (j : IsAsking words scenario set begins.first rows) (served : HaveServed scenario set rows)
     (none : (who : ℕ) → is_born (system_of as_nodes words scenario) who ≡ true → rest (system_of as_nodes words scenario) rows who ≡ []) where

@@ -1,37 +1,31 @@
 -- At the end of a line of requests a group that stood in a quiet journal stands quiet again.
-use Rattle.std.proofs.Common.{◌≡◌, ℕ, zero, suc, ◌+◌, ◌-◌, ◌<◌, ◌≤◌, ◌&&◌, true, false, List, [], ◌∷◌, length, map, Option, Some, None, ◌⊎◌, inl, inr, refl, sym, ◌∙◌, ap, subst, arith}
+use Rattle.std.proofs.Common.{◌≡◌, ℕ, zero, suc, ◌+◌, ◌-◌, ◌<◌, true, false, List, [], ◌∷◌, map, Option, Some, None, inl, inr, refl, sym, ◌∙◌, ap, subst, arith}
 use Rattle.std.specs.Prelude.{slice_get, unwrap_or}
-use Rattle.std.proofs.lemmas.Bool.{cases_eq, cases_lt, both_ways, and_from}
-use Rattle.std.proofs.lemmas.Option.{slice_get_past}
+use Rattle.std.proofs.lemmas.Bool.{cases_eq, both_ways, and_from}
 use Rattle.sc_base.specs.Among.{Among, Each}
 use Rattle.sc_base.specs.declared.names.Ballot.{Ballot}
 use Rattle.sc_base.specs.declared.names.Draw.{Draw}
 use Rattle.sc_cmd.specs.declared.commands.Command.{Command}
 use Rattle.sc_cmd.specs.declared.cores.Core.{Core}
-use Rattle.sc_cmd.specs.declared.links.Route.{Route}
-use Rattle.sc_machine_table.specs.Group.{Group}
-use Rattle.sc_mail.specs.declared.roles.Role.TheVariants.{Node}
 use Rattle.sc_member.specs.Roster.{is_member}
 use Rattle.sc_paxos_words.specs.declared.reports.Report.{Report}
 use Rattle.sc_paxos_words.specs.Ballots.{below}
-use Rattle.sc_paxos_words.specs.Leaders.{LeaderState, must}
-use Rattle.sc_paxos_words.proofs.BallotLemmas.{at_least_itself, not_below_parts}
-use Rattle.sc_node_table.specs.Node.{replica_of}
-use Rattle.sc_node_table.specs.Replica.{ReplicaState, name_of, next, members, settled, first_set, may_offer}
+use Rattle.sc_paxos_words.specs.Leaders.{LeaderState}
+use Rattle.sc_paxos_words.proofs.BallotLemmas.{at_least_itself}
+use Rattle.sc_node_table.specs.Replica.{ReplicaState, name_of, next, members, first_set, may_offer}
 use Rattle.sc_node_table.specs.Slots.{numbers_from, slots_ahead}
 use Rattle.sc_paxos_law.proofs.Among.{place_among}
 use Rattle.sc_scenario.specs.declared.scenarios.Scenario.{Scenario}
 use Rattle.sc_sound.specs.Players.{system_of, as_nodes}
 use Rattle.sc_orderly_law.specs.Orderly.{rest, is_born}
-use Rattle.sc_calm_law.specs.Laws.{AreNines, MayPump}
 use Rattle.sc_calm_law.specs.Owed.{Ways}
-use Rattle.sc_calm_law.specs.Quiet.{HasReplica, IsNewest, IsAtRest, LeadsAtRest, IsBelow, MayVote, IsUpToDate, IsLinked, StandsQuiet, IsGoneQuiet, RisesAt}
+use Rattle.sc_calm_law.specs.Quiet.{IsNewest, LeadsAtRest, IsBelow, MayVote, IsUpToDate, IsLinked, StandsQuiet}
 use Rattle.sc_budget_law.specs.Asking.{IsAsking}
 use Rattle.sc_budget_law.specs.AskingLines.{AreSeated}
 use Rattle.sc_budget_law.specs.AskingQuiet.{replicas_after, setting_at, AreFramesOf, IsQuietJournal}
-use Rattle.sc_budget_law.specs.AtRest.{IsOfNodes, IsKept, frame_at_rest}
-use Rattle.sc_budget_law.specs.Between.{told, IsLearning}
-use Rattle.sc_budget_law.specs.BetweenJournal.{replica_at, next_in, marks_at, IsGroupAt}
+use Rattle.sc_budget_law.specs.AtRest.{IsKept, frame_at_rest}
+use Rattle.sc_budget_law.specs.Between.{told}
+use Rattle.sc_budget_law.specs.BetweenJournal.{replica_at, next_in, IsGroupAt}
 use Rattle.sc_budget_law.specs.CalmNode.{Setting, IsSetting}
 use Rattle.sc_budget_law.specs.Frames.{Frame, IsFrame}
 use Rattle.sc_budget_law.specs.PlainClient.{IsBegun}
@@ -40,10 +34,8 @@ use Rattle.sc_budget_law.proofs.BetweenStage.{IsStage}
 use Rattle.sc_budget_law.proofs.BetweenViews.{Journal}
 use Rattle.sc_budget_law.proofs.Lists.{some_is}
 use Rattle.sc_calm_requests_law.specs.QuietLines.{HaveOneLog}
-use Rattle.sc_calm_requests_law.proofs.Calls.{knows}
 use Rattle.sc_calm_requests_law.proofs.EndGroups as end_of_line
 use Rattle.sc_calm_requests_law.proofs.LinesServe.{HasServed, HaveServed}
-use Rattle.sc_calm_requests_law.proofs.Serving.{Rests}
 
 each_of : {X : Type 0} (P : X → Type 0) (xs : List X) → ((x : X) → Among x xs → P x) → Each P xs
 each_of P [] f = tt
@@ -230,13 +222,16 @@ module _ (words : ℕ → ℕ → ℕ × ℕ) (scenario : Scenario) (begins : Is
         let m0 : is_member stands.lead.group.core.members node ≡ true = sym (ap (λ (c : Core). is_member c.members node) core_is) ∙ m in
         let w = stands.member node m0 in
         let n = now node w.0 w.1 in
-        let nexts = next_is node n.r n.there m0 in
-        (n.r, n.there, record {
-          group_is = one_log group node stands.lead.me n.r lead n.there lead_now nexts;
-          next_is = nexts;
-          sets_are = (replica_of_member node n.r m0 (plain_at node n.r n.there)).sets_are ∙ (ap (λ k. map (frame_at_rest stands.lead).at (numbers_from k slots_ahead)) nexts ∙ sym leads.0.sets_are);
-          hint_is = (replica_of_member node n.r m0 (plain_at node n.r n.there)).hint_is ∙ ap Some (sym lead_me);
-        })
+        let nexts = next_is node n.r n.there m0 in (
+          n.r,
+          n.there,
+          record {
+            group_is = one_log group node stands.lead.me n.r lead n.there lead_now nexts;
+            next_is = nexts;
+            sets_are = (replica_of_member node n.r m0 (plain_at node n.r n.there)).sets_are ∙ (ap (λ k. map (frame_at_rest stands.lead).at (numbers_from k slots_ahead)) nexts ∙ sym leads.0.sets_are);
+            hint_is = (replica_of_member node n.r m0 (plain_at node n.r n.there)).hint_is ∙ ap Some (sym lead_me);
+          },
+        )
       where
         replica_of_member : (node : ℕ) (r : ReplicaState) → is_member stands.lead.group.core.members node ≡ true → IsPlainAt (IsBegun scenario rows) (frame_at_rest stands.lead) node r → IsPlainReplica (IsBegun scenario rows) (frame_at_rest stands.lead) node r
         replica_of_member node r m (inl p) = p.0
@@ -254,16 +249,19 @@ module _ (words : ℕ → ℕ → ℕ × ℕ) (scenario : Scenario) (begins : Is
     voter_at : (slot node : ℕ) → is_member ((frame_at_rest stands.lead).at slot) node ≡ true → (r : ReplicaState) × (replica_at scenario rows group node ≡ Some r) × MayVote lead r
     voter_at slot node m =
         let v = stands.voter ((frame_at_rest stands.lead).at slot) node (set_among slot) m in
-        let n = now node v.0 v.1 in
-        (n.r, n.there, record {
-          hint_is = hint n.r (plain_at node n.r n.there) ∙ ap Some (sym lead_me);
-          promised = λ not_first. (
-              let p = v.2.promised (sym (ap (λ (l : LeaderState Command). l.is_first) lead_was.leader) ∙ not_first) in
-              let mes : n.r.me ≡ v.0.me = me_at node n.r n.there ∙ sym (q.kept group node v.0 v.1).me_is in (
-                elim (n.is_served.promised) [ inl same ↦ same ∙ (p.0 ∙ sym ballot_is) | inr new ↦ new ∙ sym ballot_is ],
-                ap (λ (l : LeaderState Command). is_member l.promisers n.r.me) lead_was.leader ∙ (ap (is_member stands.lead.leader.promisers) mes ∙ p.1),
-              ));
-        })
+        let n = now node v.0 v.1 in (
+          n.r,
+          n.there,
+          record {
+            hint_is = hint n.r (plain_at node n.r n.there) ∙ ap Some (sym lead_me);
+            promised = λ not_first. (
+                let p = v.2.promised (sym (ap (λ (l : LeaderState Command). l.is_first) lead_was.leader) ∙ not_first) in
+                let mes : n.r.me ≡ v.0.me = me_at node n.r n.there ∙ sym (q.kept group node v.0 v.1).me_is in (
+                  elim (n.is_served.promised) [ inl same ↦ same ∙ (p.0 ∙ sym ballot_is) | inr new ↦ new ∙ sym ballot_is ],
+                  ap (λ (l : LeaderState Command). is_member l.promisers n.r.me) lead_was.leader ∙ (ap (is_member stands.lead.leader.promisers) mes ∙ p.1),
+                ));
+          },
+        )
       where
         hint : (r : ReplicaState) → IsPlainAt (IsBegun scenario rows) (frame_at_rest stands.lead) node r → r.hint ≡ Some stands.lead.me
         hint r (inl p) = p.0.hint_is

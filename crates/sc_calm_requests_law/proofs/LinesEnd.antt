@@ -1,34 +1,29 @@
 -- A line of requests from a quiet journal leaves all replicas quiet.
-use Rattle.std.proofs.Common.{◌≡◌, ℕ, ◌+◌, ◌<◌, ◌≤◌, true, List, [], ◌∷◌, ◌++◌, Some, inl, inr, refl, sym, ◌∙◌, ap, subst, arith, append-nil}
-use Rattle.sc_base.specs.Among.{Among, Each}
-use Rattle.sc_base.specs.declared.names.Draw.{Draw}
+use Rattle.std.proofs.Common.{◌≡◌, ℕ, ◌+◌, ◌<◌, List, [], ◌∷◌, ◌++◌, Some, inl, refl, sym, ◌∙◌, ap, subst, arith, append-nil}
+use Rattle.sc_base.specs.Among.{Among}
 use Rattle.sc_cmd.specs.declared.commands.Command.{Command}
 use Rattle.sc_cmd.specs.declared.cores.Base.{Base}
 use Rattle.sc_paxos_words.specs.declared.reports.Report.{Report}
 use Rattle.sc_paxos_words.proofs.ListLemmas.{Each-among}
-use Rattle.sc_node_table.specs.Replica.{ReplicaState, name_of, next}
+use Rattle.sc_node_table.specs.Replica.{ReplicaState, next}
 use Rattle.sc_scenario.specs.declared.scenarios.Scenario.{Scenario}
 use Rattle.sc_scenario.specs.Valid.{ValidScenariosAreBounded}
-use Rattle.sc_sound.specs.Players.{system_of, as_nodes}
-use Rattle.sc_orderly_law.specs.Orderly.{rest, is_born}
 use Rattle.sc_calm_law.specs.Owed.{Ways}
-use Rattle.sc_calm_law.specs.Quiet.{StandsQuiet}
 use Rattle.sc_budget_law.specs.Asking.{IsAsking}
-use Rattle.sc_budget_law.specs.AskingLines.{AreRequests, AreSeated, NobodyWaits}
-use Rattle.sc_budget_law.specs.AskingQuiet.{replicas_after, setting_at, AreFramesOf, DoHintsRise, IsQuietJournal}
-use Rattle.sc_budget_law.specs.AtRest.{frame_at_rest}
+use Rattle.sc_budget_law.specs.AskingLines.{AreRequests}
+use Rattle.sc_budget_law.specs.AskingQuiet.{replicas_after, setting_at, AreFramesOf, IsQuietJournal}
 use Rattle.sc_budget_law.specs.BetweenJournal.{replica_at}
 use Rattle.sc_budget_law.specs.CalmAsking.{IsLinkedSetting}
-use Rattle.sc_budget_law.specs.CalmNode.{Setting, IsSetting}
+use Rattle.sc_budget_law.specs.CalmNode.{IsSetting}
 use Rattle.sc_budget_law.specs.Frames.{Frame}
 use Rattle.sc_budget_law.specs.PlainNode.{AreTaken}
 use Rattle.sc_budget_law.proofs.AskingBegins.{quiet_ask}
 use Rattle.sc_budget_law.proofs.BetweenStage.{IsStage, stage}
 use Rattle.sc_budget_law.proofs.BetweenViews.{Journal}
 use Rattle.sc_budget_law.proofs.Lists.{some_is}
-use Rattle.sc_calm_requests_law.specs.QuietLines.{HaveOneLog, AreReplicasQuiet, LinesLeaveReplicasQuiet}
+use Rattle.sc_calm_requests_law.specs.QuietLines.{LinesLeaveReplicasQuiet}
 use Rattle.sc_calm_requests_law.proofs.EndAll.{all_quiet}
-use Rattle.sc_calm_requests_law.proofs.LinesServe.{HasServed, HaveServed, line_serves}
+use Rattle.sc_calm_requests_law.proofs.LinesServe.{HaveServed, line_serves}
 use Rattle.sc_calm_requests_law.proofs.Serving.{rests_itself}
 
 -- at the beginning all replicas are as they were
@@ -47,17 +42,21 @@ module _ (words : ℕ → ℕ → ℕ × ℕ) (scenario : Scenario) (first : Bas
 
   pub at_first : HaveServed scenario (setting_at (replicas_after scenario before) frames ways) before
   at_first = record {
-    standing = λ frame node r a e. (r, e, record {
-      next_up = omega arith;
-      hint_is = refl;
-      core_is = refl;
-      running_is = refl;
-      top = inl refl;
-      promised = inl refl;
-      leader = refl;
-      accepted = under_lead frame node r a e;
-      rest = inl (rests_itself r);
-    });
+    standing = λ frame node r a e. (
+      r,
+      e,
+      record {
+        next_up = omega arith;
+        hint_is = refl;
+        core_is = refl;
+        running_is = refl;
+        top = inl refl;
+        promised = inl refl;
+        leader = refl;
+        accepted = under_lead frame node r a e;
+        rest = inl (rests_itself r);
+      },
+    );
     homes = λ group node r e. record { r = r; is_there = e };
     others = λ group node none. refl;
   }

@@ -1,6 +1,6 @@
 -- In a line of requests a client that was not told to go stays as it was, and nothing is sent to who is no actor but what is nothing to any group.
-use Rattle.std.proofs.Common.{◌≡◌, ℕ, zero, suc, ◌+◌, ◌≤◌, ◌&&◌, ◌||◌, eqb, Bool, true, false, List, [], ◌∷◌, ◌++◌, length, drop, filter, find, Some, None, ◌⊎◌, inl, inr, refl, sym, ◌∙◌, ap, subst, arith, append_assoc, append-nil}
-use Rattle.std.proofs.lemmas.Bool.{cond_both, cases_Bool, cases_eq, both_ways, eqb-true, eq-eqb, or_right}
+use Rattle.std.proofs.Common.{◌≡◌, ℕ, zero, suc, ◌+◌, ◌≤◌, ◌&&◌, ◌||◌, eqb, Bool, true, false, List, [], ◌∷◌, ◌++◌, length, drop, filter, find, Some, inl, inr, refl, sym, ◌∙◌, ap, subst, arith, append_assoc, append-nil}
+use Rattle.std.proofs.lemmas.Bool.{cond_both, cases_eq, both_ways, eqb-true, eq-eqb, or_right}
 use Rattle.std.proofs.lemmas.List.Folds.{list_any-append}
 use Rattle.sc_base.specs.Among.{Among, Each}
 use Rattle.sc_base.specs.Limits.{client_actor}
@@ -20,7 +20,7 @@ use Rattle.sc_actor.specs.declared.rows.Input.TheVariants.{Got, Go as GoInput}
 use Rattle.sc_actor.specs.declared.rows.Row.{Row}
 use Rattle.sc_actor.specs.Mail.{mails}
 use Rattle.sc_actor.specs.Replay.{value, acted, input_of}
-use Rattle.sc_actor.specs.System.{System, row_of, has_gone, is_go, waiting, kth}
+use Rattle.sc_actor.specs.System.{System, row_of, has_gone, is_go}
 use Rattle.sc_client_table.specs.Client.{Client as ClientState}
 use Rattle.sc_client_table.specs.Table.{table}
 use Rattle.sc_paxos_words.proofs.ListLemmas.{Each-append, Each-filter}
@@ -36,9 +36,9 @@ use Rattle.sc_budget_law.specs.Asking.{IsAsking, AreFarFromLast}
 use Rattle.sc_budget_law.specs.AskingLines.{AreRequests, AreSeated}
 use Rattle.sc_budget_law.specs.Between.{Other, mark, mark_of}
 use Rattle.sc_budget_law.specs.CalmAsking.{IsLinkedSetting, IsCalmClient}
-use Rattle.sc_budget_law.specs.CalmNode.{Setting, IsHome, IsSetting, IsAsideBody, IsCalmMail}
+use Rattle.sc_budget_law.specs.CalmNode.{Setting, IsSetting, IsAsideBody, IsCalmMail}
 use Rattle.sc_budget_law.specs.Frames.{Frame, IsFrame}
-use Rattle.sc_budget_law.specs.Owed.{waiting_ones, begun_ones}
+use Rattle.sc_budget_law.specs.Owed.{waiting_ones}
 use Rattle.sc_budget_law.specs.PlainClient.{IsBegun, begun_of}
 use Rattle.sc_budget_law.specs.PlainMail.{Requests, IsPlainBody}
 use Rattle.sc_budget_law.proofs.AskingClients as clients_of
@@ -256,17 +256,15 @@ module _ (words : ℕ → ℕ → ℕ × ℕ) (scenario : Scenario) (begins : Is
       | inl n ↦ (
           let row_is : row ≡ row_of player_table (node_seat as_nodes scenario.groups scenario.policy n.me) rows o.event = o.row_is ∙ ap (λ (seat : Seat Player). row_of player_table seat rows o.event) n.seat_is in
           let born = subst (λ (seat : Seat Player). find (λ (other : Seat Player). eqb other.who seat.who) (births as_nodes scenario) ≡ Some seat) n.seat_is o.born in
-          let sent = node_sent n.me n.one n.most born o.event (subst (λ (seat : Seat Player). IsInOrder sys rows seat.who o.event) n.seat_is o.in_order) in
-          (
+          let sent = node_sent n.me n.one n.most born o.event (subst (λ (seat : Seat Player). IsInOrder sys rows seat.who o.event) n.seat_is o.in_order) in (
             desk_by row o (λ who away. subst (λ (r : Row Mail OrderLine). Each IsNothing (mail_for sys who r.sent)) (sym row_is) (sent who away)) h.0,
             λ asks client a not_gone v. other_fresh Born row h.1 asks client a (λ e. both_ways (is_node (client_actor asks.client)) (client_number words scenario begins asks a)
-            (ap is_node (e ∙ ap (λ (r : Row Mail OrderLine). r.who) row_is) ∙ node_number words scenario begins n.me n.one n.most)) not_gone v,
+                (ap is_node (e ∙ ap (λ (r : Row Mail OrderLine). r.who) row_is) ∙ node_number words scenario begins n.me n.one n.most)) not_gone v,
           ))
       | inr d ↦ (
           let row_is : row ≡ row_of player_table (cseat d.asks) rows o.event = o.row_is ∙ ap (λ (seat : Seat Player). row_of player_table seat rows o.event) d.seat_is in
           let born = subst (λ (seat : Seat Player). find (λ (other : Seat Player). eqb other.who seat.who) (births as_nodes scenario) ≡ Some seat) d.seat_is o.born in
-          let fine = subst (λ (seat : Seat Player). IsInOrder sys rows seat.who o.event) d.seat_is o.in_order in
-          (
+          let fine = subst (λ (seat : Seat Player). IsInOrder sys rows seat.who o.event) d.seat_is o.in_order in (
             desk_by row o (λ who away. subst (λ (r : Row Mail OrderLine). Each IsNothing (mail_for sys who r.sent)) (sym row_is) (client_sent d.asks d.is_asks born o.event fine who)) h.0,
             λ asks client a not_gone v. elim (cases_eq (client_actor asks.client) (client_actor d.asks.client)) [
               | inl here ↦ own_fresh d.asks d.is_asks born o.event fine

@@ -1,5 +1,5 @@
 -- A line of requests leaves a quiet journal.
-use Rattle.std.proofs.Common.{◌≡◌, ℕ, ◌+◌, Bool, true, false, List, [], ◌∷◌, ◌++◌, length, map, Some, None, ◌⊎◌, inl, inr, refl, sym, ◌∙◌, ap, subst, append-nil}
+use Rattle.std.proofs.Common.{◌≡◌, ℕ, Bool, true, false, List, [], ◌∷◌, ◌++◌, length, map, ◌⊎◌, inl, inr, refl, sym, ◌∙◌, ap, subst, append-nil}
 use Rattle.std.proofs.lemmas.Bool.{both_ways}
 use Rattle.sc_base.specs.Among.{Among, Each}
 use Rattle.sc_base.specs.Limits.{client_actor}
@@ -12,20 +12,18 @@ use Rattle.sc_actor.specs.Replay.{value}
 use Rattle.sc_actor.specs.System.{has_gone}
 use Rattle.sc_client_table.specs.Client.{Client as ClientState, born_client}
 use Rattle.sc_paxos_words.proofs.ListLemmas.{Each-among}
-use Rattle.sc_node_table.specs.Replica.{ReplicaState}
 use Rattle.sc_scenario.specs.declared.scenarios.Asks.{Asks}
 use Rattle.sc_scenario.specs.declared.scenarios.Scenario.{Scenario}
 use Rattle.sc_scenario.specs.Valid.{ValidScenariosAreBounded}
 use Rattle.sc_sound.specs.Players.{Player, player_table, client_seat, route_of, system_of, as_nodes}
 use Rattle.sc_orderly_law.specs.Orderly.{rest, is_born}
 use Rattle.sc_calm_law.specs.Owed.{Ways}
-use Rattle.sc_calm_law.specs.Quiet.{StandsQuiet, IsGoneQuiet, IsAnswered, IsQuiet}
+use Rattle.sc_calm_law.specs.Quiet.{StandsQuiet, IsGoneQuiet, IsAnswered}
 use Rattle.sc_budget_law.specs.Asking.{IsAsking}
-use Rattle.sc_budget_law.specs.AskingLines.{AreRequests, AreSeated, NobodyWaits, HaveAllReplies}
+use Rattle.sc_budget_law.specs.AskingLines.{AreSeated, NobodyWaits, HaveAllReplies}
 use Rattle.sc_budget_law.specs.AskingQuiet.{replicas_after, setting_at, AreFramesOf, IsQuietJournal}
 use Rattle.sc_budget_law.specs.AtRest.{frame_at_rest}
 use Rattle.sc_budget_law.specs.Between.{Other, mark}
-use Rattle.sc_budget_law.specs.BetweenJournal.{replica_at}
 use Rattle.sc_budget_law.specs.CalmNode.{Setting, IsSetting}
 use Rattle.sc_budget_law.specs.Frames.{Frame}
 use Rattle.sc_budget_law.specs.PlainClient.{IsBegun}

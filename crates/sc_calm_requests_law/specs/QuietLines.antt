@@ -8,7 +8,7 @@ use Rattle.sc_actor.specs.declared.rows.Row.{Row}
 use Rattle.sc_node_table.specs.Replica.{ReplicaState, next}
 use Rattle.sc_scenario.specs.declared.scenarios.Scenario.{Scenario}
 use Rattle.sc_scenario.specs.Valid.{IsValid}
-use Rattle.sc_sound.specs.Players.{route_of, system_of, as_nodes}
+use Rattle.sc_sound.specs.Players.{system_of, as_nodes}
 use Rattle.sc_orderly_law.specs.Orderly.{rest, is_born}
 use Rattle.sc_calm_law.specs.Laws.{MayPump}
 use Rattle.sc_calm_law.specs.Owed.{Ways}
