@@ -10,3 +10,4 @@ mod EndAll
 mod LinesEnd
 mod LinesKeep
 mod QuietEnd
+mod OneLog

@@ -3,9 +3,13 @@
 #![tactic(auto)]
 
 ghost use Rattle.sc_calm_requests_law.specs.Finding.{RequestsAreTakenCalmly};
+ghost use Rattle.sc_calm_requests_law.specs.OneLog.{LawfulJournalsHaveOneLog};
 ghost use Rattle.sc_calm_requests_law.specs.QuietLines.{LinesLeaveQuiet, LinesLeaveReplicasQuiet};
 
+use sc_log_law::groups_are_born_under_new_names;
+use sc_names_law::{names_have_one_owner, orders_are_allowed};
 use sc_scenario::valid_scenarios_are_bounded;
+use sc_whole_law::{lawful_journals_decide_in_turn, valid_journals_are_sound, valid_scenarios_begin_well};
 
 /// While clients ask alone, a node whose replicas may pump finds what it needs in each mail that
 /// comes to it when it is due.
@@ -28,4 +32,18 @@ pub fn lines_leave_quiet()
     ensures { LinesLeaveQuiet }
 {
     valid_scenarios_are_bounded();
+}
+
+/// In each lawful journal of a valid scenario replicas of one group that executed as much are in
+/// one state: each has executed a front of its group's one log.
+pub fn lawful_journals_have_one_log()
+    ensures { LawfulJournalsHaveOneLog }
+{
+    valid_scenarios_are_bounded();
+    valid_scenarios_begin_well();
+    orders_are_allowed();
+    names_have_one_owner();
+    lawful_journals_decide_in_turn();
+    groups_are_born_under_new_names();
+    valid_journals_are_sound();
 }
