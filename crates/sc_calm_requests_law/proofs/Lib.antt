@@ -11,3 +11,4 @@ mod LinesEnd
 mod LinesKeep
 mod QuietEnd
 mod OneLog
+mod LawfulLines

@@ -3,13 +3,15 @@
 #![tactic(auto)]
 
 ghost use Rattle.sc_calm_requests_law.specs.Finding.{RequestsAreTakenCalmly};
-ghost use Rattle.sc_calm_requests_law.specs.OneLog.{LawfulJournalsHaveOneLog};
+ghost use Rattle.sc_calm_requests_law.specs.OneLog.{LawfulJournalsHaveOneLog, LawfulLinesLeaveQuiet};
 ghost use Rattle.sc_calm_requests_law.specs.QuietLines.{LinesLeaveQuiet, LinesLeaveReplicasQuiet};
 
 use sc_log_law::groups_are_born_under_new_names;
 use sc_names_law::{names_have_one_owner, orders_are_allowed};
 use sc_scenario::valid_scenarios_are_bounded;
-use sc_whole_law::{lawful_journals_decide_in_turn, valid_journals_are_sound, valid_scenarios_begin_well};
+use sc_whole_law::{
+    lawful_journals_decide_in_turn, valid_journals_are_sound, valid_scenarios_begin_well,
+};
 
 /// While clients ask alone, a node whose replicas may pump finds what it needs in each mail that
 /// comes to it when it is due.
@@ -46,4 +48,15 @@ pub fn lawful_journals_have_one_log()
     lawful_journals_decide_in_turn();
     groups_are_born_under_new_names();
     valid_journals_are_sound();
+}
+
+/// Where a line of requests in a lawful journal begins in a quiet one and leaves no mail to
+/// anybody, the journal is quiet again, and all replicas may pump if all might before.
+pub fn lawful_lines_leave_quiet()
+    ensures { LawfulLinesLeaveQuiet }
+{
+    valid_scenarios_are_bounded();
+    lawful_journals_have_one_log();
+    lines_leave_replicas_quiet();
+    lines_leave_quiet();
 }
