@@ -1,9 +1,12 @@
-//! A line of requests in a calm journal, between two orders: each row finds what it needs.
-//! Definitions and laws, no logic.
+//! A line of requests in a calm journal, between two orders: each row finds what it needs, and the
+//! line leaves a quiet journal. Definitions and laws, no logic.
 #![tactic(auto)]
 
 ghost use Rattle.sc_calm_requests_law.specs.Finding.{RequestsAreTakenCalmly};
-ghost use Rattle.sc_calm_requests_law.specs.OneLog.{LawfulJournalsHaveOneLog, LawfulLinesLeaveQuiet};
+ghost use Rattle.sc_calm_requests_law.specs.OneLog.{
+  LawfulJournalsHaveOneLog,
+  LawfulLinesLeaveQuiet,
+};
 ghost use Rattle.sc_calm_requests_law.specs.QuietLines.{LinesLeaveQuiet, LinesLeaveReplicasQuiet};
 
 use sc_log_law::groups_are_born_under_new_names;
