@@ -1,5 +1,5 @@
 -- A row that finds what it needs lowers what is owed, where it delivers, and raises it little, where it tells an order.
-use Rattle.std.proofs.Common.{◌≡◌, ℕ, ◌+◌, ◌*◌, ◌≤◌, eqb, true, true≢false, cond, List, [], ◌∷◌, ◌++◌, sum_by, find, Some, None, inl, inr, refl, sym, ◌∙◌, ap, subst, arith}
+use Rattle.std.proofs.Common.{◌≡◌, ℕ, ◌+◌, ◌*◌, ◌≤◌, eqb, Bool, true, true≢false, cond, List, [], ◌∷◌, ◌++◌, sum_by, find, Some, None, inl, inr, refl, sym, ◌∙◌, ap, subst, arith}
 use Rattle.std.specs.List.{filter}
 use Rattle.std.specs.Option.{option_map}
 use Rattle.std.proofs.lemmas.List.Sums.{sum_by-append}
@@ -21,7 +21,7 @@ use Rattle.sc_actor.specs.System.{are_apart, row_of}
 use Rattle.sc_actor.proofs.PendingLemmas.{waiting_one}
 use Rattle.sc_orderly_law.specs.Orderly.{IsCalmEvent, mail_with, is_born, is_told, orders}
 use Rattle.sc_orderly_law.specs.Owing.{under_way}
-use Rattle.sc_orderly_law.specs.Timely.{AreInTime}
+use Rattle.sc_orderly_law.specs.Timely.{AreInTime, AreToldSo}
 use Rattle.sc_orderly_law.proofs.InTime.{by_time, in_time_before, last_in_time}
 use Rattle.sc_orderly_law.proofs.Paying.{count_push, delivered}
 use Rattle.sc_orderly_law.proofs.Rests.{filter_sum}
@@ -198,32 +198,36 @@ module _ (words : ℕ → ℕ → ℕ × ℕ) (births : List (Seat Player)) (apa
 
   -- ---- rows that come in time
 
-  module _ (charts : Rows → Chart) (told : ℕ) (keeps : KeepCalm (players words births) charts told) where
+  module _ (charts : Rows → Chart) (allowed : ℕ → OrderLine → Bool) (told : ℕ) (keeps : KeepCalm (players words births) charts allowed told) where
     fewer : (rows : Rows) (row : Row Mail OrderLine) → orders (rows ++ row ∷ []) ≤ told → orders rows ≤ told
     fewer rows row few = (let o = count_push (λ (r : Row Mail OrderLine). is_told r.event) rows row (is_told row.event) refl in omega (arith, o, few))
 
     -- the longest way stays what it is
-    most_stays : (rows : Rows) → AreInTime (players words births) rows → orders rows ≤ told → (charts rows).ways.most ≡ (charts []).ways.most
+    such_before : (rows : Rows) (row : Row Mail OrderLine) → AreToldSo allowed (rows ++ row ∷ []) → AreToldSo allowed rows
+    such_before [] row such = tt
+    such_before (r ∷ rows) row such = (such.0, such_before rows row such.1)
+
+    most_stays : (rows : Rows) → AreInTime (players words births) rows → AreToldSo allowed rows → orders rows ≤ told → (charts rows).ways.most ≡ (charts []).ways.most
     most_stays rows timely =
-        by_time (players words births) (λ r. orders r ≤ told → (charts r).ways.most ≡ (charts []).ways.most) (λ few. refl)
-        (λ r row t same few. (keeps r row t few).follows.most ∙ same (fewer r row few))
+        by_time (players words births) (λ r. AreToldSo allowed r → orders r ≤ told → (charts r).ways.most ≡ (charts []).ways.most) (λ such few. refl)
+        (λ r row t same such few. (keeps r row t such few).follows.most ∙ same (such_before r row such) (fewer r row few))
         rows timely
 
     abbrev RowPays : Rows → Row Mail OrderLine → Type 0
     RowPays rows row = run_owes (charts rows) (players words births) (rows ++ row ∷ []) + cond (is_delivery row.event) 1 0 ≤ run_owes (charts rows) (players words births) rows + cond (is_told row.event) (242 + 4 * (charts rows).ways.most) 0
 
-    row_lowers : (rows : Rows) (row : Row Mail OrderLine) → AreInTime (players words births) (rows ++ row ∷ []) → orders (rows ++ row ∷ []) ≤ told
+    row_lowers : (rows : Rows) (row : Row Mail OrderLine) → AreInTime (players words births) (rows ++ row ∷ []) → AreToldSo allowed (rows ++ row ∷ []) → orders (rows ++ row ∷ []) ≤ told
         → run_owes (charts (rows ++ row ∷ [])) (players words births) (rows ++ row ∷ []) + cond (is_delivery row.event) 1 0 ≤ run_owes (charts rows) (players words births) rows + cond (is_told row.event) (242 + 4 * (charts []).ways.most) 0
-    row_lowers rows row timely few =
-        let kept = keeps rows row timely few in
+    row_lowers rows row timely such few =
+        let kept = keeps rows row timely such few in
         let calm = (last_in_time (players words births) rows row timely).0 in
         let pays = subst (RowPays rows) (sym calm.row_is) (row_pays (charts rows) kept.bounded rows calm.seat calm.born calm.event calm.calm (kept.finds calm.seat calm.event calm.born calm.row_is)) in
         let next = charts_may_change words births (rows ++ row ∷ []) (charts rows) (charts (rows ++ row ∷ [])) kept.follows in
-        let same = ap (λ far. cond (is_told row.event) (242 + 4 * far) 0) (most_stays rows (in_time_before (players words births) rows row timely) (fewer rows row few)) in
+        let same = ap (λ far. cond (is_told row.event) (242 + 4 * far) 0) (most_stays rows (in_time_before (players words births) rows row timely) (such_before rows row such) (fewer rows row few)) in
         omega (arith, pays, next, same)
 
 pub kept_calm : KeptCalmIsMeasured
-kept_calm words births charts told still apart keeps quiet = record {
-  lowers = row_lowers words births apart charts told keeps;
+kept_calm words births charts allowed told still apart keeps quiet = record {
+  lowers = row_lowers words births apart charts allowed told keeps;
   quiet = quiet;
 }

@@ -137,7 +137,7 @@ resting_owes_little words births first chart rows timely quiet is =
     omega (arith, rest, groups, mail)
 
 pub kept_ends_quiet : KeptCalmEndsQuiet
-kept_ends_quiet words births charts lines journal apart keeps rests spaced room lawful =
-    ends_quiet (players words births) (orders_given lines) (λ rows. run_owes (charts rows) (players words births) rows) (births_owe (charts []) births) (242 + 4 * (charts []).ways.most)
-    (kept_calm words births charts (orders_given lines) (births_owe (charts []) births) apart keeps (λ rows timely few quiet. resting_owes_little words births (charts []) (charts rows) rows timely quiet (rests rows timely few quiet)))
-    lines spaced room (omega arith) journal lawful
+kept_ends_quiet words births charts allowed lines journal apart keeps rests so spaced room lawful =
+    ends_quiet (players words births) allowed (orders_given lines) (λ rows. run_owes (charts rows) (players words births) rows) (births_owe (charts []) births) (242 + 4 * (charts []).ways.most)
+    (kept_calm words births charts allowed (orders_given lines) (births_owe (charts []) births) apart keeps (λ rows timely such few quiet. resting_owes_little words births (charts []) (charts rows) rows timely quiet (rests rows timely such few quiet)))
+    lines spaced room so (omega arith) journal lawful

@@ -35,11 +35,11 @@ welcomed_state (node ∷ nodes) r mails = by (λ more. welcomed_state nodes r mo
     by rest true = rest (with_state 0 r node mails)
     by rest false = rest (with_both 0 r node mails)
 
-told_state : (before : List ℕ) (slot : ℕ) (command : Command) (r : ReplicaState) (mails : List Mail) → (welcomed true before (learnt_to true before slot command (r, mails))).0 ≡ r
+pub told_state : (before : List ℕ) (slot : ℕ) (command : Command) (r : ReplicaState) (mails : List Mail) → (welcomed true before (learnt_to true before slot command (r, mails))).0 ≡ r
 unfolding welcomed learnt_to
 told_state before slot command r mails = welcomed_state (filter (λ node. not (is_member before node)) (members r)) r _
 
-landed_is : (slot : ℕ) (command : Command) (r : ReplicaState) (mails : List Mail) → landed true slot command (r, mails) ≡ (record r { leader = without_flight_at slot r.leader; ready = without_slot r.ready slot }, mails)
+pub landed_is : (slot : ℕ) (command : Command) (r : ReplicaState) (mails : List Mail) → landed true slot command (r, mails) ≡ (record r { leader = without_flight_at slot r.leader; ready = without_slot r.ready slot }, mails)
 unfolding landed
 landed_is slot command r mails = by (flying r slot)
   where
@@ -158,13 +158,13 @@ module _ (at : Sets) (course : Course) (command : Command) (r : ReplicaState) (m
   pub leads_past : LeadsPast at course command (r, mails) (executed_one true command (r, mails))
   unfolding executed_one
   leads_past =
-      announced_keeps (λ place. LeadsPast at course command (r, mails) (then_on place)) (entered command r) mails
+      announced_keeps (name_of r) (λ place. LeadsPast at course command (r, mails) (then_on place)) (entered command r) mails
       (λ acts calls more same.
       let q : ReplicaState = record (entered command r) { acts = acts; calls = calls } in
       let said : Place = spoken true (before_of r.group.core) (applied r.group command).1 command (q, more) in
       subst (λ (x : ReplicaState). LeadsPast at course command (r, mails) (looked (left (landed true (next r) command (welcomed true (members r) (learnt_to true (members r) (next r) command (x, said.1)))))))
       (sym (spoken_same (name_of r) 0 (before_of r.group.core) (applied r.group command).1 command q more).0)
-      (past acts calls said.1 (λ who. (spoken_same (name_of r) who (before_of r.group.core) (applied r.group command).1 command q more).1 ∙ same (name_of r) who)))
+      (past acts calls said.1 (λ who. (spoken_same (name_of r) who (before_of r.group.core) (applied r.group command).1 command q more).1 ∙ same who)))
       (applied r.group command).1 command
 
 pub entries_lead : EntriesLead

@@ -117,7 +117,7 @@ no_votes (x ∷ members) = no_votes members
 pub none_decided : (members : List ℕ) → is_majority members [] ≡ false
 none_decided members = (let none = no_votes members in le-ltb (length members) (2 * votes_of members []) (omega (arith, none)))
 
-no_pump : (r : ReplicaState) (mails : List Mail) (ballot : Ballot) (from : ℕ) → pumped (record r { leader = new_leader ballot from }, mails) ≡ (record r { leader = new_leader ballot from }, mails)
+pub no_pump : (r : ReplicaState) (mails : List Mail) (ballot : Ballot) (from : ℕ) → pumped (record r { leader = new_leader ballot from }, mails) ≡ (record r { leader = new_leader ballot from }, mails)
 unfolding pumped
 no_pump r mails ballot from =
     ap (λ b. cond {A = Place} b (pumped_from (next r) r.sets (record r { leader = new_leader ballot from }, mails)) (record r { leader = new_leader ballot from }, mails)) (by r.running (below ballot r.acceptor.promised) (is_majority (first_set r.sets) []) (none_decided (first_set r.sets)))
@@ -143,13 +143,13 @@ elected_is r mails off may =
     (let low = may.round in ne_eqb r.top.round (2 ^ 32 - 1) (λ e. omega (arith, low, e))))))
 
 module _ (command : Command) (r : ReplicaState) (off : r.running ≡ false) (none : r.leader.flights ≡ []) (slot : ℕ) (at : slot ≡ next r) (may : MayElect (entered command r)) (name_is : name_of (entered command r) ≡ name_of r) where
-  abbrev last : ReplicaState
+  abbrev pub last : ReplicaState
   last = over command r off none
 
-  abbrev mails : List Mail
+  abbrev pub mails : List Mail
   mails = (place2 command r off none).1
 
-  abbrev leading : Place
+  abbrev pub leading : Place
   leading = (
     record last { top = next_ballot last; hint = Some last.me; running = true; leader = new_leader (next_ballot last) (next last); ready = []; waits = 0 },
     sent_all last.me (open_nodes last.sets) (Prepare (name_of last) (next_ballot last) (next last)) mails,
@@ -158,7 +158,7 @@ module _ (command : Command) (r : ReplicaState) (off : r.running ≡ false) (non
   may_last : MayElect last
   may_last = record { stands = may.stands; hint = may.hint; least = may.least; round = may.round }
 
-  one_is : executed_one false command (r, []) ≡ leading
+  pub one_is : executed_one false command (r, []) ≡ leading
   one_is = looks command r off none (λ p. p ≡ leading) (elected_is last mails (over_off command r off none) may_last)
 
   same_me : last.me ≡ r.me
@@ -169,7 +169,7 @@ module _ (command : Command) (r : ReplicaState) (off : r.running ≡ false) (non
   unfolding entered forgotten
   same_top = refl
 
-  next_is : next last ≡ suc slot
+  pub next_is : next last ≡ suc slot
   next_is = (let up = entered_next command r in omega (arith, up, at))
 
   ballot_is : next_ballot last ≡ next_ballot r
@@ -183,7 +183,7 @@ module _ (command : Command) (r : ReplicaState) (off : r.running ≡ false) (non
       named_so : mark_of (name_of r) last.me (Prepare (name_of last) (next_ballot last) (next last)) ≡ Some (Prepares (next_ballot r))
       named_so = ap (λ n. mark_of (name_of r) last.me (Prepare n (next_ballot last) (next last))) name_is ∙ (same_mark (name_of r) (Prepares (next_ballot last)) ∙ ap (λ b. Some (Prepares b)) ballot_is)
 
-  elects : ElectsBy slot (entered command r).sets r leading
+  pub elects : ElectsBy slot (entered command r).sets r leading
   elects = record {
     reaches = next_is;
     promises = (entered_keeps command r).0;

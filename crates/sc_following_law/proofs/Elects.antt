@@ -15,7 +15,7 @@ use Rattle.sc_following_law.proofs.Keeps.{goes, each-row, asked-row}
 use Rattle.sc_following_law.proofs.Leads.{least_in}
 
 -- the last entry takes a node to the newest state, and promises nothing
-last_next : (newest next : ℕ) (mark : Mark) → IsLast newest mark → next_by next mark ≡ newest
+pub last_next : (newest next : ℕ) (mark : Mark) → IsLast newest mark → next_by next mark ≡ newest
 last_next newest next mark (slot, is, inl tells) = ap (next_by next) tells ∙ is
 last_next newest next mark (slot, is, inr installs) = ap (next_by next) installs ∙ is
 

@@ -49,13 +49,13 @@ once marks who (node ∷ nodes) up =
     ]
 
 -- one that passes stands among those that do if it stands there, and one that does not stands nowhere
-passes : (p : ℕ → Bool) (who : ℕ) → p who ≡ true → (xs : List ℕ) → is_member (filter p xs) who ≡ is_member xs who
+pub passes : (p : ℕ → Bool) (who : ℕ) → p who ≡ true → (xs : List ℕ) → is_member (filter p xs) who ≡ is_member xs who
 passes p who t [] = refl
 passes p who t (x ∷ xs) =
     cond_both (p x) (x ∷ filter p xs) (filter p xs) (λ l. is_member l who ≡ (eqb x who || is_member xs who)) (λ _. ap (λ b. eqb x who || b) (passes p who t xs))
     (λ f. passes p who t xs ∙ ap (λ b. b || is_member xs who) (sym (ne_eqb x who (λ e. true≢false (sym t ∙ (ap p (sym e) ∙ f))))))
 
-fails : (p : ℕ → Bool) (who : ℕ) → p who ≡ false → (xs : List ℕ) → is_member (filter p xs) who ≡ false
+pub fails : (p : ℕ → Bool) (who : ℕ) → p who ≡ false → (xs : List ℕ) → is_member (filter p xs) who ≡ false
 fails p who f [] = refl
 fails p who f (x ∷ xs) =
     cond_both (p x) (x ∷ filter p xs) (filter p xs) (λ l. is_member l who ≡ false)

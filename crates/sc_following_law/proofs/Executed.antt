@@ -104,6 +104,7 @@ none_leads at course place led = record {
   named = refl;
   promise = refl;
   was = led.was;
+  stayed = λ slot least most. absurd (omega (arith, least, most));
   drawn = λ slot least most. absurd (omega (arith, least, most));
   ready = λ on slot least. refl;
   bound = course.bound;
@@ -159,6 +160,7 @@ module _ (at : Sets) (course : Course) (place mid : Place) (b : LeadsBy at cours
     named = ap (λ (q : ReplicaState). name_of q) o.is ∙ b.named;
     promise = ap (λ (q : ReplicaState). q.acceptor.promised) o.is ∙ b.promise;
     was = subst (λ (q : ReplicaState). members_at at (next q) ≡ members q) (sym o.is) b.was;
+    stayed = λ slot least most. b.stayed slot least (let same = ap (λ (q : ReplicaState). next q) o.is in omega (arith, most, same));
     drawn = λ slot least most. b.drawn slot least (let same = ap (λ (q : ReplicaState). next q) o.is in omega (arith, most, same));
     ready = λ on slot least. ap (λ (q : ReplicaState). at_slot q.ready slot) o.is
         ∙ b.ready (sym (ap (λ (q : ReplicaState). q.running) o.is) ∙ on) slot (let same = ap (λ (q : ReplicaState). next q) o.is in omega (arith, least, same));
@@ -254,6 +256,10 @@ module _ (at : Sets) (course : Course) (command : Command) (place mid : Place) (
     named = b.named ∙ name_mid;
     promise = b.promise ∙ promise_mid;
     was = b.was;
+    stayed = λ slot least most. elim (cases_eq slot (next place.0)) [
+      | inl e ↦ ap (λ s. is_member (members_at at (s + 1)) place.0.me) e ∙ (ap (λ l. is_member l place.0.me) is_next.is ∙ on.stays)
+      | inr ne ↦ ap (is_member (members_at at (slot + 1))) (sym me_mid) ∙ b.stayed slot (past_next slot least ne) most
+    ];
     drawn = λ slot least most. elim (cases_eq slot (next place.0)) [
       | inl e ↦ drawn_one slot e
       | inr ne ↦ ap is_some (sym (ready_same slot ne)) ∙ b.drawn slot (past_next slot least ne) most
@@ -311,6 +317,7 @@ module _ (at : Sets) (course : Course) (command : Command) (place mid : Place) (
     named = name_mid;
     promise = promise_mid;
     was = subst (λ (q : ReplicaState). members_at at (next q) ≡ members q) (sym off.is) (ap (members_at at) (entered_next command place.0) ∙ is_next.is);
+    stayed = λ slot least most. absurd (let n = next_mid in omega (arith, least, most, n));
     drawn = λ slot least most. drawn_one slot (let n = next_mid in omega (arith, least, most, n));
     ready = λ goes slot least. absurd (true≢false (sym goes ∙ ap (λ (q : ReplicaState). q.running) off.is));
     bound = course.bound;
@@ -344,14 +351,14 @@ step_leads at course command place es led ready is_next rest =
           (subst (LeadsBy at course place) (sym (idle_pump mid still)) (last_one at course command place mid led ready is_next past off)))
     ]
 
-ready_of : (command : Command) (r : ReplicaState) → next_ready r ≡ Some command → at_slot r.ready (next r) ≡ Some command
+pub ready_of : (command : Command) (r : ReplicaState) → next_ready r ≡ Some command → at_slot r.ready (next r) ≡ Some command
 ready_of command r e = by (r.running && has_room r) e
   where
     by : (b : Bool) → cond b (at_slot r.ready (next r)) None ≡ Some command → at_slot r.ready (next r) ≡ Some command
     by true i = i
     by false i = cc
 
-ready_leads : (at : Sets) (course : Course) (es : List (ℕ × Command)) (place : Place) → IsLed at course place.0 → AreNext at es place → LeadsBy at course place (executed_ready es place).0
+pub ready_leads : (at : Sets) (course : Course) (es : List (ℕ × Command)) (place : Place) → IsLed at course place.0 → AreNext at es place → LeadsBy at course place (executed_ready es place).0
 unfolding executed_ready
 ready_leads at course [] place led are = none_leads at course place led
 ready_leads at course (e ∷ es) place led are = by (next_ready place.0) refl are (λ q l a. ready_leads at course es q l a)

@@ -110,7 +110,7 @@ idle-keeps at now after node taken sent marks marks_after row i was =
 -- ---- a row in which a node takes a mail of the group
 
 -- what a node sends for a mail is a vote or a promise
-counts_of : (node : ℕ) (promise : Ballot) (mark : Mark) (who : ℕ) → Each IsCount (answered node promise mark who)
+pub counts_of : (node : ℕ) (promise : Ballot) (mark : Mark) (who : ℕ) → Each IsCount (answered node promise mark who)
 counts_of node promise (Asks ballot slot) who = cond_both (eqb who ballot.node) (Votes node ballot slot ∷ []) [] (Each IsCount) (λ _. (tt, tt)) (λ _. tt)
 counts_of node promise (Prepares ballot) who = cond_both (eqb who ballot.node && below promise ballot) (Promises node ballot ∷ []) [] (Each IsCount) (λ _. (tt, tt)) (λ _. tt)
 counts_of node promise (Votes other ballot slot) who = tt

@@ -15,7 +15,7 @@ use Rattle.sc_paxos_words.specs.Votes.{kept_voters}
 use Rattle.sc_paxos_words.proofs.ListLemmas.{Each-among, Each-weaker, find_found}
 use Rattle.sc_node_table.specs.Replica.{ReplicaState, Place, listed, name_of, next, members, either, taken_at, flying}
 use Rattle.sc_node_table.specs.Slots.{at_slot}
-use Rattle.sc_following_law.specs.Following.{Mark, Asks, Promises, Course, Progress, Sets, IsInFlight}
+use Rattle.sc_following_law.specs.Following.{Mark, Asks, Promises, Course, Progress, Sets, IsInFlight, members_at}
 use Rattle.sc_following_law.specs.Counted.{IsLed}
 use Rattle.sc_following_law.specs.Executed.{IsStill, IsStopped, LeadsBy}
 use Rattle.sc_following_law.specs.Leading.{voters_of, IsPolled, IsLeadOf, progress_by, LeadsInto, StopsAlone}
@@ -117,6 +117,7 @@ pub record Counts (at : Sets) (now : Progress) (taken : Option Mark) (r after : 
   pub polled : (slot : ℕ) (voters : List ℕ) → voters_of after slot ≡ Some voters → IsPolled (at slot) voters
   pub counted : (who : ℕ) → is_member r.leader.promisers who ≡ true → is_member after.leader.promisers who ≡ true
   pub counts : (who : ℕ) → taken ≡ Some (Promises who now.course.ballot) → is_member after.leader.promisers who ≡ true
+  pub takes_new : (who : ℕ) → is_member after.leader.promisers who ≡ true → (is_member r.leader.promisers who ≡ true) ⊎ (taken ≡ Some (Promises who now.course.ballot))
 
 -- ---- what follows from it
 
@@ -269,7 +270,9 @@ module _ (at : Sets) (now : Progress) (taken : Option Mark) (r mid : ReplicaStat
     me = same_me;
     named = b.named ∙ c.same_name;
     bound = b.bound;
+    stayed = λ slot least most. ap (is_member (members_at at (slot + 1))) (sym c.same_me) ∙ b.stayed slot (let same = c.same_next in omega (arith, least, same)) most;
     leads = leads_then;
+    promisers = λ on who m. c.takes_new who (ap (λ l. is_member l who) (sym (still_of on).promisers) ∙ m);
     goes_on = λ on. record {
       led = led_then (still_of on).led;
       newest = refl;

@@ -85,7 +85,7 @@ unfolding left
 left_same r mails off = ap (λ b. cond {A = Place} b (left_gone r.group.core.gone (r, mails)) (r, mails)) off
 
 -- one that does not elect itself takes some node for the leader
-looked_same : (P : Place → Type 0) (r : ReplicaState) (mails : List Mail) → r.running ≡ false → Stays r → ((hint : Option ℕ) → P (record r { hint = hint }, mails)) → P (looked (r, mails))
+pub looked_same : (P : Place → Type 0) (r : ReplicaState) (mails : List Mail) → r.running ≡ false → Stays r → ((hint : Option ℕ) → P (record r { hint = hint }, mails)) → P (looked (r, mails))
 unfolding looked
 looked_same P r mails off stays p = subst (λ b. P (cond {A = Place} b (r, mails) (looked_for r.group.core.gone (r, mails)))) (sym off) (by_gone r.group.core.gone refl)
   where

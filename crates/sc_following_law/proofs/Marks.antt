@@ -310,7 +310,7 @@ module _ (at : Sets) (course : Course) (who : ℕ) where
 
   module _ (apart : who ≡ course.ballot.node → ⊥) where
     -- a member is told, one that comes is welcomed, and others are sent nothing
-    told-cases : (P : List Mark → Type 0) (slot : ℕ) → (is_member (members_at at slot) who ≡ true → P (Tells slot ∷ []))
+    pub told-cases : (P : List Mark → Type 0) (slot : ℕ) → (is_member (members_at at slot) who ≡ true → P (Tells slot ∷ []))
         → (is_member (members_at at slot) who ≡ false → is_member (members_at at (slot + 1)) who ≡ true → P (welcome course slot))
         → (is_member (members_at at slot) who ≡ false → is_member (members_at at (slot + 1)) who ≡ false → P []) → P (told_of at course slot who)
     told-cases P slot one two three =

@@ -71,7 +71,7 @@ and_false false = refl
 -- ---- one that hears of a ballot and does not stop
 
 -- what holds whichever ballot is the greatest that it saw
-saw_either : (P : Place → Type 0) (ballot : Ballot) (r : ReplicaState) (mails : List Mail) → GoesOn ballot r → P (record r { top = ballot }, mails) → P (r, mails) → P (saw ballot (r, mails))
+pub saw_either : (P : Place → Type 0) (ballot : Ballot) (r : ReplicaState) (mails : List Mail) → GoesOn ballot r → P (record r { top = ballot }, mails) → P (r, mails) → P (saw ballot (r, mails))
 unfolding saw
 saw_either P ballot r mails goes p q = by (below r.top ballot)
   where
@@ -173,7 +173,7 @@ unfolding jumped forgotten
 next_jumped slot base sets r = (let low = floor_low slot in cut_next (floor_of slot) (installed slot) (omega (arith, low)) ∙ omega arith)
 
 -- what a state that is taken over leaves
-jumped_keeps : (slot : ℕ) (base : Base) (sets : List (List ℕ)) (r : ReplicaState)
+pub jumped_keeps : (slot : ℕ) (base : Base) (sets : List (List ℕ)) (r : ReplicaState)
     → ((jumped slot base sets r).acceptor.promised ≡ r.acceptor.promised) × ((jumped slot base sets r).running ≡ r.running) × (members (jumped slot base sets r) ≡ base.core.members)
 unfolding jumped forgotten
 jumped_keeps slot base sets r = (refl, refl, refl)
@@ -217,7 +217,7 @@ next_installed : (me slot : ℕ) (base : Base) (sets : List (List ℕ)) → next
 unfolding forgotten
 next_installed me slot base sets = (let low = floor_low slot in cut_next (floor_of slot) (installed slot) (omega (arith, low)) ∙ omega arith)
 
-made_is : (me from : ℕ) (group : Draw) (slot : ℕ) (base : Base) (sets : List (List ℕ)) → is_member base.core.members from ≡ true
+pub made_is : (me from : ℕ) (group : Draw) (slot : ℕ) (base : Base) (sets : List (List ℕ)) → is_member base.core.members from ≡ true
     → made_by me from group slot base sets ≡ (record (installed_replica me slot (named group base) sets) { hint = Some from }, [])
 unfolding made_by looked_up forgotten
 made_is me from group slot base sets mine =

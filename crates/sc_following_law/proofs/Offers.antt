@@ -230,7 +230,7 @@ module _ (at : Sets) (course : Course) (set : List ℕ) (command : Command) (r :
 
 -- ---- the pump
 
-offered_is : (number : ℕ) (set : List ℕ) (command : Command) (r : ReplicaState) (mails : List Mail)
+pub offered_is : (number : ℕ) (set : List ℕ) (command : Command) (r : ReplicaState) (mails : List Mail)
     → offered number set command (r, mails) ≡ (record r { leader = record r.leader { flights = r.leader.flights ++ (record { slot = number; value = command; voters = None }) ∷ [] } }, sent_all r.me set (Accept (name_of r) r.leader.ballot number command) mails)
 unfolding offered
 offered_is number set command r mails = refl

@@ -1,5 +1,5 @@
 -- What a leader says of an entry to clients, the desk and other groups is nothing to its own group.
-use Rattle.std.proofs.Common.{◌≡◌, ℕ, Bool, true, false, cond, List, [], ◌∷◌, Option, Some, None, refl, ◌∙◌}
+use Rattle.std.proofs.Common.{◌≡◌, ℕ, Bool, true, false, cond, List, [], ◌∷◌, ◌++◌, Option, Some, None, refl, ◌∙◌}
 use Rattle.sc_base.specs.declared.names.Draw.{Draw}
 use Rattle.sc_base.specs.Limits.{client_actor}
 use Rattle.sc_cmd.specs.declared.bodies.Body.{Body}
@@ -21,26 +21,195 @@ use Rattle.sc_cmd.specs.declared.votes.Past.TheVariants as Cast
 use Rattle.sc_cmd.specs.declared.votes.Vote.{Vote}
 use Rattle.sc_cmd.specs.declared.votes.Vote.TheVariants as Says
 use Rattle.sc_cmd.specs.Effects.{decided_in, cast_in, is_changed}
+use Rattle.sc_cmd.specs.declared.orders.ToldResult.{ToldResult}
 use Rattle.sc_mail.specs.declared.bodies.AnswerBody.{AnswerBody}
 use Rattle.sc_mail.specs.declared.bodies.Mail.{Mail}
 use Rattle.sc_mail.specs.declared.bodies.MailBody.{MailBody}
-use Rattle.sc_mail.specs.declared.bodies.MailBody.TheVariants.{Answer, TxPrepare, TxOutcome}
+use Rattle.sc_mail.specs.declared.bodies.MailBody.TheVariants.{Answer, TxPrepare, TxOutcome, Told}
 use Rattle.sc_machine_table.specs.Group.{Group}
 use Rattle.sc_member.specs.Roster.{least_of}
+use Rattle.sc_policy.specs.Wishes.{is_told}
 use Rattle.sc_node_table.specs.declared.Before.{Before}
 use Rattle.sc_node_table.specs.Election.{ended}
 use Rattle.sc_node_table.specs.Execute.{answer_of, order_result, told_call, told_effect, announced}
-use Rattle.sc_node_table.specs.Mails.{sent, sent_all, answered_all, dismissed, dismissed_all, order_number}
+use Rattle.sc_node_table.specs.Mails.{sent, sent_all, answered, answered_all, dismissed, dismissed_all, order_number, told_desk, told_order}
 use Rattle.sc_node_table.specs.Questions.{offer_of, question, asked_first}
 use Rattle.sc_node_table.specs.Queues.{put_back}
 use Rattle.sc_node_table.specs.Replica.{ReplicaState, Place, name_of, under_way}
-use Rattle.sc_node_table.specs.Spoken.{asked_on, begun_asks, vote_sent, watch_sent, aborted_to, aborted_watcher, given_up_by, vote_answered, released_to, watch_answered_by, went_on, told_begun, spoken_mails, spoken}
+use Rattle.sc_node_table.specs.Spoken.{asked_on, begun_asks, vote_sent, watch_sent, aborted_to, aborted_watcher, given_up_by, vote_answered, released_to, watch_answered_by, went_on, begun_result, spoken_number, told_result, told_begun, spoken_mails, spoken}
 use Rattle.sc_node_table.specs.Transactions.{told_outcome}
 use Rattle.sc_following_law.specs.Following.{mark_of}
 use Rattle.sc_following_law.specs.Tables.{marks_for}
-use Rattle.sc_following_law.proofs.Learn.{desk_marks, begun_marks}
 use Rattle.sc_following_law.proofs.Nodes.{marks-push}
-use Rattle.sc_following_law.proofs.Offers.{turned_marks}
+
+-- what a coordinator asks is no part of an agreement
+pub question_none : (name : Draw) (me : ℕ) (core : Core) (tx : Draw) (body : Body) (heard : Option Heard) → mark_of name me (question me core tx body heard) ≡ None
+question_none name me core tx At.Merge None = refl
+question_none name me core tx At.Merge (Some heard) = refl
+question_none name me core tx (At.Repart at) None = refl
+question_none name me core tx (At.Repart at) (Some heard) = refl
+question_none name me core tx (At.Migrate node) None = refl
+question_none name me core tx (At.Migrate node) (Some heard) = refl
+question_none name me core tx (At.Split at child) heard = refl
+
+-- what is kept where a mail of no mark of a group is put behind others
+module _ (name : Draw) (R : List Mail → List Mail → Type 0) (same : (mails : List Mail) → R mails mails) (then_ : (a b c : List Mail) → R a b → R b c → R a c)
+    (push : (mails : List Mail) (mail : Mail) → mark_of name mail.from mail.body ≡ None → R mails (mails ++ mail ∷ [])) where
+  one_kept : (me to : ℕ) (body : MailBody) (mails : List Mail) → mark_of name me body ≡ None → R mails (sent me to body mails)
+  one_kept me to body mails e = push mails (record { from = me; to = to; body = body }) e
+
+  all_kept : (me : ℕ) (nodes : List ℕ) (body : MailBody) (mails : List Mail) → mark_of name me body ≡ None → R mails (sent_all me nodes body mails)
+  unfolding sent_all
+  all_kept me [] body mails e = same mails
+  all_kept me (node ∷ nodes) body mails e = then_ _ _ _ (one_kept me node body mails e) (all_kept me nodes body (sent me node body mails) e)
+
+  desk_kept : (me number : ℕ) (result : ToldResult) (mails : List Mail) → R mails (told_order me number result mails)
+  unfolding told_order
+  desk_kept me number result mails = by (is_told number)
+    where
+      by : (b : Bool) → R mails (cond b (told_desk me number result mails) mails)
+      by true = one_kept me 0 (Told number result) mails refl
+      by false = same mails
+
+  begun_kept : (me : ℕ) (before : Before) (effect : Effect) (command : Command) (mails : List Mail) → R mails (told_begun me before effect command mails)
+  unfolding told_begun
+  begun_kept me before effect command mails = by (begun_result before.alone effect command)
+    where
+      by : (o : Option ToldResult) → R mails (told_result me o (spoken_number before.order command) mails)
+      by None = same mails
+      by (Some result) = desk_kept me (spoken_number before.order command) result mails
+
+  pub turned_kept : (me : ℕ) (group : Draw) (command : Command) (answer : AnswerBody) (mails : List Mail) → R mails (answered me group answer command mails)
+  unfolding answered
+  turned_kept me group (Call client seq op) answer mails = one_kept me (client_actor client) (Answer group seq answer) mails refl
+  turned_kept me group _ answer mails = same mails
+
+  -- ---- transactions
+
+  asked_kept : (lock : Lock) (me : ℕ) (core : Core) (mails : List Mail) → R mails (asked_first lock me core mails)
+  asked_kept Free me core mails = same mails
+  asked_kept (Coordinating tx body order heard) me core mails = one_kept me _ (question me core tx body heard) mails (question_none name me core tx body heard)
+  asked_kept (Promised tx offer) me core mails = same mails
+  asked_kept (Watching tx watch) me core mails = same mails
+
+  on_kept : (effect : Effect) (me : ℕ) (core : Core) (mails : List Mail) → R mails (asked_on effect me core mails)
+  on_kept effect me core mails = by (is_changed effect)
+    where
+      by : (b : Bool) → R mails (cond b (asked_first core.lock me core mails) mails)
+      by true = asked_kept core.lock me core mails
+      by false = same mails
+
+  first_kept : (effect : Effect) (me : ℕ) (core : Core) (tx : Draw) (body : Body) (mails : List Mail) → R mails (begun_asks effect me core tx body mails)
+  first_kept effect me core tx body mails = by (is_changed effect)
+    where
+      by : (b : Bool) → R mails (cond b (sent me (least_of core.succ.members) (TxPrepare tx (offer_of me core body)) mails) mails)
+      by true = one_kept me (least_of core.succ.members) (TxPrepare tx (offer_of me core body)) mails refl
+      by false = same mails
+
+  vote_kept : (o : Option Past) (me : ℕ) (group : Group) (tx : Draw) (offer : Offer) (mails : List Mail) → R mails (vote_sent o me group tx offer mails)
+  vote_kept None me group tx offer mails = same mails
+  vote_kept (Some Cast.Yes) me group tx offer mails = one_kept me offer.by _ mails refl
+  vote_kept (Some (Cast.No why)) me group tx offer mails = one_kept me offer.by _ mails refl
+  vote_kept (Some Cast.Ended) me group tx offer mails = same mails
+
+  watch_kept : (o : Option Past) (me : ℕ) (tx : Draw) (watch : Watch) (mails : List Mail) → R mails (watch_sent o me tx watch mails)
+  watch_kept None me tx watch mails = same mails
+  watch_kept (Some Cast.Yes) me tx watch mails = one_kept me watch.by _ mails refl
+  watch_kept (Some (Cast.No why)) me tx watch mails = one_kept me watch.by _ mails refl
+  watch_kept (Some Cast.Ended) me tx watch mails = same mails
+
+  aborted_kept : (me : ℕ) (tx : Draw) (link : Link) (mails : List Mail) → R mails (aborted_to me tx link mails)
+  aborted_kept me tx link mails = all_kept me link.members (TxOutcome tx link.group Is.Abort) mails refl
+
+  watcher_kept : (me : ℕ) (tx : Draw) (o : Option (ℕ × Link)) (mails : List Mail) → R mails (aborted_watcher me tx o mails)
+  watcher_kept me tx None mails = same mails
+  watcher_kept me tx (Some heard) mails = aborted_kept me tx heard.1 mails
+
+  given_kept : (o : Option Outcome) (me : ℕ) (before : Before) (tx : Draw) (mails : List Mail) → R mails (given_up_by o me before tx mails)
+  given_kept None me before tx mails = same mails
+  given_kept (Some outcome) me before tx mails = then_ _ _ _ (aborted_kept me tx before.succ mails) (watcher_kept me tx before.heard (aborted_to me tx before.succ mails))
+
+  decided_kept : (o : Option Outcome) (vote : Vote) (me : ℕ) (before : Before) (tx : Draw) (by : ℕ) (mails : List Mail) → R mails (vote_answered o vote me before tx by mails)
+  decided_kept None vote me before tx by mails = same mails
+  decided_kept (Some outcome) (Says.Yes frozen) me before tx by mails = one_kept me by (TxOutcome tx before.succ.group outcome) mails refl
+  decided_kept (Some outcome) (Says.No why) me before tx by mails = same mails
+
+  released_kept : (o : Option (ℕ × Link)) (me : ℕ) (succ : Link) (tx : Draw) (by : ℕ) (outcome : Outcome) (mails : List Mail) → R mails (released_to o me succ tx by outcome mails)
+  released_kept None me succ tx by outcome mails = one_kept me by (TxOutcome tx succ.group outcome) mails refl
+  released_kept (Some heard) me succ tx by outcome mails =
+      then_ _ _ _ (one_kept me heard.0 (TxOutcome tx succ.group outcome) mails refl) (one_kept me by (TxOutcome tx heard.1.group outcome) (told_outcome me heard.0 tx succ.group outcome mails) refl)
+
+  watched_kept : (o : Option Outcome) (vote : Past) (me : ℕ) (before : Before) (tx : Draw) (by : ℕ) (mails : List Mail) → R mails (watch_answered_by o vote me before tx by mails)
+  watched_kept None vote me before tx by mails = same mails
+  watched_kept (Some outcome) Cast.Yes me before tx by mails = released_kept before.heard me before.succ tx by outcome mails
+  watched_kept (Some outcome) (Cast.No why) me before tx by mails = if_merges before.merges
+    where
+      if_merges : (b : Bool) → R mails (cond b (aborted_to me tx before.succ mails) mails)
+      if_merges true = aborted_kept me tx before.succ mails
+      if_merges false = same mails
+  watched_kept (Some outcome) Cast.Ended me before tx by mails = same mails
+
+  went_kept : (me : ℕ) (group : Group) (before : Before) (effect : Effect) (command : Command) (mails : List Mail) → R mails (went_on me group before effect command mails)
+  unfolding went_on
+  went_kept me group before effect (Split at child order) mails = on_kept effect me group.core mails
+  went_kept me group before effect (Begin tx body order) mails = first_kept effect me group.core tx body mails
+  went_kept me group before effect (Prepared tx offer) mails = vote_kept (cast_in effect) me group tx offer mails
+  went_kept me group before effect (RecordVote tx vote by) mails = then_ _ _ _ (on_kept effect me group.core mails) (decided_kept (decided_in effect) vote me before tx by (asked_on effect me group.core mails))
+  went_kept me group before effect (GiveUp tx) mails = given_kept (decided_in effect) me before tx mails
+  went_kept me group before effect (Watched tx watch) mails = watch_kept (cast_in effect) me tx watch mails
+  went_kept me group before effect (RecordWatch tx vote by) mails = watched_kept (decided_in effect) vote me before tx by mails
+  went_kept me group before effect (Finish tx outcome) mails = same mails
+  went_kept me group before effect Noop mails = same mails
+  went_kept me group before effect (Call client seq op) mails = same mails
+  went_kept me group before effect (Join node order) mails = same mails
+  went_kept me group before effect (Leave node order) mails = same mails
+
+  pub spoken_kept : (before : Before) (effect : Effect) (command : Command) (r : ReplicaState) (mails : List Mail) → ((spoken true before effect command (r, mails)).0 ≡ r) × R mails (spoken true before effect command (r, mails)).1
+  unfolding spoken spoken_mails
+  spoken_kept before effect command r mails = (refl, then_ _ _ _ (begun_kept r.me before effect command mails) (went_kept r.me r.group before effect command (told_begun r.me before effect command mails)))
+
+  -- ---- one that runs no longer
+
+  answered_kept : (me : ℕ) (group : Draw) (answer : AnswerBody) (commands : List Command) (mails : List Mail) → R mails (answered_all me group answer commands mails)
+  unfolding answered_all
+  answered_kept me group answer [] mails = same mails
+  answered_kept me group answer (command ∷ commands) mails = then_ _ _ _ (turned_kept me group command answer mails) (answered_kept me group answer commands (answered me group answer command mails))
+
+  one_dismissed : (me : ℕ) (group : Draw) (hint : Option ℕ) (answer : AnswerBody) (command : Command) (mails : List Mail) → R mails (dismissed me group hint answer command mails)
+  unfolding dismissed
+  one_dismissed me group hint answer (Call client seq op) mails = one_kept me (client_actor client) (Answer group seq answer) mails refl
+  one_dismissed me group hint answer _ mails = desk_kept me _ _ mails
+
+  dismissed_kept : (me : ℕ) (group : Draw) (hint : Option ℕ) (answer : AnswerBody) (commands : List Command) (mails : List Mail) → R mails (dismissed_all me group hint answer commands mails)
+  unfolding dismissed_all
+  dismissed_kept me group hint answer [] mails = same mails
+  dismissed_kept me group hint answer (command ∷ commands) mails = then_ _ _ _ (one_dismissed me group hint answer command mails) (dismissed_kept me group hint answer commands (dismissed me group hint answer command mails))
+
+  pub ended_kept : (hint : Option ℕ) (answer : AnswerBody) (r : ReplicaState) (mails : List Mail) → R mails (ended hint answer (r, mails)).1
+  unfolding ended
+  ended_kept hint answer r mails =
+      then_ _ _ _ (answered_kept r.me (name_of r) answer (under_way r) mails) (dismissed_kept r.me (name_of r) hint answer r.calls (answered_all r.me (name_of r) answer (under_way r) mails))
+
+  -- ---- what clients and the desk are told, but for queues
+
+  module _ (P : Place → Type 0) (r : ReplicaState) (mails : List Mail) (p : (acts calls : List Command) (more : List Mail) → R mails more → P (record r { acts = acts; calls = calls }, more)) where
+    call_kept : (o : Option AnswerBody) (command : Command) → P (told_call o command (r, mails))
+    unfolding told_call put_back
+    call_kept (Some answer) (Call client seq op) = p r.acts r.calls _ (one_kept r.me (client_actor client) (Answer (name_of r) seq answer) mails refl)
+    call_kept None (Call client seq op) = p r.acts _ mails (same mails)
+    call_kept None _ = p r.acts r.calls mails (same mails)
+    call_kept (Some answer) _ = p r.acts r.calls mails (same mails)
+
+  pub announced_kept : (P : Place → Type 0) (r : ReplicaState) (mails : List Mail) → ((acts calls : List Command) (more : List Mail) → R mails more → P (record r { acts = acts; calls = calls }, more)) → (effect : Effect) (command : Command) → P (announced true effect command (r, mails))
+  unfolding announced told_effect
+  announced_kept P r mails p effect command =
+      call_kept (λ place. P (told_effect (order_result command effect) command place)) r mails (λ acts calls more kept. effect_kept (order_result command effect) acts calls more kept) (answer_of effect) command
+    where
+      effect_kept : (o : Option ToldResult) (acts calls : List Command) (more : List Mail) → R mails more → P (told_effect o command (record r { acts = acts; calls = calls }, more))
+      effect_kept None acts calls more kept = p acts calls more kept
+      effect_kept (Some result) acts calls more kept = p acts calls _ (then_ _ _ _ kept (desk_kept r.me (order_number command) result more))
+
+-- ---- so marks stay as they are
 
 module _ (name : Draw) (who : ℕ) where
   -- mails that leave the marks as they are
@@ -50,142 +219,14 @@ module _ (name : Draw) (who : ℕ) where
   pub one_same : (me to : ℕ) (body : MailBody) (mails : List Mail) → mark_of name me body ≡ None → Same mails (sent me to body mails)
   one_same me to body mails e = marks-push name who mails (record { from = me; to = to; body = body }) e
 
-  all_same : (me : ℕ) (nodes : List ℕ) (body : MailBody) (mails : List Mail) → mark_of name me body ≡ None → Same mails (sent_all me nodes body mails)
-  unfolding sent_all
-  all_same me [] body mails e = refl
-  all_same me (node ∷ nodes) body mails e = all_same me nodes body (sent me node body mails) e ∙ one_same me node body mails e
-
-  -- ---- transactions
-
-  pub question_none : (me : ℕ) (core : Core) (tx : Draw) (body : Body) (heard : Option Heard) → mark_of name me (question me core tx body heard) ≡ None
-  question_none me core tx At.Merge None = refl
-  question_none me core tx At.Merge (Some heard) = refl
-  question_none me core tx (At.Repart at) None = refl
-  question_none me core tx (At.Repart at) (Some heard) = refl
-  question_none me core tx (At.Migrate node) None = refl
-  question_none me core tx (At.Migrate node) (Some heard) = refl
-  question_none me core tx (At.Split at child) heard = refl
-
-  asked_same : (lock : Lock) (me : ℕ) (core : Core) (mails : List Mail) → Same mails (asked_first lock me core mails)
-  asked_same Free me core mails = refl
-  asked_same (Coordinating tx body order heard) me core mails = one_same me _ (question me core tx body heard) mails (question_none me core tx body heard)
-  asked_same (Promised tx offer) me core mails = refl
-  asked_same (Watching tx watch) me core mails = refl
-
-  on_same : (effect : Effect) (me : ℕ) (core : Core) (mails : List Mail) → Same mails (asked_on effect me core mails)
-  on_same effect me core mails = by (is_changed effect)
-    where
-      by : (b : Bool) → Same mails (cond b (asked_first core.lock me core mails) mails)
-      by true = asked_same core.lock me core mails
-      by false = refl
-
-  begun_same : (effect : Effect) (me : ℕ) (core : Core) (tx : Draw) (body : Body) (mails : List Mail) → Same mails (begun_asks effect me core tx body mails)
-  begun_same effect me core tx body mails = by (is_changed effect)
-    where
-      by : (b : Bool) → Same mails (cond b (sent me (least_of core.succ.members) (TxPrepare tx (offer_of me core body)) mails) mails)
-      by true = one_same me (least_of core.succ.members) (TxPrepare tx (offer_of me core body)) mails refl
-      by false = refl
-
-  vote_same : (o : Option Past) (me : ℕ) (group : Group) (tx : Draw) (offer : Offer) (mails : List Mail) → Same mails (vote_sent o me group tx offer mails)
-  vote_same None me group tx offer mails = refl
-  vote_same (Some Cast.Yes) me group tx offer mails = one_same me offer.by _ mails refl
-  vote_same (Some (Cast.No why)) me group tx offer mails = one_same me offer.by _ mails refl
-  vote_same (Some Cast.Ended) me group tx offer mails = refl
-
-  watch_same : (o : Option Past) (me : ℕ) (tx : Draw) (watch : Watch) (mails : List Mail) → Same mails (watch_sent o me tx watch mails)
-  watch_same None me tx watch mails = refl
-  watch_same (Some Cast.Yes) me tx watch mails = one_same me watch.by _ mails refl
-  watch_same (Some (Cast.No why)) me tx watch mails = one_same me watch.by _ mails refl
-  watch_same (Some Cast.Ended) me tx watch mails = refl
-
-  aborted_same : (me : ℕ) (tx : Draw) (link : Link) (mails : List Mail) → Same mails (aborted_to me tx link mails)
-  aborted_same me tx link mails = all_same me link.members (TxOutcome tx link.group Is.Abort) mails refl
-
-  watcher_same : (me : ℕ) (tx : Draw) (o : Option (ℕ × Link)) (mails : List Mail) → Same mails (aborted_watcher me tx o mails)
-  watcher_same me tx None mails = refl
-  watcher_same me tx (Some heard) mails = aborted_same me tx heard.1 mails
-
-  given_same : (o : Option Outcome) (me : ℕ) (before : Before) (tx : Draw) (mails : List Mail) → Same mails (given_up_by o me before tx mails)
-  given_same None me before tx mails = refl
-  given_same (Some outcome) me before tx mails = watcher_same me tx before.heard (aborted_to me tx before.succ mails) ∙ aborted_same me tx before.succ mails
-
-  decided_same : (o : Option Outcome) (vote : Vote) (me : ℕ) (before : Before) (tx : Draw) (by : ℕ) (mails : List Mail) → Same mails (vote_answered o vote me before tx by mails)
-  decided_same None vote me before tx by mails = refl
-  decided_same (Some outcome) (Says.Yes frozen) me before tx by mails = one_same me by (TxOutcome tx before.succ.group outcome) mails refl
-  decided_same (Some outcome) (Says.No why) me before tx by mails = refl
-
-  released_same : (o : Option (ℕ × Link)) (me : ℕ) (succ : Link) (tx : Draw) (by : ℕ) (outcome : Outcome) (mails : List Mail) → Same mails (released_to o me succ tx by outcome mails)
-  released_same None me succ tx by outcome mails = one_same me by (TxOutcome tx succ.group outcome) mails refl
-  released_same (Some heard) me succ tx by outcome mails =
-      one_same me by (TxOutcome tx heard.1.group outcome) (told_outcome me heard.0 tx succ.group outcome mails) refl ∙ one_same me heard.0 (TxOutcome tx succ.group outcome) mails refl
-
-  watched_same : (o : Option Outcome) (vote : Past) (me : ℕ) (before : Before) (tx : Draw) (by : ℕ) (mails : List Mail) → Same mails (watch_answered_by o vote me before tx by mails)
-  watched_same None vote me before tx by mails = refl
-  watched_same (Some outcome) Cast.Yes me before tx by mails = released_same before.heard me before.succ tx by outcome mails
-  watched_same (Some outcome) (Cast.No why) me before tx by mails = if_merges before.merges
-    where
-      if_merges : (b : Bool) → Same mails (cond b (aborted_to me tx before.succ mails) mails)
-      if_merges true = aborted_same me tx before.succ mails
-      if_merges false = refl
-  watched_same (Some outcome) Cast.Ended me before tx by mails = refl
-
-  went_same : (me : ℕ) (group : Group) (before : Before) (effect : Effect) (command : Command) (mails : List Mail) → Same mails (went_on me group before effect command mails)
-  unfolding went_on
-  went_same me group before effect (Split at child order) mails = on_same effect me group.core mails
-  went_same me group before effect (Begin tx body order) mails = begun_same effect me group.core tx body mails
-  went_same me group before effect (Prepared tx offer) mails = vote_same (cast_in effect) me group tx offer mails
-  went_same me group before effect (RecordVote tx vote by) mails = decided_same (decided_in effect) vote me before tx by (asked_on effect me group.core mails) ∙ on_same effect me group.core mails
-  went_same me group before effect (GiveUp tx) mails = given_same (decided_in effect) me before tx mails
-  went_same me group before effect (Watched tx watch) mails = watch_same (cast_in effect) me tx watch mails
-  went_same me group before effect (RecordWatch tx vote by) mails = watched_same (decided_in effect) vote me before tx by mails
-  went_same me group before effect (Finish tx outcome) mails = refl
-  went_same me group before effect Noop mails = refl
-  went_same me group before effect (Call client seq op) mails = refl
-  went_same me group before effect (Join node order) mails = refl
-  went_same me group before effect (Leave node order) mails = refl
-
   pub spoken_same : (before : Before) (effect : Effect) (command : Command) (r : ReplicaState) (mails : List Mail) → ((spoken true before effect command (r, mails)).0 ≡ r) × Same mails (spoken true before effect command (r, mails)).1
-  unfolding spoken spoken_mails
-  spoken_same before effect command r mails = (refl, went_same r.me r.group before effect command (told_begun r.me before effect command mails) ∙ begun_marks name who r.me before effect command mails)
-
-  -- ---- one that runs no longer
-
-  answered_same : (me : ℕ) (group : Draw) (answer : AnswerBody) (commands : List Command) (mails : List Mail) → Same mails (answered_all me group answer commands mails)
-  unfolding answered_all
-  answered_same me group answer [] mails = refl
-  answered_same me group answer (command ∷ commands) mails = answered_same me group answer commands _ ∙ turned_marks name who me group command answer mails
-
-  one_dismissed : (me : ℕ) (group : Draw) (hint : Option ℕ) (answer : AnswerBody) (command : Command) (mails : List Mail) → Same mails (dismissed me group hint answer command mails)
-  unfolding dismissed
-  one_dismissed me group hint answer (Call client seq op) mails = one_same me (client_actor client) (Answer group seq answer) mails refl
-  one_dismissed me group hint answer _ mails = desk_marks name who me _ _ mails
-
-  dismissed_same : (me : ℕ) (group : Draw) (hint : Option ℕ) (answer : AnswerBody) (commands : List Command) (mails : List Mail) → Same mails (dismissed_all me group hint answer commands mails)
-  unfolding dismissed_all
-  dismissed_same me group hint answer [] mails = refl
-  dismissed_same me group hint answer (command ∷ commands) mails = dismissed_same me group hint answer commands _ ∙ one_dismissed me group hint answer command mails
+  spoken_same before effect command r mails = spoken_kept name Same (λ mails. refl) (λ a b c one other. other ∙ one) (λ mails mail e. marks-push name who mails mail e) before effect command r mails
 
   pub ended_same : (hint : Option ℕ) (answer : AnswerBody) (r : ReplicaState) (mails : List Mail) → Same mails (ended hint answer (r, mails)).1
-  unfolding ended
-  ended_same hint answer r mails = dismissed_same r.me (name_of r) hint answer r.calls _ ∙ answered_same r.me (name_of r) answer (under_way r) mails
+  ended_same hint answer r mails = ended_kept name Same (λ mails. refl) (λ a b c one other. other ∙ one) (λ mails mail e. marks-push name who mails mail e) hint answer r mails
 
--- ---- what clients and the desk are told, but for queues
-
-module _ (P : Place → Type 0) (r : ReplicaState) (mails : List Mail) (p : (acts calls : List Command) (more : List Mail) → ((name : Draw) (who : ℕ) → marks_for name who more ≡ marks_for name who mails) → P (record r { acts = acts; calls = calls }, more)) where
-  call_keeps : (o : Option AnswerBody) (command : Command) → P (told_call o command (r, mails))
-  unfolding told_call put_back
-  call_keeps (Some answer) (Call client seq op) = p r.acts r.calls _ (λ name who. one_same name who r.me (client_actor client) (Answer (name_of r) seq answer) mails refl)
-  call_keeps None (Call client seq op) = p r.acts _ mails (λ name who. refl)
-  call_keeps None _ = p r.acts r.calls mails (λ name who. refl)
-  call_keeps (Some answer) _ = p r.acts r.calls mails (λ name who. refl)
-
-module _ (P : Place → Type 0) (r : ReplicaState) (mails : List Mail) (p : (acts calls : List Command) (more : List Mail) → ((name : Draw) (who : ℕ) → marks_for name who more ≡ marks_for name who mails) → P (record r { acts = acts; calls = calls }, more)) where
+module _ (name : Draw) (P : Place → Type 0) (r : ReplicaState) (mails : List Mail) (p : (acts calls : List Command) (more : List Mail) → ((who : ℕ) → marks_for name who more ≡ marks_for name who mails) → P (record r { acts = acts; calls = calls }, more)) where
   pub announced_keeps : (effect : Effect) (command : Command) → P (announced true effect command (r, mails))
-  unfolding announced told_effect
   announced_keeps effect command =
-      call_keeps (λ place. P (told_effect (order_result command effect) command place)) r mails
-      (λ acts calls more same. effect_keeps (order_result command effect) acts calls more same) (answer_of effect) command
-    where
-      effect_keeps : (o : Option _) (acts calls : List Command) (more : List Mail) → ((name : Draw) (who : ℕ) → marks_for name who more ≡ marks_for name who mails) → P (told_effect o command (record r { acts = acts; calls = calls }, more))
-      effect_keeps None acts calls more same = p acts calls more same
-      effect_keeps (Some result) acts calls more same = p acts calls _ (λ name who. desk_marks name who r.me (order_number command) result more ∙ same name who)
+      announced_kept name (λ mails more. (who : ℕ) → marks_for name who more ≡ marks_for name who mails) (λ mails who. refl) (λ a b c one other who. other who ∙ one who)
+      (λ mails mail e who. marks-push name who mails mail e) P r mails p effect command

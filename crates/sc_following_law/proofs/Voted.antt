@@ -1,5 +1,5 @@
 -- A vote that a leader's table takes is counted, and what it decides is executed, as a leader's row says.
-use Rattle.std.proofs.Common.{◌≡◌, ℕ, zero, suc, ◌+◌, ◌-◌, ◌<◌, ◌≤◌, ◌&&◌, ◌||◌, not, eqb, ltb, Bool, true, false, true≢false, cond, List, [], ◌∷◌, length, Option, Some, None, inl, inr, refl, sym, ◌∙◌, ap, subst, arith}
+use Rattle.std.proofs.Common.{◌≡◌, ℕ, zero, suc, ◌+◌, ◌-◌, ◌<◌, ◌≤◌, ◌&&◌, ◌||◌, not, eqb, ltb, Bool, true, false, true≢false, cond, List, [], ◌∷◌, length, Option, Some, None, ◌⊎◌, inl, inr, refl, sym, ◌∙◌, ap, subst, arith}
 use Rattle.std.specs.Prelude.{is_some, slice_get}
 use Rattle.std.specs.Option.{option_map}
 use Rattle.std.proofs.lemmas.Bool.{and_from, and_parts, cases_eq, cases_lt, cond-true, cond-false, eqb-true, le-ltb, lt-ltb}
@@ -22,19 +22,22 @@ use Rattle.sc_node_table.specs.Slots.{at_slot, with_slot}
 use Rattle.sc_node_table.specs.Voting.{leads, readied, vote_tallied, voted, accepted_row}
 use Rattle.sc_following_law.specs.Following.{Mark, Votes, Promises, Course, Progress, Sets}
 use Rattle.sc_following_law.specs.Counted.{IsLed}
-use Rattle.sc_following_law.specs.Leading.{voters_of, IsPolled, IsLeadOf, LeadsInto, StopsAlone, DecidesNext}
+use Rattle.sc_following_law.specs.Leading.{voters_of, IsPolled, IsLeadOf, LeadsInto, AreEntries, StopsAlone, DecidesNext}
 use Rattle.sc_following_law.specs.Offers.{AreAt, MayOffer}
+use Rattle.sc_following_law.specs.Orderly.{IsOrderly}
 use Rattle.sc_following_law.specs.Rows.{IsCount, IsCounted}
 use Rattle.sc_following_law.proofs.Executed.{none_leads, executions_lead}
 use Rattle.sc_following_law.proofs.InFlight.{flight_out, slot_in, slot_over, polled_here, polled_out}
 use Rattle.sc_following_law.proofs.Leading.{voters_fly, fly_voters, none_taken, Counts, leads_into}
+use Rattle.sc_following_law.proofs.Orderly.{decided_orderly, polled_orderly}
 use Rattle.sc_following_law.proofs.Polled.{HasVoted, vote_kept}
 
 -- ---- nothing changes for what is in flight
 
 module _ (at : Sets) (now : Progress) (taken : Option Mark) (r : ReplicaState) (was : IsLeadOf at now r) (takes : Each IsCount (listed taken))
     (ignored : (slot : ℕ) (voters : List ℕ) → voters_of r slot ≡ Some voters → (node : ℕ) → taken ≡ Some (Votes node now.course.ballot slot) → ⊥) (top : Ballot) (promisers : List ℕ) (reports : List (Report Command)) (acts calls : List Command)
-    (known : (who : ℕ) → is_member r.leader.promisers who ≡ true → is_member promisers who ≡ true) (counts : (who : ℕ) → taken ≡ Some (Promises who now.course.ballot) → is_member promisers who ≡ true) where
+    (known : (who : ℕ) → is_member r.leader.promisers who ≡ true → is_member promisers who ≡ true) (counts : (who : ℕ) → taken ≡ Some (Promises who now.course.ballot) → is_member promisers who ≡ true)
+    (new : (who : ℕ) → is_member promisers who ≡ true → (is_member r.leader.promisers who ≡ true) ⊎ (taken ≡ Some (Promises who now.course.ballot))) where
   -- another greatest ballot, others whose promises are counted, and other queues
   abbrev pub beside : ReplicaState
   beside = record r { top = top; leader = record r.leader { promisers = promisers; reports = reports }; acts = acts; calls = calls }
@@ -62,6 +65,7 @@ module _ (at : Sets) (now : Progress) (taken : Option Mark) (r : ReplicaState) (
     polled = was.polled;
     counted = known;
     counts = counts;
+    takes_new = new;
   }
 
 -- ---- the members of an open slot
@@ -109,21 +113,19 @@ module _ (at : Sets) (course : Course) (r : ReplicaState) (led : IsLed at course
 
 -- ---- the vote
 
-module _ (at : Sets) (now : Progress) (from : ℕ) (ballot : Ballot) (slot : ℕ) (r : ReplicaState) (rosters : (s : ℕ) → IsRoster (at s)) (was : IsLeadOf at now r) (decides : DecidesNext at from ballot slot r) where
+module _ (at : Sets) (now : Progress) (from : ℕ) (ballot : Ballot) (slot : ℕ) (r : ReplicaState) (rosters : (s : ℕ) → IsRoster (at s)) (was : IsLeadOf at now r) (decides : DecidesNext at from ballot slot r)
+    (P : Executed → Type 0) (plain : (mid : ReplicaState) → Counts at now (Some (Votes from ballot slot)) r mid → (IsOrderly r → IsOrderly mid) → P (childless (mid, [])))
+    (executes : (command : Command) (mid : ReplicaState) → Counts at now (Some (Votes from ballot slot)) r mid → at_slot mid.ready (next mid) ≡ Some command → AreEntries at command (mid, [])
+    → ((s : ℕ) (c : Command) → at_slot mid.ready s ≡ Some c → (flying r s ≡ Some c) ⊎ (at_slot r.ready s ≡ Some c)) → (IsOrderly r → IsOrderly mid) → P (executed true command (mid, []))) where
   abbrev vote : Option Mark
   vote = Some (Votes from ballot slot)
-
-  runs_still : {n : ℕ} → r.running ≡ false → next r ≡ n
-  runs_still off = absurd (true≢false (sym was.led.running ∙ off))
 
   no_promise : (who : ℕ) → vote ≡ Some (Promises who now.course.ballot) → is_member r.leader.promisers who ≡ true
   no_promise who e = cc
 
   -- it is none for what is in flight
-  stays : (ballot ≡ now.course.ballot → (voters : List ℕ) → voters_of r slot ≡ Some voters → ⊥) → LeadsInto at now vote r (r, [])
-  stays none =
-      let c = counts_beside at now vote r was (tt, tt) (λ s voters e node t. other s voters e node t) r.top r.leader.promisers r.leader.reports r.acts r.calls (λ who m. m) no_promise in
-      leads_into at now vote r r [] (r, []) was c (λ who. refl) (none_leads at now.course (r, []) c.led) (λ off. runs_still off)
+  stays : (ballot ≡ now.course.ballot → (voters : List ℕ) → voters_of r slot ≡ Some voters → ⊥) → P (childless (r, []))
+  stays none = plain r (counts_beside at now vote r was (tt, tt) (λ s voters e node t. other s voters e node t) r.top r.leader.promisers r.leader.reports r.acts r.calls (λ who m. m) no_promise (λ who m. inl m)) (λ o. o)
     where
       other : (s : ℕ) (voters : List ℕ) → voters_of r s ≡ Some voters → (node : ℕ) → vote ≡ Some (Votes node now.course.ballot s) → ⊥
       other s voters e node t =
@@ -195,6 +197,7 @@ module _ (at : Sets) (now : Progress) (from : ℕ) (ballot : Ballot) (slot : ℕ
       ];
       counted = λ who m. m;
       counts = no_promise;
+      takes_new = λ who m. inl m;
     }
       where
         has_voted : (m : is_member (at slot) from ≡ true) → voters_of r slot ≡ Some (kept_voters flight.voters) → HasVoted (at slot) from flight.voters voters2
@@ -285,60 +288,61 @@ module _ (at : Sets) (now : Progress) (from : ℕ) (ballot : Ballot) (slot : ℕ
       polled = λ s voters e. was.polled s voters (sym (deciding_same s (away s voters e)) ∙ e);
       counted = λ who m. m;
       counts = no_promise;
+      takes_new = λ who m. inl m;
     }
 
     -- ---- either
 
-    abbrev Lead : Executed → Type 0
-    Lead e = StopsAlone now.course e.0.0 → LeadsInto at now vote r e.0
+    -- what is ready then was in flight or ready
+    ready_before : (s : ℕ) (c : Command) → at_slot deciding.ready s ≡ Some c → (flying r s ≡ Some c) ⊎ (at_slot r.ready s ≡ Some c)
+    ready_before s c e = elim (cases_eq s slot) [
+      | inl is ↦ (let there : Some flight.value ≡ Some c = sym (slot_in slot flight.value r.ready) ∙ subst (λ n. at_slot (with_slot r.ready slot flight.value) n ≡ Some c) is e in
+          inl (ap (flying r) is ∙ (ap (λ o. option_map (λ (f : Flight Command). f.value) o) found ∙ there)))
+      | inr ne ↦ inr (sym (slot_over slot s flight.value r.ready ne) ∙ e)
+    ]
 
     ready_next : slot ≡ next r → at_slot deciding.ready (next deciding) ≡ Some flight.value
     ready_next is = subst (λ n. at_slot (with_slot r.ready slot flight.value) n ≡ Some flight.value) is (slot_in slot flight.value r.ready)
 
-    decided : counted from ballot slot (at slot) r.leader ≡ (Chosen flight.value, without_flight_at slot r.leader) → Lead (readied slot flight.value (record r { leader = without_flight_at slot r.leader }, []))
+    decided : counted from ballot slot (at slot) r.leader ≡ (Chosen flight.value, without_flight_at slot r.leader) → P (readied slot flight.value (record r { leader = without_flight_at slot r.leader }, []))
     unfolding readied
     decided chosen = by (eqb slot (next r) && has_room r) refl
       where
-        by : (b : Bool) → (eqb slot (next r) && has_room r) ≡ b → Lead (cond b (executed true flight.value (deciding, [])) (childless (deciding, [])))
-        by true t alone =
+        by : (b : Bool) → (eqb slot (next r) && has_room r) ≡ b → P (cond b (executed true flight.value (deciding, [])) (childless (deciding, [])))
+        by true t =
             let is : slot ≡ next r = eqb-true slot (next r) (and_parts (eqb slot (next r)) (has_room r) t).0 in
-            let entries = decides flight.value (without_flight_at slot r.leader) is chosen in
-            leads_into at now vote r deciding [] (executed true flight.value (deciding, [])).0 was counts_deciding (λ who. refl)
-            (executions_lead at now.course flight.value (deciding, []) led_deciding (ready_next is) entries.0 entries.1) alone
-        by false f alone = leads_into at now vote r deciding [] (deciding, []) was counts_deciding (λ who. refl) (none_leads at now.course (deciding, []) led_deciding) alone
+            executes flight.value deciding counts_deciding (ready_next is) (decides flight.value (without_flight_at slot r.leader) is chosen) ready_before (λ o. decided_orderly r o slot flight found)
+        by false f = plain deciding counts_deciding (λ o. decided_orderly r o slot flight found)
 
-    tallies : counted from ballot slot (at slot) r.leader ≡ tallied slot flight.value (at slot) voters2 r.leader → Lead (vote_tallied slot (tallied slot flight.value (at slot) voters2 r.leader) (r, []))
+    tallies : counted from ballot slot (at slot) r.leader ≡ tallied slot flight.value (at slot) voters2 r.leader → P (vote_tallied slot (tallied slot flight.value (at slot) voters2 r.leader) (r, []))
     tallies is = by (is_majority (at slot) (kept_voters voters2)) refl is
       where
         yet : Counted Command × LeaderState Command
         yet = (NotYet (length (kept_voters voters2)), record r.leader { flights = with_voters slot voters2 r.leader.flights })
 
         by : (b : Bool) → is_majority (at slot) (kept_voters voters2) ≡ b → counted from ballot slot (at slot) r.leader ≡ cond b (Chosen flight.value, without_flight_at slot r.leader) yet
-            → Lead (vote_tallied slot (cond b (Chosen flight.value, without_flight_at slot r.leader) yet) (r, []))
-        by true t chosen alone = decided chosen alone
-        by false f chosen alone = leads_into at now vote r polling [] (polling, []) was (counts_polling f) (λ who. refl) (none_leads at now.course (polling, []) led_polling) alone
+            → P (vote_tallied slot (cond b (Chosen flight.value, without_flight_at slot r.leader) yet) (r, []))
+        by true t chosen = decided chosen
+        by false f chosen = plain polling (counts_polling f) (λ o. polled_orderly r o slot flight found voters2)
 
   -- ---- the whole
-
-  abbrev Row : Executed → Type 0
-  Row e = StopsAlone now.course e.0.0 → LeadsInto at now vote r e.0
 
   counted_is : (set : List ℕ) → ballot ≡ now.course.ballot → counted from ballot slot set r.leader ≡ vote_at from slot set (flight_at slot r.leader.flights) r.leader
   counted_is set same =
       let mine : same_ballot ballot r.leader.ballot ≡ true = ap (same_ballot ballot) (was.led.may.ballot ∙ sym same) ∙ ballot_itself ballot in
       cond-true (same_ballot ballot r.leader.ballot) (vote_at from slot set (flight_at slot r.leader.flights) r.leader) (NotYet 0, r.leader) mine
 
-  in_flight : ballot ≡ now.course.ballot → (set : List ℕ) → set_at slot r ≡ Some set → (o : Option (Flight Command)) → flight_at slot r.leader.flights ≡ o → Row (vote_tallied slot (vote_at from slot set o r.leader) (r, []))
-  in_flight same set e None i alone = stays (λ _ voters v. (let fly = voters_fly r slot voters v in none_flies fly.flight fly.found i))
+  in_flight : ballot ≡ now.course.ballot → (set : List ℕ) → set_at slot r ≡ Some set → (o : Option (Flight Command)) → flight_at slot r.leader.flights ≡ o → P (vote_tallied slot (vote_at from slot set o r.leader) (r, []))
+  in_flight same set e None i = stays (λ _ voters v. (let fly = voters_fly r slot voters v in none_flies fly.flight fly.found i))
     where
       none_flies : (f : Flight Command) → flight_at slot r.leader.flights ≡ Some f → flight_at slot r.leader.flights ≡ None → ⊥
       none_flies f i j = cc
-  in_flight same set e (Some flight) i alone =
+  in_flight same set e (Some flight) i =
       let least : next r ≤ slot = elim (cases_lt slot (next r)) [ inl lt ↦ absurd (closed lt) | inr ge ↦ ge ] in
       let most : slot < now.course.bound = elim (cases_lt slot now.course.bound) [ inl lt ↦ lt | inr ge ↦ absurd (free (none_taken r slot (was.led.may.free slot ge)).0) ] in
       let is : set ≡ at slot = same_set (sym e ∙ set_is at now.course r slot was.led.may least most) in
-      subst (λ l. Row (vote_tallied slot (tallied slot flight.value l (voters_after l from flight.voters) r.leader) (r, []))) (sym is)
-      (tallies flight i least most same (counted_is (at slot) same ∙ ap (λ o. vote_at from slot (at slot) o r.leader) i)) alone
+      subst (λ l. P (vote_tallied slot (tallied slot flight.value l (voters_after l from flight.voters) r.leader) (r, []))) (sym is)
+      (tallies flight i least most same (counted_is (at slot) same ∙ ap (λ o. vote_at from slot (at slot) o r.leader) i))
     where
       closed : slot < next r → ⊥
       closed lt = (let no = cond-true (ltb slot (next r)) None (slice_get r.sets (slot - next r)) (lt-ltb slot (next r) lt) in apart (set_at slot r) no e)
@@ -352,8 +356,8 @@ module _ (at : Sets) (now : Progress) (from : ℕ) (ballot : Ballot) (slot : ℕ
       same_set : Some set ≡ Some (at slot) → set ≡ at slot
       same_set k = cc
 
-  in_set : ballot ≡ now.course.ballot → (o : Option (List ℕ)) → set_at slot r ≡ o → Row (voted from ballot slot o (r, []))
-  in_set same None e alone = stays (λ _ voters v. (let fly = voters_fly r slot voters v in open_is fly.flight fly.found (fly.from)))
+  in_set : ballot ≡ now.course.ballot → (o : Option (List ℕ)) → set_at slot r ≡ o → P (voted from ballot slot o (r, []))
+  in_set same None e = stays (λ _ voters v. (let fly = voters_fly r slot voters v in open_is fly.flight fly.found (fly.from)))
     where
       open_is : (f : Flight Command) → flight_at slot r.leader.flights ≡ Some f → next r ≤ slot → ⊥
       open_is f i least = elim (cases_lt slot now.course.bound) [
@@ -366,17 +370,24 @@ module _ (at : Sets) (now : Progress) (from : ℕ) (ballot : Ballot) (slot : ℕ
 
           free : flight_at slot r.leader.flights ≡ None → ⊥
           free j = cc
-  in_set same (Some set) e alone =
-      subst (λ q. Row (vote_tallied slot q (r, []))) (sym (counted_is set same)) (in_flight same set e (flight_at slot r.leader.flights) refl) alone
+  in_set same (Some set) e =
+      subst (λ q. P (vote_tallied slot q (r, []))) (sym (counted_is set same)) (in_flight same set e (flight_at slot r.leader.flights) refl)
 
-  pub vote_leads : Row (accepted_row from ballot slot (r, []))
+  pub vote_row : P (accepted_row from ballot slot (r, []))
   unfolding accepted_row
-  vote_leads = by (leads ballot r) refl
+  vote_row = by (leads ballot r) refl
     where
-      by : (b : Bool) → leads ballot r ≡ b → Row (cond b (voted from ballot slot (set_at slot r) (r, [])) (childless (r, [])))
-      by true t alone =
+      by : (b : Bool) → leads ballot r ≡ b → P (cond b (voted from ballot slot (set_at slot r) (r, [])) (childless (r, [])))
+      by true t =
           let same : ballot ≡ now.course.ballot = ballot_is ballot r.leader.ballot (and_parts r.running (same_ballot ballot r.leader.ballot) t).1 ∙ was.led.may.ballot in
-          in_set same (set_at slot r) refl alone
-      by false f alone = stays (λ same voters v.
+          in_set same (set_at slot r) refl
+      by false f = stays (λ same voters v.
           (let mine : same_ballot ballot r.leader.ballot ≡ true = ap (same_ballot ballot) (was.led.may.ballot ∙ sym same) ∙ ballot_itself ballot in
           true≢false (sym (and_from r.running (same_ballot ballot r.leader.ballot) was.led.running mine) ∙ f)))
+
+pub vote_leads : (at : Sets) (now : Progress) (from : ℕ) (ballot : Ballot) (slot : ℕ) (r : ReplicaState) → ((s : ℕ) → IsRoster (at s)) → IsLeadOf at now r → DecidesNext at from ballot slot r
+    → StopsAlone now.course (accepted_row from ballot slot (r, [])).0.0 → LeadsInto at now (Some (Votes from ballot slot)) r (accepted_row from ballot slot (r, [])).0
+vote_leads at now from ballot slot r rosters was decides =
+    vote_row at now from ballot slot r rosters was decides (λ e. StopsAlone now.course e.0.0 → LeadsInto at now (Some (Votes from ballot slot)) r e.0)
+    (λ mid c keeps alone. leads_into at now (Some (Votes from ballot slot)) r mid [] (mid, []) was c (λ who. refl) (none_leads at now.course (mid, []) c.led) alone)
+    (λ command mid c ready entries before keeps alone. leads_into at now (Some (Votes from ballot slot)) r mid [] (executed true command (mid, [])).0 was c (λ who. refl) (executions_lead at now.course command (mid, []) c.led ready entries.0 entries.1) alone)

@@ -1,5 +1,5 @@
 -- What a leader's table does by all that it executes at once, and by what it then offers, as the marks of it say.
-use Rattle.std.specs.Prelude.{◌≡◌, ℕ, ◌+◌, ◌<◌, ◌≤◌, true, false, List, [], ◌∷◌, ◌++◌, Some, None, is_some, ◌⊎◌}
+use Rattle.std.specs.Prelude.{◌≡◌, ℕ, suc, ◌+◌, ◌<◌, ◌≤◌, true, false, List, [], ◌∷◌, ◌++◌, Some, None, is_some, ◌⊎◌}
 use Rattle.sc_base.specs.Among.{Among, Each}
 use Rattle.sc_cmd.specs.declared.commands.Command.{Command}
 use Rattle.sc_cmd.specs.declared.links.Route.{Route}
@@ -37,7 +37,7 @@ pub record IsStopped (after : ReplicaState) : Type 0 where
   pub running : after.running ≡ false
   pub over : ((into : Route) × (after.group.core.gone ≡ Some into)) ⊎ ((after.group.core.gone ≡ None) × (is_member (members after) after.me ≡ false))
 
--- It executes so many entries, each of which was ready, tells what is told of them, and then offers at the slots from the bound to another one, if it leads on.
+-- It executes so many entries, each of which was ready, and after each but the last of which it is a member, tells what is told of them, and then offers at the slots from the bound to another one, if it leads on.
 pub record LeadsBy (at : Sets) (course : Course) (place after : Place) : Type 0 where
   pub executed : ℕ
   pub within : next place.0 + executed ≤ course.bound
@@ -46,6 +46,7 @@ pub record LeadsBy (at : Sets) (course : Course) (place after : Place) : Type 0 
   pub named : name_of after.0 ≡ name_of place.0
   pub promise : after.0.acceptor.promised ≡ place.0.acceptor.promised
   pub was : members_at at (next after.0) ≡ members after.0
+  pub stayed : (slot : ℕ) → next place.0 ≤ slot → suc slot < next after.0 → is_member (members_at at (slot + 1)) place.0.me ≡ true
   pub drawn : (slot : ℕ) → next place.0 ≤ slot → slot < next after.0 → is_some (at_slot place.0.ready slot) ≡ true
   pub ready : after.0.running ≡ true → (slot : ℕ) → next after.0 ≤ slot → at_slot after.0.ready slot ≡ at_slot place.0.ready slot
   pub bound : ℕ

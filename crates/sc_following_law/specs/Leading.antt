@@ -1,5 +1,5 @@
 -- A leader's whole rows in the table, as rows of what stands between it and its nodes.
-use Rattle.std.specs.Prelude.{◌≡◌, ℕ, ◌≤◌, ◌==◌, ◌||◌, not, nat_lt, Bool, true, false, List, [], length, if◌then◌else◌, Option, Some, None, is_some}
+use Rattle.std.specs.Prelude.{◌≡◌, ℕ, suc, ◌+◌, ◌<◌, ◌≤◌, ◌==◌, ◌||◌, not, nat_lt, Bool, true, false, List, [], length, if◌then◌else◌, Option, Some, None, is_some, ◌⊎◌}
 use Rattle.std.specs.Option.{option_map}
 use Rattle.sc_base.specs.Drawing.{Drawer}
 use Rattle.sc_base.specs.declared.names.Ballot.{Ballot}
@@ -15,14 +15,15 @@ use Rattle.sc_paxos_words.specs.Leaders.{LeaderState, flight_at}
 use Rattle.sc_paxos_words.specs.Votes.{kept_voters, counted}
 use Rattle.sc_node_table.specs.declared.ReplicaInput.TheVariants as Given
 use Rattle.sc_node_table.specs.Execute.{executed_one}
-use Rattle.sc_node_table.specs.Replica.{ReplicaState, Place, name_of, next}
+use Rattle.sc_node_table.specs.Pump.{is_act}
+use Rattle.sc_node_table.specs.Replica.{ReplicaState, Place, name_of, next, flying}
 use Rattle.sc_node_table.specs.Rows.{mailed, stepped}
 use Rattle.sc_node_table.specs.Slots.{at_slot, with_slot}
 use Rattle.sc_law_lemmas.specs.Steps.{GoesOn}
-use Rattle.sc_following_law.specs.Following.{Mark, Votes, Promises, Course, Progress, Sets}
+use Rattle.sc_following_law.specs.Following.{Mark, Asks, Votes, Promises, Course, Progress, Sets, members_at}
 use Rattle.sc_following_law.specs.Counted.{IsLed, IsNext}
 use Rattle.sc_following_law.specs.Executed.{AreNext}
-use Rattle.sc_following_law.specs.Tables.{marks_for}
+use Rattle.sc_following_law.specs.Tables.{marks_for, IsInTime}
 use Rattle.sc_following_law.specs.Rows.{Leads}
 
 -- who voted for what is in flight at a slot, at one that runs: nothing flies there where the slot is executed or ready
@@ -56,12 +57,14 @@ progress_by bound now r = record {
   course = record now.course { newest = next r; bound = bound; runs = r.running; gone = is_some r.group.core.gone; voters = voters_of r; counted = λ node. is_member r.leader.promisers node };
 }
 
--- A row of a replica that leads is a leader's row in the progress of its group; and if it leads on, it leads in the progress after it.
+-- A row of a replica that leads is a leader's row in the progress of its group; it is a member after each entry that it executes but the last, counts no promise but one that it takes, and if it leads on, it leads in the progress after it.
 pub record LeadsInto (at : Sets) (now : Progress) (taken : Option Mark) (r : ReplicaState) (after : Place) : Type 0 where
   pub me : after.0.me ≡ r.me
   pub named : name_of after.0 ≡ name_of r
   pub bound : ℕ
+  pub stayed : (slot : ℕ) → next r ≤ slot → suc slot < next after.0 → is_member (members_at at (slot + 1)) r.me ≡ true
   pub leads : Leads at now (progress_by bound now after.0) r.me taken (λ who. marks_for (name_of r) who after.1)
+  pub promisers : after.0.running ≡ true → (who : ℕ) → is_member after.0.leader.promisers who ≡ true → (is_member r.leader.promisers who ≡ true) ⊎ (taken ≡ Some (Promises who now.course.ballot))
   pub goes_on : after.0.running ≡ true → IsLeadOf at (progress_by bound now after.0) after.0
 
 -- the entries from this one on that are ready are the next ones, one after another
@@ -106,3 +109,25 @@ pub record RowsLead : Type 0 where
       → LeadsInto at now (Some (Promises from ballot)) r (mailed from (Promise (name_of r) ballot reports) (r, [])).0
   pub asides : (at : Sets) (now : Progress) (from : ℕ) (body : MailBody) (r : ReplicaState) → IsLeadOf at now r → IsAside r body → LeadsInto at now None r (mailed from body (r, [])).0
   pub orders : (at : Sets) (now : Progress) (on : Bool) (drawer : Drawer) (line : OrderLine) (r : ReplicaState) → IsLeadOf at now r → LeadsInto at now None r (stepped on drawer (Given.Told line) (r, [])).0
+
+-- the progress in which this replica has promised what it has
+abbrev pub promised_by : Progress → ReplicaState → Progress
+promised_by now r = record now { promise = λ who. if who == r.me then r.acceptor.promised else now.promise who }
+
+-- one that leads does so still after it took what it asked itself
+pub record OwnRowsKeep : Type 0 where
+  pub accept : (at : Sets) (now : Progress) (ballot : Ballot) (slot : ℕ) (command : Command) (r : ReplicaState) → IsLeadOf at now r → IsInTime (Asks ballot slot) r → GoesOn ballot r → r.acceptor.floor < next r
+      → (let after : Place = (mailed ballot.node (Accept (name_of r) ballot slot command) (r, [])).0 in IsLeadOf at (promised_by now after.0) after.0)
+  pub prepare : (at : Sets) (now : Progress) (ballot : Ballot) (from_slot : ℕ) (r : ReplicaState) → IsLeadOf at now r → GoesOn ballot r → r.acceptor.floor < from_slot
+      → (let after : Place = (mailed ballot.node (Prepare (name_of r) ballot from_slot) (r, [])).0 in IsLeadOf at (promised_by now after.0) after.0)
+
+-- where anything but a call or a filler is in flight or ready, nothing else is
+abbrev pub ActsAlone : Course → ReplicaState → Type 0
+ActsAlone course r =
+    (slot : ℕ) (command : Command) → next r ≤ slot → (flying r slot ≡ Some command) ⊎ (at_slot r.ready slot ≡ Some command) → is_act command ≡ true → course.bound ≡ next r + 1
+
+-- so a leader stops by nothing else that it executes by a vote
+abbrev pub ActsStopAlone : Type 0
+ActsStopAlone =
+    (at : Sets) (now : Progress) (from : ℕ) (ballot : Ballot) (slot : ℕ) (r : ReplicaState) → ((s : ℕ) → IsRoster (at s)) → IsLeadOf at now r → DecidesNext at from ballot slot r → ActsAlone now.course r
+    → StopsAlone now.course (mailed from (Accepted (name_of r) ballot slot) (r, [])).0.0

@@ -1,7 +1,13 @@
 pub mod Counted
+pub mod Dated
+pub mod Electing
 pub mod Executed
 pub mod Following
+pub mod Heeding
+pub mod Hints
 pub mod Leading
 pub mod Offers
+pub mod Orderly
+pub mod Owning
 pub mod Rows
 pub mod Tables

@@ -4,9 +4,15 @@
 #![tactic(auto)]
 
 ghost use Rattle.sc_following_law.specs.Counted.{EntriesLead};
+ghost use Rattle.sc_following_law.specs.Dated.{ElectionsAskNext, PreparesAreKnown, RowsAskNext, SlotsAreKept};
+ghost use Rattle.sc_following_law.specs.Electing.{ElectionsLead, LeadersBegin, StepsTake};
 ghost use Rattle.sc_following_law.specs.Executed.{ExecutionsLead};
-ghost use Rattle.sc_following_law.specs.Leading.{RowsLead};
+ghost use Rattle.sc_following_law.specs.Heeding.{HeirsElect, HintsFollow, LeadersLeaveLast};
+ghost use Rattle.sc_following_law.specs.Hints.{HintsAreKept, NodesHeed};
+ghost use Rattle.sc_following_law.specs.Leading.{ActsStopAlone, OwnRowsKeep, RowsLead};
 ghost use Rattle.sc_following_law.specs.Offers.{PumpsOffer};
+ghost use Rattle.sc_following_law.specs.Orderly.{OrderIsKept};
+ghost use Rattle.sc_following_law.specs.Owning.{LeadersCountOwn, OwnIsKept};
 ghost use Rattle.sc_following_law.specs.Rows.{GroupsBeginFollowing, IdleRowsKeep, LeadersKeep, ElectionsKeep, TakersKeep, QuietGroupsAreEven};
 ghost use Rattle.sc_following_law.specs.Tables.{EntriesTell, StatesMake, TablesElect, TablesFollow};
 
@@ -100,4 +106,103 @@ pub fn executions_lead()
 /// executes are the next ones, and where it stops only when all that was offered is executed.
 pub fn rows_lead()
     ensures { RowsLead }
+{}
+
+/// Whom each node takes for the leader is kept by each kind of row: while one leads, all others
+/// that decide an open slot take it for that once they have taken their mail, and each is told an
+/// entry by the one that it takes for the leader then.
+pub fn hints_are_kept()
+    ensures { HintsAreKept }
+{}
+
+/// So a node that is told an entry takes a member for the leader after it, or is not the least
+/// member, or the entry is the last one and none leads; and then it takes no member for it.
+pub fn nodes_heed()
+    ensures { NodesHeed }
+{}
+
+/// A replica's table that does not run takes for the leader whom the mark of a mail says.
+pub fn hints_follow()
+    ensures { HintsFollow }
+{}
+
+/// So a replica that is told an entry by which it is to lead next elects itself, if it has a later
+/// round, and by any other entry it does not.
+pub fn heirs_elect()
+    ensures { HeirsElect }
+{}
+
+/// One that leads does so still after it took an Accept or a Prepare of its own.
+pub fn own_rows_keep()
+    ensures { OwnRowsKeep }
+{}
+
+/// Each kind of row keeps it that no node is asked to promise a ballot from below its next slot.
+pub fn slots_are_kept()
+    ensures { SlotsAreKept }
+{}
+
+/// So an acceptor that has forgotten nothing from its next slot on is asked from above what it has
+/// forgotten.
+pub fn prepares_are_known()
+    ensures { PreparesAreKnown }
+{}
+
+/// Where anything but a call or a filler is in flight or ready only alone, a leader that stops by a
+/// vote has executed all that it offered.
+pub fn acts_stop_alone()
+    ensures { ActsStopAlone }
+{}
+
+/// What a leader has in flight and ready stays one command at a slot, and anything but a call or a
+/// filler alone, by each of its rows after which it leads on, where promises have no reports.
+pub fn order_is_kept()
+    ensures { OrderIsKept }
+{}
+
+/// A leader's row in the table is one of a leader that leaves last, where it counts the entries that
+/// it executes, and nobody comes by one by which it goes.
+pub fn leaders_leave_last()
+    ensures { LeadersLeaveLast }
+{}
+
+/// A replica that elects itself by the last entry asks to promise its ballot from the slot after it
+/// on.
+pub fn elections_ask_next()
+    ensures { ElectionsAskNext }
+{}
+
+/// Each row of a replica that leads asks to promise its ballot right behind a state that it sends,
+/// from the slot after it on.
+pub fn rows_ask_next()
+    ensures { RowsAskNext }
+{}
+
+/// A replica's row by which it elects itself is such a row, and it leads in the progress after it,
+/// where its next ballot is later than the group's and it has the members of the open slots.
+pub fn elections_lead()
+    ensures { ElectionsLead }
+{}
+
+/// The first leader of a group leads in its progress from its birth on, with nothing in flight or
+/// ready.
+pub fn leaders_begin()
+    ensures { LeadersBegin }
+{}
+
+/// A row that is as its mark says, of a replica that is where its group's progress says, is that of
+/// a node that takes the mail.
+pub fn steps_take()
+    ensures { StepsTake }
+{}
+
+/// A leader's own Prepare is taken before any promise of its ballot is counted, and so before it
+/// executes an entry: each kind of row keeps it.
+pub fn own_is_kept()
+    ensures { OwnIsKept }
+{}
+
+/// A leader's row in the table is one of a leader that counts so.
+pub fn leaders_count_own()
+    ensures { LeadersCountOwn }
 {}

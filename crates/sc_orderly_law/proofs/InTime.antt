@@ -12,7 +12,7 @@ use Rattle.sc_actor.specs.Walk.{is_quiet}
 use Rattle.sc_actor.proofs.Induction.{find-who}
 use Rattle.sc_actor.proofs.PendingLemmas.{first_is}
 use Rattle.sc_orderly_law.specs.Orderly.{IsCalmRow, IsTidy, is_born, is_told, deliveries, orders}
-use Rattle.sc_orderly_law.specs.Timely.{IsClear, ComesInTime, AreInTime, IsMeasure}
+use Rattle.sc_orderly_law.specs.Timely.{IsClear, ComesInTime, AreInTime, IsToldSo, AreToldSo, IsMeasure}
 use Rattle.sc_orderly_law.proofs.Ordering.{Each-append}
 use Rattle.sc_orderly_law.proofs.Paying.{count_push}
 use Rattle.sc_orderly_law.proofs.Resting.{may-born, tidy-row}
@@ -137,27 +137,44 @@ module _ {A M O : Type 0} (s : System A M O) where
   pub delivery_orders : (rows : List (Row M O)) (row : Row M O) → is_delivery row.event ≡ true → orders (rows ++ row ∷ []) ≡ orders rows
   delivery_orders rows row d = (let o = count_push (λ (r : Row M O). is_told r.event) rows row false (delivery_untold row.event d) in omega (arith, o))
 
-  module _ (told : ℕ) (owed : List (Row M O) → ℕ) (still raise : ℕ) (measure : IsMeasure s told owed still raise) where
+  module _ (allowed : ℕ → O → Bool) (told : ℕ) (owed : List (Row M O) → ℕ) (still raise : ℕ) (measure : IsMeasure s allowed told owed still raise) where
+    -- a delivery tells no order
+    pub delivered_so : (who : ℕ) (event : Event O) → is_delivery event ≡ true → IsToldSo allowed who event
+    delivered_so who (Told order) d = absurd (true≢false (sym d))
+    delivered_so who (Deliver number) d = tt
+    delivered_so who Tick d = tt
+    delivered_so who Go d = tt
+    delivered_so who Crash d = tt
+    delivered_so who (Drop mail) d = tt
+    delivered_so who (Again mail) d = tt
+
+    pub such_and : (rows : List (Row M O)) (row : Row M O) → AreToldSo allowed rows → IsToldSo allowed row.who row.event → AreToldSo allowed (rows ++ row ∷ [])
+    such_and rows row such one = Each-append (λ (r : Row M O). IsToldSo allowed r.who r.event) rows (row ∷ []) such (one, tt)
+
+    pub such_before : (rows : List (Row M O)) (row : Row M O) → AreToldSo allowed (rows ++ row ∷ []) → AreToldSo allowed rows
+    such_before [] row such = tt
+    such_before (r ∷ rows) row such = (such.0, such_before rows row such.1)
+
     -- something is owed where something is pending
-    pub pending_owes : (rows : List (Row M O)) → AreInTime s rows → orders rows ≤ told → is_quiet s rows ≡ false → 1 ≤ owed rows
-    pending_owes rows timely few loud =
+    pub pending_owes : (rows : List (Row M O)) → AreInTime s rows → AreToldSo allowed rows → orders rows ≤ told → is_quiet s rows ≡ false → 1 ≤ owed rows
+    pending_owes rows timely such few loud =
         let d = next_delivery rows (in_time_tidy rows timely) loud in
         let t = in_time_row rows d.0 timely d.1 d.3 in
         let same = delivery_orders rows d.0 d.2 in
-        let low = measure.lowers rows d.0 t (omega (arith, same, few)) in
+        let low = measure.lowers rows d.0 t (such_and rows d.0 such (delivered_so d.0.who d.0.event d.2)) (omega (arith, same, few)) in
         let one = ap one_if d.2 in
         let none : cond (is_told d.0.event) raise 0 ≡ 0 = ap (λ b. cond b raise 0) (delivery_untold d.0.event d.2) in
         omega (arith, low, one, none)
 
     -- the deliveries made and what is owed still are no more than is owed in quiet, and what the orders raised
-    pub deliveries_and_orders : (journal : List (Row M O)) → AreInTime s journal → orders journal ≤ told → deliveries journal + owed journal ≤ still + orders journal * raise
+    pub deliveries_and_orders : (journal : List (Row M O)) → AreInTime s journal → AreToldSo allowed journal → orders journal ≤ told → deliveries journal + owed journal ≤ still + orders journal * raise
     deliveries_and_orders journal timely =
-        by_time (λ rows. orders rows ≤ told → deliveries rows + owed rows ≤ still + orders rows * raise) (λ few. (let q = measure.quiet [] (λ before row after e. absurd (never before row after e)) few refl in omega (arith, q)))
-        (λ rows row t more few.
-        let low = measure.lowers rows row t few in
+        by_time (λ rows. AreToldSo allowed rows → orders rows ≤ told → deliveries rows + owed rows ≤ still + orders rows * raise) (λ such few. (let q = measure.quiet [] (λ before row after e. absurd (never before row after e)) such few refl in omega (arith, q)))
+        (λ rows row t more such few.
+        let low = measure.lowers rows row t such few in
         let d = count_push (λ (r : Row M O). is_delivery r.event) rows row (is_delivery row.event) refl in
         let fewer = count_push (λ (r : Row M O). is_told r.event) rows row (is_told row.event) refl in
-        let le = more (omega (arith, few, fewer)) in
+        let le = more (such_before rows row such) (omega (arith, few, fewer)) in
         let o = raised (is_told row.event) (orders rows) (orders (rows ++ row ∷ [])) fewer in
         omega (arith, low, d, o, le))
         journal timely

@@ -14,6 +14,7 @@ use Rattle.sc_actor.specs.declared.schedules.Line.TheVariants.{Go as GoLine, Del
 use Rattle.sc_actor.specs.Mail.{mails, numbered, is_delivery}
 use Rattle.sc_actor.specs.System.{System, acts, row_of, waiting, kth, are_apart}
 use Rattle.sc_actor.specs.Walk.{Task, Once, Settles, Frees, Storms, WalkPlace, Allows, MayAdd, IsLawful, onward, is_over, is_quiet, cuts, skips, after_row, place_after, rest_of_all, tasks_of, delivery, unsettled}
+use Rattle.sc_actor.proofs.Induction.{find-who}
 use Rattle.sc_actor.proofs.PendingLemmas.{waiting_any}
 use Rattle.sc_actor.proofs.WalkLemmas.{lawful-last, place_after-rows}
 use Rattle.sc_orderly_law.specs.Orderly.{IsPlainLine, is_born, deliveries}
@@ -62,6 +63,11 @@ module _ {A M O : Type 0} (s : System A M O) where
   acts-event rows who event row e =
       let m = map-some (λ seat. row_of s.table seat rows event) (find (λ seat. eqb seat.who who) s.births) row e in
       ap (λ (r : Row M O). r.event) m.2
+
+  pub acts-who : (rows : List (Row M O)) (who : ℕ) (event : Event O) (row : Row M O) → acts s rows who event ≡ Some row → row.who ≡ who
+  acts-who rows who event row e =
+      let m = map-some (λ seat. row_of s.table seat rows event) (find (λ seat. eqb seat.who who) s.births) row e in
+      sym (ap (λ (r : Row M O). r.who) m.2) ∙ find-who s.births who m.0 m.1
 
   pub delivery-event : (rows : List (Row M O)) (left : ℕ) (row : Row M O) → Allows s rows (Settles left) row → is_delivery row.event ≡ true
   delivery-event rows left row e =

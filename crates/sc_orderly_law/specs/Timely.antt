@@ -84,8 +84,39 @@ gives_order (Storm number most) = false
 abbrev pub orders_given : {O : Type 0} → List (Line O) → ℕ
 orders_given lines = count_by gives_order lines
 
--- What is owed after some rows that tell so many orders at most: each delivery lowers it by one at least, an order raises it by so much at most, no other row raises it, and in quiet journals no more than so much is owed.
-pub record IsMeasure {A M O : Type 0} (s : System A M O) (told : ℕ) (owed : List (Row M O) → ℕ) (still raise : ℕ) : Type 0 where
-  pub lowers : (rows : List (Row M O)) (row : Row M O) → AreInTime s (rows ++ row ∷ []) → orders (rows ++ row ∷ []) ≤ told →
+-- an order is told, to an actor, as orders may be
+abbrev pub IsToldSo : {O : Type 0} → (ℕ → O → Bool) → ℕ → Event O → Type 0
+IsToldSo allowed who (Told order) = allowed who order ≡ true
+IsToldSo allowed who (Deliver number) = Unit {0}
+IsToldSo allowed who Tick = Unit {0}
+IsToldSo allowed who Go = Unit {0}
+IsToldSo allowed who Crash = Unit {0}
+IsToldSo allowed who (Drop mail) = Unit {0}
+IsToldSo allowed who (Again mail) = Unit {0}
+
+-- .. each of some rows
+abbrev pub AreToldSo : {M O : Type 0} → (ℕ → O → Bool) → List (Row M O) → Type 0
+AreToldSo allowed rows = Each (λ row. IsToldSo allowed row.who row.event) rows
+
+-- a line gives an order, to an actor, as orders may be
+abbrev pub IsGivenSo : {O : Type 0} → (ℕ → O → Bool) → Line O → Type 0
+IsGivenSo allowed (ToldLine who order) = allowed who order ≡ true
+IsGivenSo allowed (GoLine who) = Unit {0}
+IsGivenSo allowed (Settle most) = Unit {0}
+IsGivenSo allowed (Free most workers) = Unit {0}
+IsGivenSo allowed (DeliverLine who k) = Unit {0}
+IsGivenSo allowed (DropLine who k) = Unit {0}
+IsGivenSo allowed (AgainLine mail) = Unit {0}
+IsGivenSo allowed (TickLine who) = Unit {0}
+IsGivenSo allowed (CrashLine who) = Unit {0}
+IsGivenSo allowed (Storm number most) = Unit {0}
+
+-- .. each of some lines
+abbrev pub AreGivenSo : {O : Type 0} → (ℕ → O → Bool) → List (Line O) → Type 0
+AreGivenSo allowed lines = Each (IsGivenSo allowed) lines
+
+-- What is owed after some rows that tell so many orders at most, each of them as orders may be: each delivery lowers it by one at least, an order raises it by so much at most, no other row raises it, and in quiet journals no more than so much is owed.
+pub record IsMeasure {A M O : Type 0} (s : System A M O) (allowed : ℕ → O → Bool) (told : ℕ) (owed : List (Row M O) → ℕ) (still raise : ℕ) : Type 0 where
+  pub lowers : (rows : List (Row M O)) (row : Row M O) → AreInTime s (rows ++ row ∷ []) → AreToldSo allowed (rows ++ row ∷ []) → orders (rows ++ row ∷ []) ≤ told →
       owed (rows ++ row ∷ []) + (if is_delivery row.event then 1 else 0) ≤ owed rows + (if is_told row.event then raise else 0)
-  pub quiet : (rows : List (Row M O)) → AreInTime s rows → orders rows ≤ told → is_quiet s rows ≡ true → owed rows ≤ still
+  pub quiet : (rows : List (Row M O)) → AreInTime s rows → AreToldSo allowed rows → orders rows ≤ told → is_quiet s rows ≡ true → owed rows ≤ still

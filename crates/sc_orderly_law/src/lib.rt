@@ -9,7 +9,7 @@
 //! and what one order raises, if a line of deliveries stands between each order and every other.
 #![tactic(auto)]
 
-ghost use Rattle.std.specs.Prelude.{◌≡◌, ℕ, ◌+◌, ◌*◌, ◌≤◌, List, [], ◌∷◌, ◌++◌, length, drop, true, false, Some, slice_get};
+ghost use Rattle.std.specs.Prelude.{◌≡◌, ℕ, ◌+◌, ◌*◌, ◌≤◌, List, [], ◌∷◌, ◌++◌, length, drop, Bool, true, false, Some, slice_get};
 ghost use Rattle.sc_base.specs.Among.{Each};
 ghost use Rattle.sc_actor.specs.declared.actors.Seat.{Seat};
 ghost use Rattle.sc_actor.specs.declared.rows.Row.{Row};
@@ -20,7 +20,7 @@ ghost use Rattle.sc_actor.specs.System.{system, are_apart};
 ghost use Rattle.sc_actor.specs.Walk.{IsLawful, is_quiet, unsettled};
 ghost use Rattle.sc_orderly_law.specs.Orderly.{IsPlainLine, IsCalmLine, IsOrderly, IsCalmRow, IsTidy, rest, mail_for, is_born, taken, deliveries, goes, orders};
 ghost use Rattle.sc_orderly_law.specs.Owing.{Owing, Lowers, SendsToActors, HasRoom, owed, owed_at_birth};
-ghost use Rattle.sc_orderly_law.specs.Timely.{AreSpaced, Nothing, AreInTime, orders_given, IsMeasure};
+ghost use Rattle.sc_orderly_law.specs.Timely.{AreSpaced, Nothing, AreInTime, AreToldSo, AreGivenSo, orders_given, IsMeasure};
 
 use sc_actor::Actor;
 
@@ -119,26 +119,30 @@ pub fn deliveries_are_owed<A: Actor>()
 /// and whatever else is said, and each has room for both together, then each order begins where
 /// nothing is under way, each actor goes where no order is, and no line is cut off. What is owed
 /// may be any number that rows determine, and is asked of rows alone that tell no more orders than
-/// the lines give: how much an order raises may so depend on how many are given.
+/// the lines give, and such ones: how much an order raises may so depend on how many are given.
 pub fn orders_begin_in_quiet<A: Actor>()
     ensures timely { (words : ℕ → ℕ → ℕ × ℕ) (births : List (Seat A))
-        (lines : List (Line A.Order)) (owed_after : List (Row A.Mail A.Order) → ℕ)
-        (still raise : ℕ) (journal : List (Row A.Mail A.Order)) →
-        let s = system A.table A.Mail.receiver words births in
-        IsMeasure s (orders_given lines) owed_after still raise → AreSpaced Nothing lines →
-        Each (HasRoom (still + raise)) lines → IsLawful s lines journal → AreInTime s journal }
-    ensures settled { (words : ℕ → ℕ → ℕ × ℕ) (births : List (Seat A))
-        (lines : List (Line A.Order)) (owed_after : List (Row A.Mail A.Order) → ℕ)
-        (still raise : ℕ) (journal : List (Row A.Mail A.Order)) →
-        let s = system A.table A.Mail.receiver words births in
-        IsMeasure s (orders_given lines) owed_after still raise → AreSpaced Nothing lines →
-        Each (HasRoom (still + raise)) lines → IsLawful s lines journal →
-        unsettled s lines journal ≡ false }
-    ensures deliveries { (words : ℕ → ℕ → ℕ × ℕ) (births : List (Seat A))
-        (told : ℕ) (owed_after : List (Row A.Mail A.Order) → ℕ) (still raise : ℕ)
+        (lines : List (Line A.Order)) (allowed : ℕ → A.Order → Bool)
+        (owed_after : List (Row A.Mail A.Order) → ℕ) (still raise : ℕ)
         (journal : List (Row A.Mail A.Order)) →
         let s = system A.table A.Mail.receiver words births in
-        IsMeasure s told owed_after still raise → AreInTime s journal → orders journal ≤ told →
+        IsMeasure s allowed (orders_given lines) owed_after still raise → AreSpaced Nothing lines →
+        Each (HasRoom (still + raise)) lines → AreGivenSo allowed lines → IsLawful s lines journal → AreInTime s journal }
+    ensures settled { (words : ℕ → ℕ → ℕ × ℕ) (births : List (Seat A))
+        (lines : List (Line A.Order)) (allowed : ℕ → A.Order → Bool)
+        (owed_after : List (Row A.Mail A.Order) → ℕ) (still raise : ℕ)
+        (journal : List (Row A.Mail A.Order)) →
+        let s = system A.table A.Mail.receiver words births in
+        IsMeasure s allowed (orders_given lines) owed_after still raise → AreSpaced Nothing lines →
+        Each (HasRoom (still + raise)) lines → AreGivenSo allowed lines → IsLawful s lines journal →
+        unsettled s lines journal ≡ false }
+    ensures deliveries { (words : ℕ → ℕ → ℕ × ℕ) (births : List (Seat A))
+        (allowed : ℕ → A.Order → Bool) (told : ℕ)
+        (owed_after : List (Row A.Mail A.Order) → ℕ) (still raise : ℕ)
+        (journal : List (Row A.Mail A.Order)) →
+        let s = system A.table A.Mail.receiver words births in
+        IsMeasure s allowed told owed_after still raise → AreInTime s journal →
+        AreToldSo allowed journal → orders journal ≤ told →
         deliveries journal + owed_after journal ≤ still + orders journal * raise }
     ensures rows { (words : ℕ → ℕ → ℕ × ℕ) (births : List (Seat A))
         (journal : List (Row A.Mail A.Order)) →

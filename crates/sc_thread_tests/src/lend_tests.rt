@@ -1,12 +1,14 @@
 //! Work that is lent to threads that are kept.
 ghost use Rattle.std.specs.Prelude.{◌≡◌, ◌/◌, All};
+ghost use Rattle.std.specs.Thread.{IsSync};
 ghost use Rattle.sc_lend.specs.Offices.{IsHelperOf, IsLenderOf};
 
 use sc_lend::{Helper, Labour, Lender, Office, help_all, open};
 use std::alloc::Global;
+use std::mem;
 use std::process::Abort;
 use std::sync::Wait;
-use std::thread::{Threads, join};
+use std::thread::{Threads, join_mut};
 
 // A number that is to be halved.
 #[derive(Drop)]
@@ -72,16 +74,31 @@ fn lend_three<R: Wait>(rt: &R, office: &Office<Half>, lender: &mut Lender<Half>)
     [first, second, third]
 }
 
+// Lends and helps at the same time.
+fn at_once<R: Threads + Wait + Sync>(
+    rt: &R,
+    alloc: Global,
+    office: &Office<Half>,
+    lender: &mut Lender<Half>,
+    helpers: &mut Vec<Helper<Half>>,
+) -> [u32; 3]
+    requires lender { IsLenderOf office.now lender.old }
+    requires helpers { All (λ p. IsHelperOf office.now p) helpers.old.items }
+{
+    let mut lending = || -> [u32; 3]
+        requires { IsSync R.row × IsLenderOf office.now lender.now }
+    { lend_three(rt, office, lender) };
+    let mut helping = ||
+        requires { IsSync R.row × All (λ p. IsHelperOf office.now p) helpers.now.items }
+    { help(rt, office, mem::replace(helpers, Vec::new(alloc))) };
+    let (_, numbers) = join_mut(rt, &mut helping, &mut lending);
+    numbers
+}
+
 // What comes back of three numbers where so many help.
 fn three<R: Threads + Wait + Abort + Sync>(rt: &R, alloc: Global, hands: usize) -> [u32; 3] {
-    let (office, mut lender, helpers) = open::<Half>(alloc, 3, hands).expect(rt, "memory");
-    let office = &office;
-    let (_, numbers) = join(
-        rt,
-        || help(rt, office, helpers),
-        || lend_three(rt, office, &mut lender),
-    );
-    numbers
+    let (office, mut lender, mut helpers) = open::<Half>(alloc, 3, hands).expect(rt, "memory");
+    at_once(rt, alloc, &office, &mut lender, &mut helpers)
 }
 
 #[test]

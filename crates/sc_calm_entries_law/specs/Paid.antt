@@ -1,0 +1,66 @@
+-- What the stages of an order give of what rows of calm journals have to find.
+use Rattle.std.specs.Prelude.{◌≡◌, ℕ, ◌≤◌, true, [], length, Some, None, ◌⊎◌}
+use Rattle.sc_base.specs.declared.names.Draw.{Draw}
+use Rattle.sc_cmd.specs.declared.commands.Command.{Command}
+use Rattle.sc_cmd.specs.declared.commands.Command.TheVariants.{Noop, Call, Join, Leave, Split, Begin, Prepared, RecordVote, GiveUp, Finish, Watched, RecordWatch}
+use Rattle.sc_cmd.specs.declared.cores.Lock.TheVariants.{Free}
+use Rattle.sc_cmd.specs.declared.votes.Past.TheVariants as Cast
+use Rattle.sc_machine_table.specs.Machine.{applied}
+use Rattle.sc_member.specs.Roster.{is_member}
+use Rattle.sc_node_table.specs.Replica.{ReplicaState, members}
+use Rattle.sc_node_table.specs.Spoken.{before_of}
+use Rattle.sc_paxos_words.specs.declared.flights.Flight.{Flight}
+use Rattle.sc_calm_law.specs.Keeping.{MayCount}
+use Rattle.sc_calm_law.specs.Laws.{newcomers, MayPump, AsksAs}
+use Rattle.sc_calm_law.specs.Owed.{Ways}
+use Rattle.sc_calm_orders_law.specs.Scenes.{Turn, is_watch, Asking}
+use Rattle.sc_calm_orders_law.specs.Parts.{bond_of}
+use Rattle.sc_calm_orders_law.specs.Running.{FliesLone}
+
+-- a coordinator asks what its bond says, by ways that say so too
+abbrev pub BondsAsk : Type 0
+BondsAsk =
+    (ways : Ways) (tx asked : Draw) (turn : Turn) (node : ℕ) (r : ReplicaState) → bond_of r.group.core ≡ Asking tx asked turn → ways.asks tx ≡ Some (asked, is_watch turn) → AsksAs ways tx node r
+
+-- an entry by which no member comes or goes: a transaction is begun, or a vote is cast
+abbrev pub KeepsMembers : Command → Type 0
+KeepsMembers (Begin tx body order) = Unit {0}
+KeepsMembers (Prepared tx offer) = Unit {0}
+KeepsMembers (Watched tx watch) = Unit {0}
+KeepsMembers Noop = ⊥
+KeepsMembers (Call client seq op) = ⊥
+KeepsMembers (Join node order) = ⊥
+KeepsMembers (Leave node order) = ⊥
+KeepsMembers (Split at child order) = ⊥
+KeepsMembers (RecordVote tx vote by) = ⊥
+KeepsMembers (GiveUp tx) = ⊥
+KeepsMembers (Finish tx outcome) = ⊥
+KeepsMembers (RecordWatch tx vote by) = ⊥
+
+-- a leader at which such an entry is in flight, alone, may count a vote
+abbrev pub LoneEntriesCount : Type 0
+LoneEntriesCount =
+    (slot : ℕ) (flight : Flight Command) (r : ReplicaState) → FliesLone flight r → MayPump r → length (members r) ≤ 9 → is_member (members r) r.me ≡ true → r.group.core.gone ≡ None
+    → KeepsMembers flight.value → MayCount slot r
+
+-- an entry of an order, by its kind: of a split the group is free; a watcher says Yes, and by its vote the leader stays, or no participant was heard and nobody is added; nothing is given up
+abbrev pub IsEntry : Command → ReplicaState → Type 0
+IsEntry (Join node order) r = Unit {0}
+IsEntry (Leave node order) r = Unit {0}
+IsEntry (Split at child order) r = r.group.core.lock ≡ Free
+IsEntry (Begin tx body order) r = Unit {0}
+IsEntry (Prepared tx offer) r = Unit {0}
+IsEntry (RecordVote tx vote by) r = Unit {0}
+IsEntry (Finish tx outcome) r = Unit {0}
+IsEntry (Watched tx watch) r = Unit {0}
+IsEntry (RecordWatch tx vote by) r =
+    (vote ≡ Cast.Yes) × ((is_member (applied r.group (RecordWatch tx vote by)).0.core.members r.me ≡ true) ⊎ (((before_of r.group.core).heard ≡ None) × (length (newcomers (RecordWatch tx vote by) r) ≡ 0)))
+IsEntry Noop r = ⊥
+IsEntry (Call client seq op) r = ⊥
+IsEntry (GiveUp tx) r = ⊥
+
+-- a leader of a group that stands at which such an entry is in flight, alone, and no call waits, may count a vote, where at most nine are members before the entry and after it
+abbrev pub OrderEntriesCount : Type 0
+OrderEntriesCount =
+    (slot : ℕ) (flight : Flight Command) (r : ReplicaState) → FliesLone flight r → r.calls ≡ [] → MayPump r → length (members r) ≤ 9 → length (applied r.group flight.value).0.core.members ≤ 9
+    → is_member (members r) r.me ≡ true → r.group.core.gone ≡ None → IsEntry flight.value r → MayCount slot r

@@ -1,0 +1,52 @@
+-- A row that does nothing of an order, and one that takes an order where none is under way.
+use Rattle.std.proofs.Common.{◌≡◌, List, [], ◌∷◌, ◌++◌, inl, inr, sym, ◌∙◌, ap, append-nil}
+use Rattle.sc_base.specs.Among.{Each}
+use Rattle.sc_base.specs.declared.names.Draw.{Draw}
+use Rattle.sc_calm_orders_law.specs.Scenes.{Unbound, Here, free}
+use Rattle.sc_calm_orders_law.specs.Stages.{Ordered, parties_of, leads_of}
+use Rattle.sc_calm_orders_law.specs.Rows.{RestsKeep, OrdersBegin}
+use Rattle.sc_calm_orders_law.proofs.Lists.{cases-draw, having, here-is}
+use Rattle.sc_calm_orders_law.proofs.Moves.{other-same, own-idle, leads-stay}
+
+each_same : (value after : Draw → Here) (named : List (Draw × Here)) → ((name : Draw) → after name ≡ value name) → Each (λ entry. value entry.0 ≡ entry.1) named → Each (λ entry. after entry.0 ≡ entry.1) named
+each_same value after [] same e = tt
+each_same value after (entry ∷ named) same e = (same entry.0 ∙ e.0, each_same value after named same e.1)
+
+pub rests-keep : RestsKeep
+rests-keep now after group taken sent row d (s, a) = (
+  s,
+  record {
+    parties = (each_same now.at after.at (parties_of s) all a.parties.0, λ name none. all name ∙ a.parties.1 name none);
+    leads = leads-stay now after group taken sent row d.leads (leads_of s) a.leads;
+    apart = a.apart;
+    sound = a.sound;
+  },
+)
+  where
+    own : after.at group ≡ now.at group
+    own = here-is (after.at group) (now.at group).bond (now.at group).work (now.at group).errands d.bond d.work
+        (own-idle now after group taken sent row d.takes ∙ (ap (λ l. (now.at group).errands ++ l) (d.sends.1 group tt) ∙ append-nil (now.at group).errands))
+
+    all : (name : Draw) → after.at name ≡ now.at name
+    all name = elim (cases-draw name group) [
+      | inl is ↦ ap after.at is ∙ (own ∙ ap now.at (sym is))
+      | inr ne ↦ other-same now after group taken sent row name ne (d.sends.1 name tt)
+    ]
+
+pub orders-begin : OrdersBegin
+orders-begin now after group taken sent row d a = (
+  Ordered group d.chief d.order,
+  record {
+    parties = ((own, tt), λ name none. other-same now after group taken sent row name none.0 (d.sends.1 name tt) ∙ a.parties.1 name tt);
+    leads = (d.leads, tt);
+    apart = (tt, tt);
+    sound = d.is_order;
+  },
+)
+  where
+    was : now.at group ≡ free
+    was = a.parties.1 group tt
+
+    own : after.at group ≡ having Unbound (d.order ∷ []) []
+    own = here-is (after.at group) Unbound (d.order ∷ []) [] (d.bond ∙ ap (λ (h : Here). h.bond) was) (d.work ∙ ap (λ (h : Here). h.work ++ d.order ∷ []) was)
+        (own-idle now after group taken sent row d.takes ∙ (ap (λ l. (now.at group).errands ++ l) (d.sends.1 group tt) ∙ ap (λ (h : Here). h.errands ++ []) was))

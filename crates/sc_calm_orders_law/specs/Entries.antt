@@ -1,0 +1,83 @@
+-- What the entries of an order make of a group's bond, and which errands its leader sends by them.
+use Rattle.std.specs.Prelude.{◌≡◌, ℕ, true, false, List, [], ◌∷◌, Option, Some, None, is_none}
+use Rattle.sc_base.specs.declared.names.Draw.{Draw}
+use Rattle.sc_cmd.specs.Cores.{is_alone}
+use Rattle.sc_cmd.specs.Effects.{is_changed, decided_in}
+use Rattle.sc_cmd.specs.declared.bodies.Body.{Body}
+use Rattle.sc_cmd.specs.declared.bodies.Body.TheVariants as At
+use Rattle.sc_cmd.specs.declared.bodies.Offer.{Offer}
+use Rattle.sc_cmd.specs.declared.bodies.Watch.{Watch}
+use Rattle.sc_cmd.specs.declared.commands.Command.{Command}
+use Rattle.sc_cmd.specs.declared.commands.Command.TheVariants.{Join, Leave, Split, Begin, Prepared, RecordVote, Finish, Watched, RecordWatch}
+use Rattle.sc_cmd.specs.declared.cores.Lock.TheVariants.{Free}
+use Rattle.sc_cmd.specs.declared.effects.Effect.{Effect}
+use Rattle.sc_cmd.specs.declared.votes.Frozen.{Frozen}
+use Rattle.sc_cmd.specs.declared.votes.No.{No}
+use Rattle.sc_cmd.specs.declared.votes.Outcome.{Outcome}
+use Rattle.sc_cmd.specs.declared.votes.Past.TheVariants as Cast
+use Rattle.sc_cmd.specs.declared.votes.Vote.TheVariants as Says
+use Rattle.sc_machine_table.specs.Group.{Group}
+use Rattle.sc_machine_table.specs.Machine.{applied}
+use Rattle.sc_machine_table.specs.Votes.{has_voted, vote_of, watch_vote_of}
+use Rattle.sc_member.specs.Roster.{least_of}
+use Rattle.sc_node_table.specs.Spoken.{before_of, went_on}
+use Rattle.sc_node_table.specs.declared.Before.{Before}
+use Rattle.sc_calm_orders_law.specs.Scenes.{Turn, First, Lone, Next, is_watch, Bond, Unbound, Asking, Bound, Errand, Question, Reply, IsOnly}
+use Rattle.sc_calm_orders_law.specs.Stages.{bound_by}
+use Rattle.sc_calm_orders_law.specs.Rows.{results}
+use Rattle.sc_calm_orders_law.specs.Parts.{bond_of, errands_for}
+
+-- what a group and the effect of a command are: the group has this bond, and a leader that counted the command sends these errands, and no others
+pub record Leaves (bond : Bond) (sent : List (Draw × List Errand)) (command : Command) (me : ℕ) (before : Before) (made : Group × Effect) : Type 0 where
+  pub bond_is : bond_of made.0.core ≡ bond
+  pub sends : IsOnly [] sent (λ name. errands_for name (went_on me made.0 before made.1 command []))
+
+-- .. of a command that a group executes
+abbrev pub EntryLeaves : Bond → List (Draw × List Errand) → Command → ℕ → Group → Type 0
+EntryLeaves bond sent command me group = Leaves bond sent command me (before_of group.core) (applied group command)
+
+-- the body of a transaction that is begun by an order
+abbrev pub IsBegun : Body → Type 0
+IsBegun At.Merge = Unit {0}
+IsBegun (At.Repart at) = Unit {0}
+IsBegun (At.Migrate node) = Unit {0}
+IsBegun (At.Split at child) = ⊥
+
+-- the orders of a group that is free: a join and a leave send nothing, a split of a group that is alone neither, nor does an order that is refused; another one asks the successor
+pub record OrdersLeave : Type 0 where
+  pub join : (node order me : ℕ) (group : Group) → group.core.lock ≡ Free → EntryLeaves Unbound [] (Join node order) me group
+  pub leave : (node order me : ℕ) (group : Group) → group.core.lock ≡ Free → EntryLeaves Unbound [] (Leave node order) me group
+  pub alone : (at : ℕ) (child : Draw) (order me : ℕ) (group : Group) → group.core.lock ≡ Free → is_alone group.core ≡ true → EntryLeaves Unbound [] (Split at child order) me group
+  pub split_not : (at : ℕ) (child : Draw) (order me : ℕ) (group : Group) → group.core.lock ≡ Free → is_changed (applied group (Split at child order)).1 ≡ false → EntryLeaves Unbound [] (Split at child order) me group
+  pub begin_not : (tx : Draw) (body : Body) (order me : ℕ) (group : Group) → group.core.lock ≡ Free → is_changed (applied group (Begin tx body order)).1 ≡ false → EntryLeaves Unbound [] (Begin tx body order) me group
+  pub split : (at : ℕ) (child : Draw) (order me : ℕ) (group : Group) → is_alone group.core ≡ false → is_changed (applied group (Split at child order)).1 ≡ true
+      → EntryLeaves (Asking child group.core.succ.group Lone) ((group.core.succ.group, Question child group.core.id true me (least_of group.core.succ.members) ∷ []) ∷ []) (Split at child order) me group
+  pub begin : (tx : Draw) (body : Body) (order me : ℕ) (group : Group) → IsBegun body → is_changed (applied group (Begin tx body order)).1 ≡ true
+      → EntryLeaves (Asking tx group.core.succ.group First) ((group.core.succ.group, Question tx group.core.id false me (least_of group.core.succ.members) ∷ []) ∷ []) (Begin tx body order) me group
+
+-- a group that is free and has not voted yet votes
+pub record VotesLeave : Type 0 where
+  pub prepared : (tx : Draw) (offer : Offer) (why : Option No) (me : ℕ) (group : Group) → group.core.lock ≡ Free → has_voted group.core tx ≡ false → vote_of group.core offer ≡ why
+      → EntryLeaves (bound_by (is_none why) tx) ((offer.coord, Reply tx false (is_none why) me offer.by ∷ []) ∷ []) (Prepared tx offer) me group
+  pub watched : (tx : Draw) (watch : Watch) (me : ℕ) (group : Group) → has_voted group.core tx ≡ false → watch_vote_of group.core watch ≡ None
+      → EntryLeaves (bound_by true tx) ((watch.coord, Reply tx true true me watch.by ∷ []) ∷ []) (Watched tx watch) me group
+
+-- a coordinator that asks its participant records the vote: a No aborts; a Yes decides, where the plan can be made, or is heard
+pub record RecordsLeave : Type 0 where
+  pub no : (tx asked : Draw) (why : No) (by me : ℕ) (group : Group) → bond_of group.core ≡ Asking tx asked First → EntryLeaves Unbound [] (RecordVote tx (Says.No why) by) me group
+  pub decides : (tx asked : Draw) (frozen : Frozen) (outcome : Outcome) (by me : ℕ) (group : Group) → bond_of group.core ≡ Asking tx asked First
+      → decided_in (applied group (RecordVote tx (Says.Yes frozen) by)).1 ≡ Some outcome → EntryLeaves Unbound (results tx asked First by) (RecordVote tx (Says.Yes frozen) by) me group
+  pub hears : (tx asked : Draw) (frozen : Frozen) (by me : ℕ) (group : Group) → bond_of group.core ≡ Asking tx asked First → is_changed (applied group (RecordVote tx (Says.Yes frozen) by)).1 ≡ true
+      → EntryLeaves (Asking tx frozen.succ.group (Next asked by)) ((frozen.succ.group, Question tx group.core.id true me (least_of frozen.succ.members) ∷ []) ∷ []) (RecordVote tx (Says.Yes frozen) by) me group
+
+-- one that asks a watcher records its Yes, which decides, where the plan can be made: of a split nothing was heard, and a watcher is no participant
+abbrev pub WatchRecordsLeave : Type 0
+WatchRecordsLeave =
+    (tx asked : Draw) (turn : Turn) (outcome : Outcome) (by me : ℕ) (group : Group) → bond_of group.core ≡ Asking tx asked turn → is_watch turn ≡ true
+    → (turn ≡ Lone → (before_of group.core).heard ≡ None) → ((part : Draw) (host : ℕ) → turn ≡ Next part host → part ≡ asked → ⊥)
+    → decided_in (applied group (RecordWatch tx Cast.Yes by)).1 ≡ Some outcome → EntryLeaves Unbound (results tx asked turn by) (RecordWatch tx Cast.Yes by) me group
+
+-- a party takes its outcome, if it can
+abbrev pub EndsLeave : Type 0
+EndsLeave =
+    (tx : Draw) (outcome done : Outcome) (me : ℕ) (group : Group) → bond_of group.core ≡ Bound tx → decided_in (applied group (Finish tx outcome)).1 ≡ Some done → EntryLeaves Unbound [] (Finish tx outcome) me group

@@ -1,0 +1,7 @@
+pub mod Parts
+pub mod Rows
+pub mod Scenes
+pub mod Stages
+pub mod Tables
+pub mod Entries
+pub mod Running

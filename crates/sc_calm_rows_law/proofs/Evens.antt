@@ -1,0 +1,40 @@
+-- A group that follows its leader is even in a quiet journal.
+use Rattle.std.proofs.Common.{◌≡◌, ℕ, true, false, List, [], inl, inr, ap, subst}
+use Rattle.std.proofs.lemmas.Bool.{cases_Bool}
+use Rattle.sc_cmd.specs.declared.cores.Base.{Base}
+use Rattle.sc_member.specs.Roster.{IsRoster}
+use Rattle.sc_actor.specs.declared.actors.Seat.{Seat}
+use Rattle.sc_actor.specs.Walk.{is_quiet}
+use Rattle.sc_orderly_law.specs.Orderly.{is_born}
+use Rattle.sc_orderly_law.specs.Timely.{AreInTime}
+use Rattle.sc_orderly_law.proofs.InTime.{in_time_tidy}
+use Rattle.sc_orderly_law.proofs.Resting.{quiet-empty}
+use Rattle.sc_sound.specs.Players.{Player}
+use Rattle.sc_calm_law.specs.Charts.{players}
+use Rattle.sc_calm_law.specs.Totals.{Rows}
+use Rattle.sc_following_law.specs.Following.{marks_of, Course, Sets, IsEven, IsEvenLed}
+use Rattle.sc_following_law.proofs.InQuiet.{quiet-even}
+use Rattle.sc_calm_rows_law.specs.Evens.{IsEvenAt, QuietGroupsRest}
+use Rattle.sc_calm_rows_law.specs.Groups.{progress_at, marks_at, IsLedBy, IsFollowedAt}
+
+module _ (at : Sets) (words : ℕ → ℕ → ℕ × ℕ) (births : List (Seat Player)) (rows : Rows) (base : Base) (course : Course) (rosters : (slot : ℕ) → IsRoster (at slot)) (timely : AreInTime (players words births) rows)
+    (quiet : is_quiet (players words births) rows ≡ true) (strangers : (who : ℕ) → is_born (players words births) who ≡ false → marks_at (players words births) rows base.core.id who ≡ []) (was : IsFollowedAt at words births rows base course) where
+  none : (who : ℕ) → marks_at (players words births) rows base.core.id who ≡ []
+  none who = elim (cases_Bool (is_born (players words births) who)) [
+    | inl t ↦ ap (marks_of base.core.id) (quiet-empty (players words births) rows who (in_time_tidy (players words births) rows timely) t quiet)
+    | inr f ↦ strangers who f
+  ]
+
+  both : IsEven at (progress_at births rows base course) × (course.gone ≡ false → IsEvenLed at (progress_at births rows base course))
+  both = quiet-even at (progress_at births rows base course) (marks_at (players words births) rows base.core.id) rosters none was.follows
+
+  rests : IsEvenAt at births rows base course
+  rests = record {
+    even = both.0;
+    led = both.1;
+    lead = λ stands r e. (was.given.gives course.ballot.node r e (subst (IsLedBy base course) e (was.given.runs (both.1 stands).runs))).0;
+    alone = λ node r e runs. (was.given.gives node r e runs).1;
+  }
+
+pub quiet_rests : QuietGroupsRest
+quiet_rests at words births rows base course rosters timely quiet strangers was = rests at words births rows base course rosters timely quiet strangers was

@@ -1,0 +1,43 @@
+-- A row that does nothing in a group leaves it following its leader, also where a replica is born.
+use Rattle.std.proofs.Common.{◌≡◌, ℕ, ◌+◌, ◌<◌, true, List, None, inl, inr, sym, ◌∙◌, ap, subst, arith}
+use Rattle.sc_cmd.specs.declared.cores.Base.{Base}
+use Rattle.sc_cmd.specs.declared.orders.OrderLine.{OrderLine}
+use Rattle.sc_member.specs.Roster.{IsRoster, is_member}
+use Rattle.sc_actor.specs.declared.actors.Seat.{Seat}
+use Rattle.sc_actor.specs.declared.rows.Event.{Event}
+use Rattle.sc_orderly_law.specs.Timely.{AreInTime}
+use Rattle.sc_node_table.specs.Slots.{slots_ahead}
+use Rattle.sc_sound.specs.Players.{Player}
+use Rattle.sc_calm_law.specs.Charts.{players}
+use Rattle.sc_calm_law.specs.Totals.{Rows}
+use Rattle.sc_following_law.specs.Following.{Course, Sets}
+use Rattle.sc_calm_rows_law.specs.Groups.{view_at, begun_course, IsLedBy, IsFollowedAt}
+use Rattle.sc_calm_rows_law.specs.Kept.{LeavesLead, OthersKeepFollowing}
+use Rattle.sc_calm_rows_law.specs.Turns.{with_event, IsBornOr, LeavesAlone, LeavesOrBears}
+use Rattle.sc_calm_rows_law.proofs.Keeping.{rows_keep}
+use Rattle.sc_calm_rows_law.proofs.Staying.{leads_stay}
+
+module _ (at : Sets) (words : ℕ → ℕ → ℕ × ℕ) (births : List (Seat Player)) (rows : Rows) (seat : Seat Player) (event : Event OrderLine) (base : Base) (course : Course) (rosters : (slot : ℕ) → IsRoster (at slot))
+    (timely : AreInTime (players words births) (with_event rows seat event)) (was : IsFollowedAt at words births rows base course) where
+  alone : LeavesAlone births rows seat event base → IsFollowedAt at words births (with_event rows seat event) base course
+  alone leaves = rows_keep.idle at words births rows seat event base course rosters timely was (leads_stay.same at words births rows seat event base course was leaves.view) (leaves.idle course)
+
+  module _ (same : (slot : ℕ) → slot < 1 + slots_ahead → at slot ≡ base.core.members) (first : is_member base.core.members base.core.first ≡ true) (stands : base.core.gone ≡ None)
+      (young : view_at births rows base.core.id base.core.first ≡ None → course ≡ begun_course base) where
+    leaves_by : IsBornOr base seat.who (view_at births (with_event rows seat event) base.core.id seat.who) (view_at births rows base.core.id seat.who) → LeavesLead at births rows seat event base course
+    leaves_by (inl stays) = leads_stay.same at words births rows seat event base course was stays
+    leaves_by (inr makes) =
+        leads_stay.born at births rows seat event base course same (subst IsRoster (same 0 (omega arith)) (rosters 0)) first stands (λ who. young (ap (view_at births rows base.core.id) (sym who) ∙ makes.0))
+        (λ runs mine.
+        (let begins : course ≡ begun_course base = subst (IsLedBy base course) makes.0 (subst (λ n. IsLedBy base course (view_at births rows base.core.id n)) (sym mine) (was.given.runs runs)) in
+        mine ∙ ap (λ (c : Course). c.ballot.node) begins))
+        makes.1
+
+    bears : LeavesOrBears births rows seat event base → IsFollowedAt at words births (with_event rows seat event) base course
+    bears leaves = rows_keep.idle at words births rows seat event base course rosters timely was (leaves_by leaves.view) (leaves.idle course)
+
+pub others_keep : OthersKeepFollowing
+others_keep = record {
+  alone = λ at words births rows seat event base course rosters timely was leaves. alone at words births rows seat event base course rosters timely was leaves;
+  bears = λ at words births rows seat event base course rosters timely was same first stands young leaves. bears at words births rows seat event base course rosters timely was same first stands young leaves;
+}

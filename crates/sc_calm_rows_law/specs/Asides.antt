@@ -1,0 +1,23 @@
+-- What a replica that does not run does by mail that is no part of the agreement, and by an order.
+use Rattle.std.specs.Prelude.{◌≡◌, ℕ, false, []}
+use Rattle.sc_base.specs.Drawing.{Drawer}
+use Rattle.sc_base.specs.declared.names.Draw.{Draw}
+use Rattle.sc_cmd.specs.declared.orders.OrderLine.{OrderLine}
+use Rattle.sc_mail.specs.declared.bodies.MailBody.{MailBody}
+use Rattle.sc_node_table.specs.Ordering.{ordered_row}
+use Rattle.sc_node_table.specs.Replica.{ReplicaState, Place, next}
+use Rattle.sc_node_table.specs.Rows.{mailed}
+use Rattle.sc_following_law.specs.Leading.{IsAside}
+use Rattle.sc_following_law.specs.Tables.{marks_for}
+
+-- it stays where it is, does not run, and sends nothing of the group
+pub record IsUnmoved (name : Draw) (r : ReplicaState) (after : Place) : Type 0 where
+  pub next_is : next after.0 ≡ next r
+  pub promise_is : after.0.acceptor.promised ≡ r.acceptor.promised
+  pub off : after.0.running ≡ false
+  pub silent : (who : ℕ) → marks_for name who after.1 ≡ []
+
+-- .. whatever such mail it takes, and whatever it is told
+pub record AsidesStayStill : Type 0 where
+  pub mailed : (from : ℕ) (body : MailBody) (r : ReplicaState) → r.running ≡ false → IsAside r body → (name : Draw) → IsUnmoved name r (mailed from body (r, [])).0
+  pub ordered : (drawer : Drawer) (line : OrderLine) (r : ReplicaState) → r.running ≡ false → (name : Draw) → IsUnmoved name r (ordered_row drawer line (r, []))

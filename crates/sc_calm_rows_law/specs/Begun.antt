@@ -1,0 +1,26 @@
+-- How groups begin, over players: those of a scenario at its birth, and the child of a split before that.
+use Rattle.std.specs.Prelude.{◌≡◌, ℕ, true, List, [], None}
+use Rattle.sc_base.specs.Among.{Among}
+use Rattle.sc_cmd.specs.declared.cores.Base.{Base}
+use Rattle.sc_member.specs.Roster.{is_member}
+use Rattle.sc_actor.specs.declared.actors.Seat.{Seat}
+use Rattle.sc_scenario.specs.Valid.{IsBounded}
+use Rattle.sc_scenario.specs.declared.scenarios.Scenario.{Scenario}
+use Rattle.sc_sound.specs.Players.{Player, births, as_nodes}
+use Rattle.sc_calm_law.specs.Charts.{players}
+use Rattle.sc_calm_law.specs.Totals.{Rows}
+use Rattle.sc_calm_rows_law.specs.Groups.{view_at, marks_at, begun_course, IsFollowedAt}
+
+-- a group follows its first member, with the members that it began with, as at its birth
+abbrev pub BeginsFollowing : (ℕ → ℕ → ℕ × ℕ) → List (Seat Player) → Rows → Base → Type 0
+BeginsFollowing words seats rows base = IsFollowedAt (λ slot. base.core.members) words seats rows base (begun_course base)
+
+-- Each group of a bounded scenario begins so: its members' nodes have replicas, with nothing executed, its first member leads, and no mail is under way.
+abbrev pub ScenariosBeginFollowing : Type 0
+ScenariosBeginFollowing = (words : ℕ → ℕ → ℕ × ℕ) (scenario : Scenario) (base : Base) → IsBounded scenario → Among base scenario.groups → BeginsFollowing words (births as_nodes scenario) [] base
+
+-- So does a group that is still to be born, the first of whose members is one: where no node has a replica of it yet, and no mail of it is under way.
+abbrev pub ChildrenBeginFollowing : Type 0
+ChildrenBeginFollowing =
+    (words : ℕ → ℕ → ℕ × ℕ) (seats : List (Seat Player)) (rows : Rows) (base : Base) → is_member base.core.members base.core.first ≡ true
+    → ((who : ℕ) → view_at seats rows base.core.id who ≡ None) → ((who : ℕ) → marks_at (players words seats) rows base.core.id who ≡ []) → BeginsFollowing words seats rows base

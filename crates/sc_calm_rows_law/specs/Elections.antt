@@ -1,0 +1,52 @@
+-- That a node which elects itself leads its group, and the group follows it.
+use Rattle.std.specs.Prelude.{◌≡◌, ℕ, suc, ◌≤◌, true, false, List, [], length}
+use Rattle.sc_cmd.specs.declared.commands.Command.{Command}
+use Rattle.sc_cmd.specs.declared.cores.Base.{Base}
+use Rattle.sc_mail.specs.declared.bodies.Mail.{Mail}
+use Rattle.sc_mail.specs.declared.bodies.MailBody.TheVariants.{Learn}
+use Rattle.sc_member.specs.Roster.{is_member}
+use Rattle.sc_actor.specs.declared.actors.Seat.{Seat}
+use Rattle.sc_paxos_words.specs.Ballots.{below}
+use Rattle.sc_node_table.specs.Execute.{entered}
+use Rattle.sc_node_table.specs.Node.{NodeState, is_node}
+use Rattle.sc_node_table.specs.Replica.{ReplicaState, name_of, next, members, last_slot}
+use Rattle.sc_node_table.specs.Rows.{mailed}
+use Rattle.sc_node_table.specs.Slots.{slots_ahead}
+use Rattle.sc_sound.specs.Players.{Player}
+use Rattle.sc_calm_law.specs.Totals.{Rows}
+use Rattle.sc_following_law.specs.Following.{Course, Sets, members_at}
+use Rattle.sc_following_law.specs.Offers.{AreAt}
+use Rattle.sc_following_law.specs.Tables.{MayElect, next_ballot}
+use Rattle.sc_calm_rows_law.specs.Mailed.{IsScene, TakesMail, HoldsReplica, FollowsAfter}
+use Rattle.sc_calm_rows_law.specs.Steps.{elected_course}
+
+-- a replica has executed an entry, whoever leads: its state and the members of its open slots are those after the entry, and nothing is ready
+pub record IsPast (command : Command) (r after : ReplicaState) : Type 0 where
+  pub group_is : after.group ≡ (entered command r).group
+  pub sets_are : after.sets ≡ (entered command r).sets
+  pub me_is : after.me ≡ r.me
+  pub ready_is : after.ready ≡ []
+
+-- so has one with nothing ready that is told the next entry
+abbrev pub ToldEntriesAreTaken : Type 0
+ToldEntriesAreTaken = (from slot : ℕ) (command : Command) (r : ReplicaState) → slot ≡ next r → slot ≤ last_slot → r.ready ≡ [] → IsPast command r (mailed from (Learn (name_of r) slot command) (r, [])).0.0
+
+-- None leads a group that stands, and a replica is the one to lead it next: the entry at a slot is the last one, after it the members and the open slots are the group's, it may elect itself by it, and its ballot is a later one.
+pub record IsNextLead (at : Sets) (course : Course) (slot : ℕ) (command : Command) (r : ReplicaState) : Type 0 where
+  pub idle : course.runs ≡ false
+  pub stands : course.gone ≡ false
+  pub low : slot ≤ last_slot
+  pub last : suc slot ≡ course.newest
+  pub may : MayElect (entered command r)
+  pub members_are : members_at at course.newest ≡ members (entered command r)
+  pub opens : AreAt at course.newest (entered command r).sets
+  pub many : length (entered command r).sets ≡ slots_ahead
+  pub nodes : (slot node : ℕ) → is_member (at slot) node ≡ true → is_node node ≡ true
+  pub later : below course.ballot (next_ballot r) ≡ true
+
+-- one that is told that entry leads the group then
+abbrev pub ElectionsKeepFollowing : Type 0
+ElectionsKeepFollowing =
+    (at : Sets) (words : ℕ → ℕ → ℕ × ℕ) (births : List (Seat Player)) (rows : Rows) (seat : Seat Player) (number : ℕ) (mail : Mail) (node : NodeState) (base : Base) (course : Course) (r : ReplicaState) (slot : ℕ) (command : Command)
+    → IsScene at words births rows seat node base course → TakesMail words births rows seat number mail → HoldsReplica seat node base r → mail.body ≡ Learn base.core.id slot command → IsNextLead at course slot command r
+    → FollowsAfter at words births rows seat number base (elected_course course (next_ballot r))

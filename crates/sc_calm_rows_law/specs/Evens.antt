@@ -1,0 +1,28 @@
+-- What a group that follows its leader is in a quiet journal.
+use Rattle.std.specs.Prelude.{◌≡◌, ℕ, true, false, List, [], Some}
+use Rattle.sc_cmd.specs.declared.cores.Base.{Base}
+use Rattle.sc_member.specs.Roster.{IsRoster}
+use Rattle.sc_actor.specs.declared.actors.Seat.{Seat}
+use Rattle.sc_actor.specs.Walk.{is_quiet}
+use Rattle.sc_orderly_law.specs.Orderly.{is_born}
+use Rattle.sc_orderly_law.specs.Timely.{AreInTime}
+use Rattle.sc_node_table.specs.Replica.{ReplicaState}
+use Rattle.sc_sound.specs.Players.{Player}
+use Rattle.sc_calm_law.specs.Charts.{players}
+use Rattle.sc_calm_law.specs.Totals.{Rows}
+use Rattle.sc_following_law.specs.Following.{Course, Sets, IsEven, IsEvenLed}
+use Rattle.sc_following_law.specs.Leading.{IsLeadOf}
+use Rattle.sc_calm_rows_law.specs.Groups.{view_at, progress_at, marks_at, IsFollowedAt}
+
+-- All members of the group have executed all; and if it stands, the replica at the node of its ballot leads, to which each node of an open slot has promised, and no other runs.
+pub record IsEvenAt (at : Sets) (births : List (Seat Player)) (rows : Rows) (base : Base) (course : Course) : Type 0 where
+  pub even : IsEven at (progress_at births rows base course)
+  pub led : course.gone ≡ false → IsEvenLed at (progress_at births rows base course)
+  pub lead : course.gone ≡ false → (r : ReplicaState) → view_at births rows base.core.id course.ballot.node ≡ Some r → IsLeadOf at (progress_at births rows base course) r
+  pub alone : (node : ℕ) (r : ReplicaState) → view_at births rows base.core.id node ≡ Some r → r.running ≡ true → node ≡ course.ballot.node
+
+-- so it is in a quiet journal, where no mail of it is for who is no actor
+abbrev pub QuietGroupsRest : Type 0
+QuietGroupsRest =
+    (at : Sets) (words : ℕ → ℕ → ℕ × ℕ) (births : List (Seat Player)) (rows : Rows) (base : Base) (course : Course) → ((slot : ℕ) → IsRoster (at slot)) → AreInTime (players words births) rows → is_quiet (players words births) rows ≡ true
+    → ((who : ℕ) → is_born (players words births) who ≡ false → marks_at (players words births) rows base.core.id who ≡ []) → IsFollowedAt at words births rows base course → IsEvenAt at births rows base course

@@ -1,0 +1,77 @@
+-- What keeps a group following its leader, row by row.
+use Rattle.std.specs.Prelude.{◌≡◌, ℕ, ◌+◌, ◌<◌, true, false, List, [], Some, None}
+use Rattle.sc_cmd.specs.declared.commands.Command.{Command}
+use Rattle.sc_base.specs.declared.names.Ballot.{Ballot}
+use Rattle.sc_cmd.specs.declared.cores.Base.{Base}
+use Rattle.sc_cmd.specs.declared.orders.OrderLine.{OrderLine}
+use Rattle.sc_mail.specs.declared.bodies.MailBody.TheVariants.{Prepare, Accept}
+use Rattle.sc_member.specs.Roster.{IsRoster, is_member}
+use Rattle.sc_actor.specs.declared.actors.Seat.{Seat}
+use Rattle.sc_actor.specs.declared.rows.Event.{Event}
+use Rattle.sc_orderly_law.specs.Timely.{AreInTime}
+use Rattle.sc_node_table.specs.Replica.{ReplicaState, Place, name_of, born_replica}
+use Rattle.sc_node_table.specs.Rows.{mailed}
+use Rattle.sc_node_table.specs.Slots.{slots_ahead}
+use Rattle.sc_law_lemmas.specs.Steps.{GoesOn}
+use Rattle.sc_sound.specs.Players.{Player}
+use Rattle.sc_calm_law.specs.Charts.{players}
+use Rattle.sc_calm_law.specs.Totals.{Rows}
+use Rattle.sc_following_law.specs.Following.{Course, Sets}
+use Rattle.sc_following_law.specs.Leading.{IsLeadOf}
+use Rattle.sc_following_law.specs.Rows.{IsIdle, Takes, Elects}
+use Rattle.sc_calm_rows_law.specs.Groups.{view_at, progress_at, begun_course, IsLedBy, IsFollowedAt}
+use Rattle.sc_calm_rows_law.specs.Steps.{led_course, elected_course, LedBy}
+use Rattle.sc_calm_rows_law.specs.Turns.{with_event, IsKind, LeavesAlone, LeavesOrBears, IsReplicasRow}
+
+-- the node that acts has a replica that leads in the course only where the course says so, and where it does, one that runs or is yet to be made
+pub record LeavesLead (at : Sets) (births : List (Seat Player)) (rows : Rows) (seat : Seat Player) (event : Event OrderLine) (base : Base) (course : Course) : Type 0 where
+  pub own : (r : ReplicaState) → view_at births (with_event rows seat event) base.core.id seat.who ≡ Some r → r.running ≡ true → IsLeadOf at (progress_at births (with_event rows seat event) base course) r × (seat.who ≡ course.ballot.node)
+  pub runs : course.runs ≡ true → seat.who ≡ course.ballot.node → IsLedBy base course (view_at births (with_event rows seat event) base.core.id seat.who)
+
+-- The replica that leads is left as it is ..
+pub record LeadsStay : Type 0 where
+  -- .. where the node's replica stays
+  pub same : (at : Sets) (words : ℕ → ℕ → ℕ × ℕ) (births : List (Seat Player)) (rows : Rows) (seat : Seat Player) (event : Event OrderLine) (base : Base) (course : Course) → IsFollowedAt at words births rows base course
+      → view_at births (with_event rows seat event) base.core.id seat.who ≡ view_at births rows base.core.id seat.who → LeavesLead at births rows seat event base course
+  -- .. where another leads, or none, and the node's replica does not begin to
+  pub quiet : (at : Sets) (births : List (Seat Player)) (rows : Rows) (seat : Seat Player) (event : Event OrderLine) (base : Base) (course : Course) (r : ReplicaState)
+      → view_at births (with_event rows seat event) base.core.id seat.who ≡ Some r → r.running ≡ false → (course.runs ≡ true → seat.who ≡ course.ballot.node → ⊥) → LeavesLead at births rows seat event base course
+  -- .. where the node makes its replica at the group's birth
+  pub born : (at : Sets) (births : List (Seat Player)) (rows : Rows) (seat : Seat Player) (event : Event OrderLine) (base : Base) (course : Course) → ((slot : ℕ) → slot < 1 + slots_ahead → at slot ≡ base.core.members)
+      → IsRoster base.core.members → is_member base.core.members base.core.first ≡ true → base.core.gone ≡ None → (seat.who ≡ base.core.first → course ≡ begun_course base) → (course.runs ≡ true → seat.who ≡ course.ballot.node → seat.who ≡ base.core.first)
+      → view_at births (with_event rows seat event) base.core.id seat.who ≡ Some (born_replica slots_ahead seat.who base) → LeavesLead at births rows seat event base course
+  -- .. and where it is the one that leads, and is asked itself to accept something
+  pub accepts : (at : Sets) (words : ℕ → ℕ → ℕ × ℕ) (births : List (Seat Player)) (rows : Rows) (seat : Seat Player) (event : Event OrderLine) (base : Base) (course : Course) (from slot : ℕ) (ballot : Ballot) (command : Command) (r : ReplicaState)
+      → IsFollowedAt at words births rows base course → r.me ≡ seat.who → GoesOn ballot r → IsReplicasRow births rows seat event base.core.id (Some r) (mailed from (Accept (name_of r) ballot slot command) (r, [])).0 → LeavesLead at births rows seat event base course
+  -- .. or to promise a ballot
+  pub promises : (at : Sets) (words : ℕ → ℕ → ℕ × ℕ) (births : List (Seat Player)) (rows : Rows) (seat : Seat Player) (event : Event OrderLine) (base : Base) (course : Course) (from from_slot : ℕ) (ballot : Ballot) (r : ReplicaState)
+      → IsFollowedAt at words births rows base course → r.me ≡ seat.who → GoesOn ballot r → IsReplicasRow births rows seat event base.core.id (Some r) (mailed from (Prepare (name_of r) ballot from_slot) (r, [])).0 → LeavesLead at births rows seat event base course
+
+-- A group that follows its leader does so after each row that comes in time ..
+pub record RowsKeepFollowing : Type 0 where
+  -- .. that does nothing in it
+  pub idle : (at : Sets) (words : ℕ → ℕ → ℕ × ℕ) (births : List (Seat Player)) (rows : Rows) (seat : Seat Player) (event : Event OrderLine) (base : Base) (course : Course) → ((slot : ℕ) → IsRoster (at slot))
+      → AreInTime (players words births) (with_event rows seat event) → IsFollowedAt at words births rows base course → LeavesLead at births rows seat event base course → IsKind IsIdle births rows seat event base course course
+      → IsFollowedAt at words births (with_event rows seat event) base course
+  -- .. in which a node takes a mail
+  pub takes : (at : Sets) (words : ℕ → ℕ → ℕ × ℕ) (births : List (Seat Player)) (rows : Rows) (seat : Seat Player) (event : Event OrderLine) (base : Base) (course : Course) → ((slot : ℕ) → IsRoster (at slot))
+      → AreInTime (players words births) (with_event rows seat event) → IsFollowedAt at words births rows base course → LeavesLead at births rows seat event base course → IsKind (Takes at) births rows seat event base course course
+      → IsFollowedAt at words births (with_event rows seat event) base course
+  -- .. of its leader
+  pub leads : (at : Sets) (words : ℕ → ℕ → ℕ × ℕ) (births : List (Seat Player)) (rows : Rows) (seat : Seat Player) (event : Event OrderLine) (base : Base) (course : Course) (r : ReplicaState) (after : Place) → ((slot : ℕ) → IsRoster (at slot))
+      → AreInTime (players words births) (with_event rows seat event) → IsFollowedAt at words births rows base course → IsReplicasRow births rows seat event base.core.id (Some r) after → (led : LedBy at births rows seat event base course after)
+      → IsFollowedAt at words births (with_event rows seat event) base (led_course led.bound course after.0)
+  -- .. in which one elects itself that then leads in the course after it
+  pub elects : (at : Sets) (words : ℕ → ℕ → ℕ × ℕ) (births : List (Seat Player)) (rows : Rows) (seat : Seat Player) (event : Event OrderLine) (base : Base) (course : Course) (ballot : Ballot) (r : ReplicaState) (after : Place) → ((slot : ℕ) → IsRoster (at slot))
+      → AreInTime (players words births) (with_event rows seat event) → IsFollowedAt at words births rows base course → IsReplicasRow births rows seat event base.core.id (Some r) after
+      → IsKind (Elects at) births rows seat event base course (elected_course course ballot) → after.0.running ≡ true → IsLeadOf at (progress_at births (with_event rows seat event) base (elected_course course ballot)) after.0
+      → IsFollowedAt at words births (with_event rows seat event) base (elected_course course ballot)
+
+-- So it does after an event that does nothing in it ..
+pub record OthersKeepFollowing : Type 0 where
+  pub alone : (at : Sets) (words : ℕ → ℕ → ℕ × ℕ) (births : List (Seat Player)) (rows : Rows) (seat : Seat Player) (event : Event OrderLine) (base : Base) (course : Course) → ((slot : ℕ) → IsRoster (at slot))
+      → AreInTime (players words births) (with_event rows seat event) → IsFollowedAt at words births rows base course → LeavesAlone births rows seat event base → IsFollowedAt at words births (with_event rows seat event) base course
+  -- .. or makes a replica at the group's birth, which goes on as it began until its first member's node has one
+  pub bears : (at : Sets) (words : ℕ → ℕ → ℕ × ℕ) (births : List (Seat Player)) (rows : Rows) (seat : Seat Player) (event : Event OrderLine) (base : Base) (course : Course) → ((slot : ℕ) → IsRoster (at slot))
+      → AreInTime (players words births) (with_event rows seat event) → IsFollowedAt at words births rows base course → ((slot : ℕ) → slot < 1 + slots_ahead → at slot ≡ base.core.members) → is_member base.core.members base.core.first ≡ true → base.core.gone ≡ None
+      → (view_at births rows base.core.id base.core.first ≡ None → course ≡ begun_course base) → LeavesOrBears births rows seat event base → IsFollowedAt at words births (with_event rows seat event) base course

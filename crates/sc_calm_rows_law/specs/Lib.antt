@@ -1,0 +1,12 @@
+pub mod Asides
+pub mod Begun
+pub mod Elections
+pub mod Evens
+pub mod Groups
+pub mod Kept
+pub mod Mailed
+pub mod Senders
+pub mod Steps
+pub mod Through
+pub mod Turns
+pub mod WellKept

@@ -1,0 +1,60 @@
+-- Who sends what asks to accept or to promise: the node of its ballot.
+use Rattle.std.specs.Prelude.{◌≡◌, ℕ, true, List}
+use Rattle.sc_base.specs.Among.{Each}
+use Rattle.sc_mail.specs.declared.bodies.Mail.{Mail}
+use Rattle.sc_mail.specs.declared.bodies.MailBody.{MailBody}
+use Rattle.sc_mail.specs.declared.bodies.MailBody.TheVariants.{Request, Answer, Prepare, Promise, Accept, Accepted, Nack, Learn, Ask, Install, TxPrepare, TxVote, TxOutcome, TxElsewhere, TxWatch, TxWatched, Told}
+use Rattle.sc_actor.specs.declared.actors.Seat.{Seat}
+use Rattle.sc_actor.specs.Mail.{mails}
+use Rattle.sc_orderly_law.specs.Timely.{AreInTime}
+use Rattle.sc_mail.specs.declared.roles.Role.TheVariants.{Node, Client}
+use Rattle.sc_node_table.specs.Replica.{ReplicaState}
+use Rattle.sc_scenario.specs.declared.scenarios.Scenario.{Scenario}
+use Rattle.sc_sound.specs.Players.{Player, births, as_nodes}
+use Rattle.sc_calm_law.specs.Charts.{players}
+use Rattle.sc_calm_law.specs.Totals.{Rows}
+
+-- a body from a node: what it asks to accept or to promise is of a ballot of that node
+abbrev pub IsOwnAsking : ℕ → MailBody → Type 0
+IsOwnAsking from (Accept group ballot slot command) = from ≡ ballot.node
+IsOwnAsking from (Prepare group ballot from_slot) = from ≡ ballot.node
+IsOwnAsking from (Accepted group ballot slot) = Unit {0}
+IsOwnAsking from (Learn group slot command) = Unit {0}
+IsOwnAsking from (Install group slot base sets) = Unit {0}
+IsOwnAsking from (Promise group ballot reports) = Unit {0}
+IsOwnAsking from (Nack group promised) = Unit {0}
+IsOwnAsking from (Ask group from_slot) = Unit {0}
+IsOwnAsking from (Request group client seq op) = Unit {0}
+IsOwnAsking from (Answer group seq answer) = Unit {0}
+IsOwnAsking from (TxPrepare tx offer) = Unit {0}
+IsOwnAsking from (TxVote tx coord part vote) = Unit {0}
+IsOwnAsking from (TxOutcome tx part outcome) = Unit {0}
+IsOwnAsking from (TxElsewhere tx coord hint) = Unit {0}
+IsOwnAsking from (TxWatch tx watch) = Unit {0}
+IsOwnAsking from (TxWatched tx coord part vote) = Unit {0}
+IsOwnAsking from (Told order result) = Unit {0}
+
+-- .. a mail
+abbrev pub IsOwnMail : Mail → Type 0
+IsOwnMail mail = IsOwnAsking mail.from mail.body
+
+-- .. each of some
+abbrev pub AreOwn : List Mail → Type 0
+AreOwn mails = Each IsOwnMail mails
+
+-- a replica that runs does so with a ballot of its own
+abbrev pub RunsAlone : ReplicaState → Type 0
+RunsAlone r = r.running ≡ true → r.me ≡ r.leader.ballot.node
+
+-- .. each of a player
+abbrev pub PlaysAlone : Player → Type 0
+PlaysAlone (Node node) = Each RunsAlone node.replicas
+PlaysAlone (Client client) = Unit {0}
+
+-- Where it is so at the births, all mail of a journal whose rows come in time is.
+abbrev pub BallotsAreOwn : Type 0
+BallotsAreOwn = (words : ℕ → ℕ → ℕ × ℕ) (births : List (Seat Player)) (rows : Rows) → Each (λ seat. PlaysAlone seat.actor) births → AreInTime (players words births) rows → AreOwn (mails rows)
+
+-- at the births of a scenario it is so
+abbrev pub BirthsPlayAlone : Type 0
+BirthsPlayAlone = (scenario : Scenario) → Each (λ seat. PlaysAlone seat.actor) (births as_nodes scenario)

@@ -1,0 +1,26 @@
+-- That a group follows its leader through a journal, where each row keeps it so.
+use Rattle.std.specs.Prelude.{◌≡◌, ℕ, List, [], ◌++◌}
+use Rattle.sc_cmd.specs.declared.cores.Base.{Base}
+use Rattle.sc_cmd.specs.declared.orders.OrderLine.{OrderLine}
+use Rattle.sc_actor.specs.declared.actors.Seat.{Seat}
+use Rattle.sc_actor.specs.declared.rows.Event.{Event}
+use Rattle.sc_orderly_law.specs.Orderly.{IsCalmEvent}
+use Rattle.sc_orderly_law.specs.Timely.{AreInTime}
+use Rattle.sc_sound.specs.Players.{Player}
+use Rattle.sc_calm_law.specs.Charts.{players}
+use Rattle.sc_calm_law.specs.Totals.{Rows}
+use Rattle.sc_following_law.specs.Following.{Course, Sets}
+use Rattle.sc_calm_rows_law.specs.Groups.{IsFollowedAt, FollowsOn}
+use Rattle.sc_calm_rows_law.specs.Turns.{IsSeat, with_event}
+
+-- Each event of a player in a journal keeps the group following its leader. Which members decide its slots may so depend on the whole journal.
+abbrev pub EventsKeep : Sets → (ℕ → ℕ → ℕ × ℕ) → List (Seat Player) → Rows → Base → Type 0
+EventsKeep at words births journal base =
+    (rows more : Rows) (seat : Seat Player) (event : Event OrderLine) (course : Course) → journal ≡ with_event rows seat event ++ more → IsSeat births seat → IsCalmEvent (players words births) rows seat.who event
+    → AreInTime (players words births) (with_event rows seat event) → IsFollowedAt at words births rows base course → FollowsOn at words births (with_event rows seat event) base
+
+-- So it follows it after each of its rows, where they come in time, if it does so at first.
+abbrev pub GroupsFollowThrough : Type 0
+GroupsFollowThrough =
+    (at : Sets) (words : ℕ → ℕ → ℕ × ℕ) (births : List (Seat Player)) (journal : Rows) (base : Base) → AreInTime (players words births) journal → FollowsOn at words births [] base → EventsKeep at words births journal base
+    → (rows more : Rows) → journal ≡ rows ++ more → FollowsOn at words births rows base
