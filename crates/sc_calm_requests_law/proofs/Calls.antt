@@ -26,7 +26,7 @@ use Rattle.sc_machine_table.specs.Machine.{applied}
 use Rattle.sc_node_table.specs.Execute.{entered, executed_one, has_room, next_ready, executed}
 use Rattle.sc_node_table.specs.Pump.{Found, is_act, from_calls, from_acts, from_queues, found_by, found_for, offered, pumped_from, pumped}
 use Rattle.sc_node_table.specs.Queues.{call_of, without_call}
-use Rattle.sc_node_table.specs.Replica.{ReplicaState, Place, Executed, childless, next, members, settled, may_offer, set_at, taken_at, under_way, is_idle, floor_of, forgotten, last_slot}
+use Rattle.sc_node_table.specs.Replica.{ReplicaState, Place, Executed, childless, next, settled, may_offer, set_at, taken_at, under_way, is_idle, forgotten, last_slot}
 use Rattle.sc_node_table.specs.Rows.{queued, requested, refused_at, request_row}
 use Rattle.sc_node_table.specs.Slots.{at_slot, with_slot, without_slot}
 use Rattle.sc_node_table.specs.Voting.{leads, readied, vote_tallied, voted, accepted_row}

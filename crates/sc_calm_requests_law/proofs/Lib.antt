@@ -4,3 +4,11 @@ mod Taking
 mod Serving
 mod RowServes
 mod LinesServe
+mod EndGroups
+mod EndStands
+mod EndAll
+mod LinesEnd
+mod LinesKeep
+mod QuietEnd
+mod OneLog
+mod LawfulLines

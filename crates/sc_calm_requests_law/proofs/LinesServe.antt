@@ -1,14 +1,11 @@
 -- What a line of requests leaves of all replicas, row by row.
-use Rattle.std.proofs.Common.{◌≡◌, ℕ, ◌+◌, ◌<◌, ◌≤◌, true, false, List, [], ◌∷◌, ◌++◌, Some, ◌⊎◌, inl, inr, refl, sym, ◌∙◌, ap, subst, arith, append_assoc, append-nil}
+use Rattle.std.proofs.Common.{◌≡◌, ℕ, ◌+◌, ◌<◌, ◌≤◌, true, [], ◌∷◌, ◌++◌, Some, ◌⊎◌, inl, inr, sym, ◌∙◌, ap, subst, arith, append_assoc, append-nil}
 use Rattle.std.proofs.lemmas.Bool.{cases_eq, cases_Bool, both_ways}
 use Rattle.sc_base.specs.Among.{Among}
 use Rattle.sc_base.specs.Same.{same_draw}
 use Rattle.sc_base.specs.declared.names.Draw.{Draw}
 use Rattle.sc_base.proofs.NameLemmas.{draw_is, same_name}
 use Rattle.sc_cmd.specs.declared.commands.Command.{Command}
-use Rattle.sc_cmd.specs.declared.orders.OrderLine.{OrderLine}
-use Rattle.sc_mail.specs.declared.bodies.Mail.{Mail}
-use Rattle.sc_actor.specs.declared.rows.Row.{Row}
 use Rattle.sc_member.specs.Roster.{is_member}
 use Rattle.sc_paxos_words.specs.declared.reports.Report.{Report}
 use Rattle.sc_node_table.specs.Replica.{ReplicaState, next}
@@ -26,7 +23,7 @@ use Rattle.sc_budget_law.proofs.BetweenViews.{Journal}
 use Rattle.sc_budget_law.proofs.Lists.{some_is}
 use Rattle.sc_calm_requests_law.proofs.Calls.{knows}
 use Rattle.sc_calm_requests_law.proofs.RowServes.{AllStay, OneChanges, RowLeaves, row_leaves}
-use Rattle.sc_calm_requests_law.proofs.Serving.{Rests, Serves, taken_once}
+use Rattle.sc_calm_requests_law.proofs.Serving.{Rests, taken_once}
 
 -- A replica after some rows, by what it was before them: what it accepted is below what the leader has offered.
 pub record HasServed (scenario : Scenario) (rows : Journal) (frame : Frame) (node : ℕ) (first r : ReplicaState) : Type 0 where

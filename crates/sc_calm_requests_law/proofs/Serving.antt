@@ -1,14 +1,13 @@
 -- What a row of requests leaves of a replica as it is.
-use Rattle.std.proofs.Common.{◌≡◌, ℕ, ◌+◌, ◌≤◌, ◌<◌, cond, true, false, List, [], ◌∷◌, ◌++◌, filter, Some, ◌⊎◌, inl, inr, refl, sym, ◌∙◌, ap, subst, arith}
-use Rattle.std.proofs.lemmas.Bool.{cond_both, cases_Bool, cases_lt, both_ways}
-use Rattle.sc_base.specs.Among.{Among, Each}
+use Rattle.std.proofs.Common.{◌≡◌, ℕ, ◌+◌, ◌≤◌, true, List, [], ◌∷◌, ◌++◌, filter, Some, ◌⊎◌, inl, inr, refl, sym, ◌∙◌, ap, subst, arith}
+use Rattle.std.proofs.lemmas.Bool.{cond_both, cases_lt, both_ways}
+use Rattle.sc_base.specs.Among.{Among}
 use Rattle.sc_base.specs.Limits.{client_actor}
 use Rattle.sc_base.specs.declared.names.Ballot.{Ballot}
 use Rattle.sc_base.specs.declared.names.Draw.{Draw}
 use Rattle.sc_base.specs.declared.ops.Op.{Op}
 use Rattle.sc_cmd.specs.declared.commands.Command.{Command}
 use Rattle.sc_cmd.specs.declared.commands.Command.TheVariants.{Call}
-use Rattle.sc_cmd.specs.declared.cores.Core.{Core}
 use Rattle.sc_mail.specs.declared.bodies.MailBody.{MailBody}
 use Rattle.sc_mail.specs.declared.bodies.MailBody.TheVariants.{Request, Answer, Prepare, Promise, Accept, Accepted, Nack, Learn, Ask, Install, TxPrepare, TxVote, TxOutcome, TxElsewhere, TxWatch, TxWatched, Told}
 use Rattle.sc_member.specs.Roster.{is_member}
@@ -17,7 +16,6 @@ use Rattle.std.specs.Prelude.{nat_lt}
 use Rattle.sc_paxos_words.specs.Acceptors.{with_report}
 use Rattle.sc_paxos_words.specs.Ballots.{below}
 use Rattle.sc_paxos_words.proofs.ListLemmas.{from_filter}
-use Rattle.sc_machine_table.specs.Group.{Group}
 use Rattle.sc_node_table.specs.Replica.{ReplicaState, Place, next, last_slot}
 use Rattle.sc_node_table.specs.Rows.{mailed}
 use Rattle.sc_node_table.specs.Slots.{slots_ahead}
@@ -84,7 +82,7 @@ pub record Serves (frame : Frame) (me : ℕ) (body : MailBody) (r after : Replic
   pub rest : Rests r after ⊎ (is_member frame.core.members me ≡ true)
   pub bound : me ≡ frame.lead → (taken : ℕ) → AreTaken r taken → (later : ℕ) × AreTaken after later × (next r + taken ≤ next after + later)
 
-rests_itself : (r : ReplicaState) → Rests r r
+pub rests_itself : (r : ReplicaState) → Rests r r
 rests_itself r = record { sets_are = refl; group_is = refl; acts_are = refl; waits_are = refl; next_is = refl; floor_is = refl }
 
 module _ (begun : Requests) (frame : Frame) (is : IsFrame frame) (r : ReplicaState) (from : ℕ) (room : next r + slots_ahead ≤ last_slot) where

@@ -1,11 +1,65 @@
-//! A line of requests in a calm journal, between two orders: each row finds what it needs.
-//! Definitions and laws, no logic.
+//! A line of requests in a calm journal, between two orders: each row finds what it needs, and the
+//! line leaves a quiet journal. Definitions and laws, no logic.
 #![tactic(auto)]
 
 ghost use Rattle.sc_calm_requests_law.specs.Finding.{RequestsAreTakenCalmly};
+ghost use Rattle.sc_calm_requests_law.specs.OneLog.{
+  LawfulJournalsHaveOneLog,
+  LawfulLinesLeaveQuiet,
+};
+ghost use Rattle.sc_calm_requests_law.specs.QuietLines.{LinesLeaveQuiet, LinesLeaveReplicasQuiet};
+
+use sc_log_law::groups_are_born_under_new_names;
+use sc_names_law::{names_have_one_owner, orders_are_allowed};
+use sc_scenario::valid_scenarios_are_bounded;
+use sc_whole_law::{
+    lawful_journals_decide_in_turn, valid_journals_are_sound, valid_scenarios_begin_well,
+};
 
 /// While clients ask alone, a node whose replicas may pump finds what it needs in each mail that
 /// comes to it when it is due.
 pub fn requests_are_taken_calmly()
     ensures { RequestsAreTakenCalmly }
 {}
+
+/// Where a line of requests from a quiet journal leaves no mail to anybody, all replicas are quiet
+/// again: groups that stand are led and have executed all, groups that are gone stay so, and hints
+/// rise. That replicas of one group which executed as much are in one state is a premise.
+pub fn lines_leave_replicas_quiet()
+    ensures { LinesLeaveReplicasQuiet }
+{
+    valid_scenarios_are_bounded();
+}
+
+/// .. and the journal is quiet again: each client that was told to go has all replies, and one that
+/// was not is as at its birth; what the executed states note is begun, and no mail is left.
+pub fn lines_leave_quiet()
+    ensures { LinesLeaveQuiet }
+{
+    valid_scenarios_are_bounded();
+}
+
+/// In each lawful journal of a valid scenario replicas of one group that executed as much are in
+/// one state: each has executed a front of its group's one log.
+pub fn lawful_journals_have_one_log()
+    ensures { LawfulJournalsHaveOneLog }
+{
+    valid_scenarios_are_bounded();
+    valid_scenarios_begin_well();
+    orders_are_allowed();
+    names_have_one_owner();
+    lawful_journals_decide_in_turn();
+    groups_are_born_under_new_names();
+    valid_journals_are_sound();
+}
+
+/// Where a line of requests in a lawful journal begins in a quiet one and leaves no mail to
+/// anybody, the journal is quiet again, and all replicas may pump if all might before.
+pub fn lawful_lines_leave_quiet()
+    ensures { LawfulLinesLeaveQuiet }
+{
+    valid_scenarios_are_bounded();
+    lawful_journals_have_one_log();
+    lines_leave_replicas_quiet();
+    lines_leave_quiet();
+}

@@ -1,0 +1,54 @@
+-- A line of requests leaves a quiet journal.
+use Rattle.std.specs.Prelude.{◌≡◌, ℕ, true, false, List, [], ◌∷◌, ◌++◌, Some, None, ◌⊎◌}
+use Rattle.sc_base.specs.declared.names.Draw.{Draw}
+use Rattle.sc_cmd.specs.declared.cores.Base.{Base}
+use Rattle.sc_cmd.specs.declared.orders.OrderLine.{OrderLine}
+use Rattle.sc_mail.specs.declared.bodies.Mail.{Mail}
+use Rattle.sc_actor.specs.declared.rows.Row.{Row}
+use Rattle.sc_node_table.specs.Replica.{ReplicaState, next}
+use Rattle.sc_scenario.specs.declared.scenarios.Scenario.{Scenario}
+use Rattle.sc_scenario.specs.Valid.{IsValid}
+use Rattle.sc_sound.specs.Players.{system_of, as_nodes}
+use Rattle.sc_orderly_law.specs.Orderly.{rest, is_born}
+use Rattle.sc_calm_law.specs.Laws.{MayPump}
+use Rattle.sc_calm_law.specs.Owed.{Ways}
+use Rattle.sc_calm_law.specs.Quiet.{View as Replicas, HasReplica, StandsQuiet, IsGoneQuiet, IsAtRest, RisesAt}
+use Rattle.sc_budget_law.specs.AskingLines.{AreRequests, AreSeated}
+use Rattle.sc_budget_law.specs.AskingQuiet.{replicas_after, setting_at, AreFramesOf, DoHintsRise, IsQuietJournal}
+use Rattle.sc_budget_law.specs.AtRest.{IsKept}
+use Rattle.sc_budget_law.specs.CalmAsking.{IsLinkedSetting}
+use Rattle.sc_budget_law.specs.Frames.{Frame}
+
+-- replicas of one group that executed as much are in one state
+abbrev pub HaveOneLog : Replicas → Type 0
+HaveOneLog at = (group : Draw) (one other : ℕ) (r s : ReplicaState) → at group one ≡ Some r → at group other ≡ Some s → next r ≡ next s → r.group ≡ s.group
+
+-- each replica is quiet, and kept; where all might pump before, all may
+pub record AreReplicasQuiet (before at : Replicas) : Type 0 where
+  pub groups : (group : Draw) (node : ℕ) → HasReplica at group node → StandsQuiet at group ⊎ IsGoneQuiet at group
+  pub at_rest : (group : Draw) (node : ℕ) (r : ReplicaState) → at group node ≡ Some r → IsAtRest r
+  pub rises : (group : Draw) (node : ℕ) (r : ReplicaState) → at group node ≡ Some r → r.running ≡ false → r.group.core.gone ≡ None → RisesAt at group r
+  pub kept : (group : Draw) (node : ℕ) (r : ReplicaState) → at group node ≡ Some r → IsKept group node r
+  pub may_pump : ((group : Draw) (node : ℕ) (r : ReplicaState) → before group node ≡ Some r → MayPump r) → (group : Draw) (node : ℕ) (r : ReplicaState) → at group node ≡ Some r → MayPump r
+
+-- Where a line of requests from a quiet journal leaves no mail to anybody, all replicas are quiet again.
+abbrev pub LinesLeaveReplicasQuiet : Type 0
+LinesLeaveReplicasQuiet =
+    (words : ℕ → ℕ → ℕ × ℕ) (scenario : Scenario) (first : Base) (others : List Base) (before after : List (Row Mail OrderLine)) (frames : List Frame) (ways : Ways)
+    → IsValid scenario → scenario.groups ≡ first ∷ others → IsQuietJournal words scenario first before → AreFramesOf (replicas_after scenario before) frames → DoHintsRise (replicas_after scenario before) ways
+    → IsLinkedSetting (setting_at (replicas_after scenario before) frames ways) → AreSeated scenario (setting_at (replicas_after scenario before) frames ways)
+    → AreRequests words scenario (setting_at (replicas_after scenario before) frames ways) before after
+    → ((who : ℕ) → is_born (system_of as_nodes words scenario) who ≡ true → rest (system_of as_nodes words scenario) (before ++ after) who ≡ [])
+    → HaveOneLog (replicas_after scenario before) → HaveOneLog (replicas_after scenario (before ++ after))
+    → AreReplicasQuiet (replicas_after scenario before) (replicas_after scenario (before ++ after))
+
+-- .. and so the journal is quiet again
+abbrev pub LinesLeaveQuiet : Type 0
+LinesLeaveQuiet =
+    (words : ℕ → ℕ → ℕ × ℕ) (scenario : Scenario) (first : Base) (others : List Base) (before after : List (Row Mail OrderLine)) (frames : List Frame) (ways : Ways)
+    → IsValid scenario → scenario.groups ≡ first ∷ others → IsQuietJournal words scenario first before → AreFramesOf (replicas_after scenario before) frames → DoHintsRise (replicas_after scenario before) ways
+    → IsLinkedSetting (setting_at (replicas_after scenario before) frames ways) → AreSeated scenario (setting_at (replicas_after scenario before) frames ways)
+    → AreRequests words scenario (setting_at (replicas_after scenario before) frames ways) before after
+    → ((who : ℕ) → is_born (system_of as_nodes words scenario) who ≡ true → rest (system_of as_nodes words scenario) (before ++ after) who ≡ [])
+    → HaveOneLog (replicas_after scenario before) → HaveOneLog (replicas_after scenario (before ++ after))
+    → IsQuietJournal words scenario first (before ++ after)
