@@ -21,7 +21,7 @@ module _ (s : System Player Mail OrderLine) (rows : Rows) (row : Row Mail OrderL
       let rest = upto_same n (omega (arith, low)) in
       ap (λ (front : Rows). cond (is_quiet s front) (suc n) (quiet_upto s (rows ++ row ∷ []) n)) front ∙ ap (λ m. cond (is_quiet s (take (suc n) rows)) (suc n) m) rest
 
-  upto_low : (n : ℕ) → quiet_upto s rows n ≤ n
+  pub upto_low : (n : ℕ) → quiet_upto s rows n ≤ n
   upto_low zero = omega arith
   upto_low (suc n) = by (is_quiet s (take (suc n) rows)) (upto_low n)
     where
