@@ -2,6 +2,7 @@
 //! single rows and of journals, put together. Definitions and laws, no logic.
 #![tactic(auto)]
 
+ghost use Rattle.sc_calm_answers_law.specs.Begins.{QuietJournalsBegin};
 ghost use Rattle.sc_calm_answers_law.specs.Covered.{BirthsAreCovered};
 ghost use Rattle.sc_calm_answers_law.specs.Lines.{CalmLinesEndQuiet};
 
@@ -25,4 +26,12 @@ pub fn calm_lines_end_quiet()
     calm_lines_are_spaced();
     kept_calm_ends_quiet();
     plain_lines_end_quiet();
+}
+
+/// Before the first row of a valid scenario all is quiet: each group is led by its first member, and
+/// each of its members is up to date, no client was told to go, and no mail is left.
+pub fn quiet_journals_begin()
+    ensures { QuietJournalsBegin }
+{
+    valid_scenarios_are_bounded();
 }

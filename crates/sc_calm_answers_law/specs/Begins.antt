@@ -1,0 +1,11 @@
+-- That a valid scenario begins with a quiet journal.
+use Rattle.std.specs.Prelude.{◌≡◌, ℕ, List, [], ◌∷◌}
+use Rattle.sc_cmd.specs.declared.cores.Base.{Base}
+use Rattle.sc_scenario.specs.declared.scenarios.Scenario.{Scenario}
+use Rattle.sc_scenario.specs.Valid.{IsValid}
+use Rattle.sc_budget_law.specs.AskingQuiet.{IsQuietJournal}
+
+-- before the first row of a valid scenario all is quiet
+abbrev pub QuietJournalsBegin : Type 0
+QuietJournalsBegin =
+    (words : ℕ → ℕ → ℕ × ℕ) (scenario : Scenario) (first : Base) (others : List Base) → IsValid scenario → scenario.groups ≡ first ∷ others → IsQuietJournal words scenario first []
