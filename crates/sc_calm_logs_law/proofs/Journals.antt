@@ -24,13 +24,13 @@ use Rattle.sc_paxos_words.specs.Votes.{kept_voters}
 use Rattle.sc_paxos_words.proofs.ListLemmas.{Each-among, Each-weaker, find_found}
 use Rattle.sc_paxos_law.proofs.Among.{Among-left, Among-right, Among-either, from_map}
 use Rattle.sc_paxos_law.proofs.Decided.{later_logs}
-use Rattle.sc_paxos_law.specs.Chosen.{IsLog}
+use Rattle.sc_paxos_law.specs.Chosen.{members_of, IsLog}
 use Rattle.sc_paxos_law.specs.Lawful.{IsLawfulHistory}
 use Rattle.sc_scenario.specs.declared.scenarios.Asks.{Asks}
 use Rattle.sc_scenario.specs.declared.scenarios.Scenario.{Scenario}
 use Rattle.sc_node_table.specs.Node.{NodeState, replica_of}
-use Rattle.sc_node_table.specs.Replica.{ReplicaState, name_of}
-use Rattle.sc_node_table.specs.Slots.{numbers_from}
+use Rattle.sc_node_table.specs.Replica.{ReplicaState, name_of, next}
+use Rattle.sc_node_table.specs.Slots.{numbers_from, slots_ahead}
 use Rattle.sc_sound.specs.GroupsOf.{groups_at}
 use Rattle.sc_sound.specs.Logs.{decided_log}
 use Rattle.sc_sound.specs.Players.{Ahead, Player, Lawful, births, node_seat, client_seat, player_table, system_of, schedule}
@@ -45,7 +45,7 @@ use Rattle.sc_sound.specs.Accepts.{accepts_at}
 use Rattle.sc_group_law.proofs.Families.{h_of, Part}
 use Rattle.sc_group_law.proofs.Growth.{grown_learnt, IsLearnt}
 use Rattle.sc_group_law.proofs.Holding.{Holds as Held, held}
-use Rattle.sc_group_law.proofs.Invariant.{Steps, rule, first, IsFlying, IsReplica, next_after}
+use Rattle.sc_group_law.proofs.Invariant.{Steps, rule, first, IsFlying, IsReplica, AreSets, next_after}
 use Rattle.sc_group_law.proofs.Names.{IsOneOf}
 use Rattle.sc_group_law.proofs.Projected.{steps-push}
 use Rattle.sc_group_law.proofs.Replies.{front_is}
@@ -55,7 +55,9 @@ use Rattle.sc_whole_law.specs.Orders.{OrdersAreAllowed}
 use Rattle.sc_whole_law.specs.Parameters.{MayQueue, IsHeardAt}
 use Rattle.sc_whole_law.proofs.Journals.{holds}
 use Rattle.sc_whole_law.proofs.Turning.{Holds}
+use Rattle.sc_following_law.specs.Offers.{AreAt}
 use Rattle.sc_calm_logs_law.specs.Logged.{HasReplica}
+use Rattle.sc_calm_logs_law.proofs.Along.{IsAlong, are_at}
 
 -- ---- the steps of more rows
 
@@ -187,3 +189,33 @@ module _ (sources : Sources) (ahead : Ahead) (words : ℕ → ℕ → ℕ × ℕ
           let same : at.node ≡ node = one_node at.node (sym at.value_is ∙ number.3) in
           held ahead base (MayQueue sources ahead scenario rows base) number.0 (h_of rows base) node.replicas
           (subst (λ (x : NodeState). Held ahead base (MayQueue sources ahead scenario rows base) number.0 (h_of rows base) x.replicas) same (at.is.holds base there)) r in_list.0 (draw_is (name_of r) base.core.id in_list.1)
+
+      -- the steps of the later rows
+      later_steps : (newer : Steps) × (h_of journal base ≡ newer ++ h_of rows base)
+      later_steps = (let more = more_steps base.core.id rows has.more in (more.0, ap (steps base.core.id) has.front ∙ more.1))
+
+      -- it is along the group's log
+      pub along : (open_slots : ahead.slots ≡ slots_ahead) → IsAlong ahead open_slots base roster (h_of journal base) part.lawful (decided_log ahead base journal) fronts r
+      along open_slots =
+          let later = later_steps in
+          record {
+            whole = replica.whole;
+            is_log = subst (λ (h : Steps). IsLog (rule ahead base) h replica.whole) (sym later.1) (later_logs (rule ahead base) later.0 (h_of rows base) replica.whole replica.log_is.is_log);
+            next_is = next_after ahead base (MayQueue sources ahead scenario rows base) (h_of rows base) number.0 r replica;
+            group_is = replica.log_is.group_is;
+            ready = Each-weaker _ _ (λ e t. subst (λ (h : Steps). IsLearnt (rule ahead base) h e.0 e.1) (sym later.1) (grown_learnt (rule ahead base) later.0 (h_of rows base) e.0 e.1 t)) r.ready replica.ready;
+          }
+
+      -- the members of its open slots are those of the slots
+      pub opens : (open_slots : ahead.slots ≡ slots_ahead) → AreAt (λ slot. members_of (rule ahead base) (decided_log ahead base journal) slot) (next r) r.sets
+      unfolding along
+      opens open_slots =
+          let k = along open_slots in
+          are_at ahead open_slots base roster (h_of journal base) part.lawful (decided_log ahead base journal) fronts k.whole k.is_log (next r) r.sets
+          (subst (λ n. AreSets ahead base replica.whole n r.sets) (sym k.next_is) replica.sets)
+
+      -- what it has in flight was offered and accepted
+      pub flying : Each (IsFlying ahead base (h_of journal base) r.leader.ballot) r.leader.flights
+      flying =
+          let later = later_steps in
+          subst (λ (h : Steps). Each (IsFlying ahead base h r.leader.ballot) r.leader.flights) (sym later.1) (grown_flying ahead base later.0 (h_of rows base) r.leader.ballot r.leader.flights replica.flights)

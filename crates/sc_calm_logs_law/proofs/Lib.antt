@@ -1,3 +1,4 @@
 pub mod Along
 pub mod Counting
 pub mod Journals
+pub mod Laws
