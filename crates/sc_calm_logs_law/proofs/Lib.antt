@@ -2,3 +2,4 @@ pub mod Along
 pub mod Counting
 pub mod Journals
 pub mod Laws
+pub mod Views

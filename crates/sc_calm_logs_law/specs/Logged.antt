@@ -26,6 +26,7 @@ use Rattle.sc_following_law.specs.Executed.{AreNext}
 use Rattle.sc_following_law.specs.Following.{Sets, members_at}
 use Rattle.sc_following_law.specs.Leading.{DecidesNext}
 use Rattle.sc_following_law.specs.Offers.{AreAt}
+use Rattle.sc_calm_rows_law.specs.Groups.{view_at}
 use Rattle.sc_calm_rows_law.specs.Turns.{IsSeat}
 
 -- the members of each slot by the group's log in a journal: those of the state after the entries up to so many slots before it as are open, and behind the log's end those of the last state
@@ -51,6 +52,12 @@ pub record HasReplica (ahead : Ahead) (scenario : Scenario) (journal : Rows) (ba
   pub seated : IsSeat (births ahead scenario) seat
   pub is : value player_table seat rows ≡ Node node
   pub here : replica_of base.core.id node.replicas ≡ Some r
+
+-- each replica of the group that a player has is one of a node
+abbrev pub ViewsAreReplicas : Type 0
+ViewsAreReplicas = (ahead : Ahead) (words : ℕ → ℕ → ℕ × ℕ) (scenario : Scenario) (journal : Rows) (base : Base) → IsGroupOf ahead words scenario journal base
+    → (rows more : Rows) → journal ≡ rows ++ more → (who : ℕ) (r : ReplicaState) → view_at (births ahead scenario) rows base.core.id who ≡ Some r
+    → (seat : Seat Player) × (node : NodeState) × HasReplica ahead scenario journal base rows seat node r × (seat.who ≡ who)
 
 -- a replica has the group's name, the members of its open slots, and for its own those of the slot behind these
 pub record IsLogged (at : Sets) (base : Base) (r : ReplicaState) : Type 0 where

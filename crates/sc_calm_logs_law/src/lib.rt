@@ -7,6 +7,7 @@ ghost use Rattle.sc_calm_logs_law.specs.Logged.{
   ReplicasAreLogged,
   SlotsHaveRosters,
   StatesAreLogged,
+  ViewsAreReplicas,
 };
 
 use sc_names_law::{names_have_one_owner, orders_are_allowed};
@@ -23,6 +24,11 @@ pub fn slots_have_rosters()
     orders_are_allowed();
     names_have_one_owner();
 }
+
+/// What is seen of the group at a player, after any rows of the journal, is a replica of a node.
+pub fn views_are_replicas()
+    ensures { ViewsAreReplicas }
+{}
 
 /// After any rows of the journal each replica of the group has these for the members of its open
 /// slots, and those of the slot behind them for its own.
