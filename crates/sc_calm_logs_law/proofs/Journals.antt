@@ -1,16 +1,15 @@
 -- What of a journal's groups the laws of journals prove, after each of its first rows.
-use Rattle.std.proofs.Common.{◌≡◌, ℕ, ◌+◌, ◌<◌, ◌≤◌, eqb, true, List, [], ◌∷◌, ◌++◌, length, map, take, Some, ◌⊎◌, inl, inr, refl, sym, ◌∙◌, ap, subst, arith, append_assoc, append-nil}
+use Rattle.std.proofs.Common.{◌≡◌, ℕ, ◌≤◌, eqb, List, [], ◌∷◌, ◌++◌, length, map, take, inl, inr, refl, sym, ◌∙◌, ap, subst, arith, append_assoc, append-nil}
 use Rattle.sc_base.specs.Among.{Among, Each}
 use Rattle.sc_base.specs.Same.{same_draw}
 use Rattle.sc_base.specs.declared.names.Ballot.{Ballot}
 use Rattle.sc_base.specs.declared.names.Draw.{Draw}
-use Rattle.sc_base.proofs.NameLemmas.{same_name, draw_is}
+use Rattle.sc_base.proofs.NameLemmas.{draw_is}
 use Rattle.sc_cmd.specs.declared.commands.Command.{Command}
 use Rattle.sc_cmd.specs.declared.cores.Base.{Base}
 use Rattle.sc_cmd.specs.declared.links.Route.{Route}
 use Rattle.sc_cmd.specs.declared.orders.OrderLine.{OrderLine}
 use Rattle.sc_mail.specs.declared.bodies.Mail.{Mail}
-use Rattle.sc_mail.specs.declared.bodies.MailBody.{MailBody}
 use Rattle.sc_mail.specs.declared.roles.Role.TheVariants.{Node, Client}
 use Rattle.sc_member.specs.Roster.{IsRoster}
 use Rattle.sc_actor.specs.declared.actors.Seat.{Seat}
@@ -25,10 +24,8 @@ use Rattle.sc_paxos_words.proofs.ListLemmas.{Each-among, Each-weaker, find_found
 use Rattle.sc_paxos_law.proofs.Among.{Among-left, Among-right, Among-either, from_map}
 use Rattle.sc_paxos_law.proofs.Decided.{later_logs}
 use Rattle.sc_paxos_law.specs.Chosen.{members_of, IsLog}
-use Rattle.sc_paxos_law.specs.Lawful.{IsLawfulHistory}
-use Rattle.sc_scenario.specs.declared.scenarios.Asks.{Asks}
 use Rattle.sc_scenario.specs.declared.scenarios.Scenario.{Scenario}
-use Rattle.sc_node_table.specs.Node.{NodeState, replica_of}
+use Rattle.sc_node_table.specs.Node.{NodeState}
 use Rattle.sc_node_table.specs.Replica.{ReplicaState, name_of, next}
 use Rattle.sc_node_table.specs.Slots.{numbers_from, slots_ahead}
 use Rattle.sc_sound.specs.GroupsOf.{groups_at}
@@ -40,12 +37,12 @@ use Rattle.sc_log_law.specs.Findings.{AreFound, StayAsTold}
 use Rattle.sc_log_law.specs.InTurn.{DecideInTurn}
 use Rattle.sc_log_law.proofs.Findings.{groups_are_found}
 use Rattle.sc_log_law.proofs.Histories.{told_rows_stay}
-use Rattle.sc_group_law.specs.Steps.{proposer_steps, asked_in, promises_at, steps_at, steps}
+use Rattle.sc_group_law.specs.Steps.{proposer_steps, asked_in, promises_at, steps}
 use Rattle.sc_sound.specs.Accepts.{accepts_at}
 use Rattle.sc_group_law.proofs.Families.{h_of, Part}
 use Rattle.sc_group_law.proofs.Growth.{grown_learnt, IsLearnt}
 use Rattle.sc_group_law.proofs.Holding.{Holds as Held, held}
-use Rattle.sc_group_law.proofs.Invariant.{Steps, rule, first, IsFlying, IsReplica, AreSets, next_after}
+use Rattle.sc_group_law.proofs.Invariant.{Steps, rule, IsFlying, IsReplica, AreSets, next_after}
 use Rattle.sc_group_law.proofs.Names.{IsOneOf}
 use Rattle.sc_group_law.proofs.Projected.{steps-push}
 use Rattle.sc_group_law.proofs.Replies.{front_is}
@@ -73,8 +70,7 @@ row_steps : (group : Draw) (rows : Rows) (row : Row Mail OrderLine) → (newer :
 row_steps group rows row =
     let promised = promises_at group (mails rows) row row.event in
     let accepted = accepts_at group (mails rows) row row.event in
-    let asked = asked_in group row.sent [] in
-    (
+    let asked = asked_in group row.sent [] in (
       (promised ++ accepted) ++ asked,
       steps-push group rows row ∙ ap (λ (x : Steps). (promised ++ accepted) ++ x) (asked_more group row.sent (steps group rows)) ∙ sym (append_assoc (promised ++ accepted) asked (steps group rows)),
     )
@@ -83,8 +79,7 @@ pub more_steps : (group : Draw) (rows more : Rows) → (newer : Steps) × (steps
 more_steps group rows [] = ([], ap (steps group) (append-nil rows))
 more_steps group rows (row ∷ more) =
     let later = more_steps group (rows ++ row ∷ []) more in
-    let one = row_steps group rows row in
-    (
+    let one = row_steps group rows row in (
       later.0 ++ one.0,
       ap (steps group) (sym (append_assoc rows (row ∷ []) more)) ∙ later.1 ∙ ap (λ x. later.0 ++ x) one.1 ∙ sym (append_assoc later.0 one.0 (steps group rows)),
     )

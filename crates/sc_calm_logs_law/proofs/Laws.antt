@@ -1,6 +1,5 @@
 -- The laws of this crate, of lawful journals of valid scenarios.
-use Rattle.std.proofs.Common.{◌≡◌, ℕ, ◌+◌, ◌<◌, ◌≤◌, true, List, [], ◌∷◌, ◌++◌, length, take, Some, refl, sym, ◌∙◌, ap, subst, arith}
-use Rattle.sc_base.specs.Among.{Among, Each}
+use Rattle.std.proofs.Common.{◌≡◌, ℕ, ◌+◌, ◌<◌, ◌≤◌, true, List, [], ◌++◌, length, take, Some, refl, sym, ◌∙◌, ap, subst, arith}
 use Rattle.sc_base.specs.declared.names.Ballot.{Ballot}
 use Rattle.sc_base.proofs.NameLemmas.{same_name}
 use Rattle.sc_cmd.specs.declared.commands.Command.{Command}
@@ -10,21 +9,16 @@ use Rattle.sc_mail.specs.declared.bodies.Mail.{Mail}
 use Rattle.sc_mail.specs.declared.bodies.MailBody.{MailBody}
 use Rattle.sc_mail.specs.declared.bodies.MailBody.TheVariants.{Accepted as AcceptedMail, Learn, Install}
 use Rattle.sc_machine_table.specs.Group.{Group}
-use Rattle.sc_machine_table.specs.Logs.{state_after}
 use Rattle.sc_member.specs.Roster.{IsRoster}
 use Rattle.sc_actor.specs.declared.actors.Seat.{Seat}
 use Rattle.sc_actor.specs.Mail.{mails, numbered}
-use Rattle.sc_paxos_words.specs.declared.answers.Counted.TheVariants.{Chosen}
-use Rattle.sc_paxos_words.specs.Leaders.{LeaderState}
-use Rattle.sc_paxos_words.specs.Votes.{counted}
-use Rattle.sc_paxos_law.specs.Steps.{Accepted}
 use Rattle.sc_paxos_law.specs.Chosen.{needed, IsLog}
 use Rattle.sc_paxos_law.specs.Lawful.{IsLawfulHistory}
 use Rattle.sc_paxos_law.proofs.Law.{earlier}
 use Rattle.sc_scenario.specs.Valid.{ValidScenariosAreBounded}
 use Rattle.sc_scenario.specs.declared.scenarios.Scenario.{Scenario}
 use Rattle.sc_node_table.specs.Node.{NodeState}
-use Rattle.sc_node_table.specs.Replica.{ReplicaState, next, members, first_ballot}
+use Rattle.sc_node_table.specs.Replica.{ReplicaState, next}
 use Rattle.sc_node_table.specs.Slots.{slots_ahead, with_slot}
 use Rattle.sc_sound.specs.Logs.{decided_log}
 use Rattle.sc_sound.specs.Players.{Ahead, Player, route_of}
@@ -44,8 +38,7 @@ use Rattle.sc_whole_law.specs.StartLaws.{ValidScenariosBeginWell}
 use Rattle.sc_whole_law.proofs.Scheduled.{orders_allowed}
 use Rattle.sc_following_law.specs.Counted.{IsNext}
 use Rattle.sc_following_law.specs.Executed.{AreNext}
-use Rattle.sc_following_law.specs.Leading.{AreEntries, DecidesNext}
-use Rattle.sc_following_law.specs.Offers.{AreAt}
+use Rattle.sc_following_law.specs.Leading.{DecidesNext}
 use Rattle.sc_calm_logs_law.specs.Logged.{logged_sets, IsGroupOf, HasReplica, IsLogged, IsLoggedState, SlotsHaveRosters, ReplicasAreLogged, CommandsComeNext, StatesAreLogged}
 use Rattle.sc_calm_logs_law.proofs.Along.{IsAlong, first_sets, rosters, by_log, are_at, after_log, members_are, name_is, is_next, are_next, are_entries}
 use Rattle.sc_calm_logs_law.proofs.Counting.{counted_learnt, each_with_slot}

@@ -1,18 +1,15 @@
 -- A replica that a player has is one of a node.
-use Rattle.std.proofs.Common.{◌≡◌, ℕ, eqb, List, [], ◌++◌, Option, Some, None, refl, ◌∙◌, ap, subst}
+use Rattle.std.proofs.Common.{◌≡◌, eqb, Option, Some, None, refl, ◌∙◌, ap}
 use Rattle.std.proofs.lemmas.Bool.{eqb-true}
 use Rattle.std.specs.List.{find}
-use Rattle.sc_cmd.specs.declared.cores.Base.{Base}
 use Rattle.sc_base.specs.declared.names.Draw.{Draw}
 use Rattle.sc_mail.specs.declared.roles.Role.TheVariants.{Node, Client}
 use Rattle.sc_actor.specs.declared.actors.Seat.{Seat}
 use Rattle.sc_actor.specs.Replay.{value}
 use Rattle.sc_paxos_words.proofs.ListLemmas.{find_found}
-use Rattle.sc_scenario.specs.declared.scenarios.Scenario.{Scenario}
 use Rattle.sc_node_table.specs.Node.{NodeState, replica_of}
 use Rattle.sc_node_table.specs.Replica.{ReplicaState}
-use Rattle.sc_sound.specs.Players.{Ahead, Player, births, player_table}
-use Rattle.sc_log_law.specs.Descent.{Rows}
+use Rattle.sc_sound.specs.Players.{Player, births, player_table}
 use Rattle.sc_calm_rows_law.specs.Groups.{replicas_of, replica_in}
 use Rattle.sc_calm_logs_law.specs.Logged.{HasReplica, ViewsAreReplicas}
 
@@ -29,8 +26,7 @@ views_are_replicas ahead words scenario journal base group rows more front who r
     by None found e = cc
     by (Some seat) found e =
         let mine = eqb-true seat.who who (find_found (λ (other : Seat Player). eqb other.who who) (births ahead scenario) seat found).1 in
-        let at = in_player base.core.id (value player_table seat rows) r e in
-        (
+        let at = in_player base.core.id (value player_table seat rows) r e in (
           seat,
           at.0,
           record {

@@ -15,7 +15,7 @@ use Rattle.sc_paxos_law.specs.Chosen.{members_of}
 use Rattle.sc_scenario.specs.Valid.{IsValid}
 use Rattle.sc_scenario.specs.declared.scenarios.Scenario.{Scenario}
 use Rattle.sc_node_table.specs.Node.{NodeState, replica_of}
-use Rattle.sc_node_table.specs.Replica.{ReplicaState, Place, name_of, next, members, first_ballot}
+use Rattle.sc_node_table.specs.Replica.{ReplicaState, name_of, next, members, first_ballot}
 use Rattle.sc_node_table.specs.Slots.{slots_ahead}
 use Rattle.sc_sound.specs.GroupsOf.{groups_at}
 use Rattle.sc_sound.specs.Logs.{rule_of, decided_log}
