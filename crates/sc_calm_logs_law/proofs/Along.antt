@@ -19,7 +19,7 @@ use Rattle.sc_paxos_law.proofs.Law.{earlier, longer_log}
 use Rattle.sc_node_table.specs.Election.{ended}
 use Rattle.sc_node_table.specs.Execute.{entered, learnt_to, welcomed, landed, left, looked, executed_one, has_room, next_ready}
 use Rattle.sc_node_table.specs.Replica.{ReplicaState, Place, name_of, next, members, forgotten}
-use Rattle.sc_node_table.specs.Slots.{slots_ahead, at_slot, without_slot}
+use Rattle.sc_node_table.specs.Slots.{slots_ahead, rest_of, at_slot, without_slot}
 use Rattle.sc_node_table.specs.Spoken.{before_of, spoken}
 use Rattle.sc_sound.specs.Players.{Ahead}
 use Rattle.sc_hist_law.proofs.Logs.{state_same}
@@ -34,7 +34,7 @@ use Rattle.sc_following_law.proofs.Counted.{told_state, landed_is, entered_keeps
 use Rattle.sc_following_law.proofs.Spoken.{announced_keeps, spoken_same}
 use Rattle.sc_group_law.proofs.Growth.{IsLearnt, by_own_log}
 use Rattle.sc_group_law.proofs.Invariant.{Steps, rule, first, birth, AreSets}
-use Rattle.sc_group_law.proofs.Parts.{Each-without_slot, slot_among}
+use Rattle.sc_group_law.proofs.Parts.{Each-without_slot, slot_among, rest_length}
 use Rattle.sc_whole_law.proofs.Members.{members_stay_rosters}
 
 -- what an entry makes of the group
@@ -47,6 +47,20 @@ next_ready_is : (r : ReplicaState) (c : Command) → next_ready r ≡ Some c →
 next_ready_is r c e =
     cond_both (r.running && has_room r) (at_slot r.ready (next r)) None (λ o. o ≡ Some c → Among (next r, c) r.ready × (r.running ≡ true))
     (λ t k. (slot_among r.ready (next r) c k, (and_parts r.running (has_room r) t).0)) (λ _ k. cc) e
+
+-- ---- the members of the open slots, with one more
+
+are_push : (at : Sets) (slot : ℕ) (sets : List (List ℕ)) (set : List ℕ) → AreAt at slot sets → at (slot + length sets) ≡ set → AreAt at slot (sets ++ set ∷ [])
+are_push at slot [] set are e = (ap at (omega arith) ∙ e, tt)
+are_push at slot (s ∷ sets) set are e = (are.0, are_push at (slot + 1) sets set are.1 (ap at (omega arith) ∙ e))
+
+are_later : (at : Sets) (slot : ℕ) (sets : List (List ℕ)) (set : List ℕ) → AreAt at slot sets → length sets ≡ slots_ahead → at (slot + slots_ahead) ≡ set → AreAt at (slot + 1) (rest_of sets ++ set ∷ [])
+are_later at slot [] set are len e = absurd (omega (arith, len))
+are_later at slot (s ∷ sets) set are len e = are_push at (slot + 1) sets set are.1 (ap at (omega (arith, len)) ∙ e)
+
+entered_sets : (command : Command) (r : ReplicaState) → (entered command r).sets ≡ rest_of r.sets ++ members (entered command r) ∷ []
+unfolding entered forgotten
+entered_sets command r = refl
 
 -- some steps of a group, each log of which is a front of one
 module _ (ahead : Ahead) (open_slots : ahead.slots ≡ slots_ahead) (base : Base) (roster : IsRoster base.core.members) (h : Steps) (lawful : IsLawfulHistory (rule ahead base) (first ahead base) h) (all : List Command)
@@ -142,6 +156,15 @@ module _ (ahead : Ahead) (open_slots : ahead.slots ≡ slots_ahead) (base : Base
         roster = subst IsRoster (ap (λ (g : Group). g.core.members) (sym after.group_is)) (members_stay_rosters (group_of base) after.whole roster);
         named = name_is (entered c r) after ∙ sym (name_is r k);
       }
+
+  -- with it one more slot is open
+  pub entered_opens : (c : Command) (r : ReplicaState) → IsAlong r → IsLearnt (rule ahead base) h (next r) c → AreAt at (next r) r.sets → length r.sets ≡ slots_ahead → AreAt at (next (entered c r)) (entered c r).sets
+  entered_opens c r k t are many =
+      subst (λ n. AreAt at n (entered c r).sets) (sym (entered_next c r))
+      (subst (AreAt at (next r + 1)) (sym (entered_sets c r)) (are_later at (next r) r.sets (members (entered c r)) are many (ap at (omega arith) ∙ (is_next c r k t).is)))
+
+  pub entered_many : (c : Command) (r : ReplicaState) → length r.sets ≡ slots_ahead → length (entered c r).sets ≡ slots_ahead
+  entered_many c r many = ap length (entered_sets c r) ∙ rest_length r.sets (members (entered c r)) (omega (arith, many)) ∙ many
 
   -- ---- all that is ready
 

@@ -209,6 +209,10 @@ module _ (sources : Sources) (ahead : Ahead) (words : ℕ → ℕ → ℕ × ℕ
           are_at ahead open_slots base roster (h_of journal base) part.lawful (decided_log ahead base journal) fronts k.whole k.is_log (next r) r.sets
           (subst (λ n. AreSets ahead base replica.whole n r.sets) (sym k.next_is) replica.sets)
 
+      -- as many as are open
+      pub many : ahead.slots ≡ slots_ahead → length r.sets ≡ slots_ahead
+      many open_slots = replica.count ∙ open_slots
+
       -- what it has in flight was offered and accepted
       pub flying : Each (IsFlying ahead base (h_of journal base) r.leader.ballot) r.leader.flights
       flying =

@@ -17,6 +17,7 @@ use Rattle.sc_paxos_law.specs.Lawful.{IsLawfulHistory}
 use Rattle.sc_paxos_law.proofs.Law.{earlier}
 use Rattle.sc_scenario.specs.Valid.{ValidScenariosAreBounded}
 use Rattle.sc_scenario.specs.declared.scenarios.Scenario.{Scenario}
+use Rattle.sc_node_table.specs.Execute.{entered}
 use Rattle.sc_node_table.specs.Node.{NodeState}
 use Rattle.sc_node_table.specs.Replica.{ReplicaState, next}
 use Rattle.sc_node_table.specs.Slots.{slots_ahead, with_slot}
@@ -39,10 +40,11 @@ use Rattle.sc_whole_law.proofs.Scheduled.{orders_allowed}
 use Rattle.sc_following_law.specs.Counted.{IsNext}
 use Rattle.sc_following_law.specs.Executed.{AreNext}
 use Rattle.sc_following_law.specs.Leading.{DecidesNext}
+use Rattle.sc_following_law.specs.Offers.{AreAt}
 use Rattle.sc_calm_logs_law.specs.Logged.{logged_sets, IsGroupOf, HasReplica, IsLogged, IsLoggedState, SlotsHaveRosters, ReplicasAreLogged, CommandsComeNext, StatesAreLogged}
-use Rattle.sc_calm_logs_law.proofs.Along.{IsAlong, first_sets, rosters, by_log, are_at, after_log, members_are, name_is, is_next, are_next, are_entries}
+use Rattle.sc_calm_logs_law.proofs.Along.{IsAlong, first_sets, rosters, by_log, are_at, after_log, members_are, name_is, entered_along, entered_opens, entered_many, is_next, are_next, are_entries}
 use Rattle.sc_calm_logs_law.proofs.Counting.{counted_learnt, each_with_slot}
-use Rattle.sc_calm_logs_law.proofs.Journals.{part, roster, fronts, sent_in, along, opens, flying}
+use Rattle.sc_calm_logs_law.proofs.Journals.{part, roster, fronts, sent_in, along, opens, many, flying}
 
 -- what the laws under this one say of valid scenarios
 module _ (bounded : ValidScenariosAreBounded) (begin : ValidScenariosBeginWell) (allowed : TakenOrdersAreAllowed) (wishes : TakenWishesAreAllowed) (positions : WishesAreAtPositions) (free : OtherNamesAreFree) where
@@ -115,13 +117,31 @@ module _ (bounded : ValidScenariosAreBounded) (begin : ValidScenariosBeginWell) 
       k : Along r
       k = along sources ahead words scenario route well journal orders group.lawful base group.stands rows seat node r has group.open_slots
 
-      logged : IsLogged (logged_sets ahead base journal) base r
-      logged = record {
-        named = name_is ahead group.open_slots base first_members h lawful_steps all all_fronts r k;
-        roster = subst IsRoster (members_are ahead group.open_slots base first_members h lawful_steps all all_fronts r k) (all_rosters (next r + 3));
-        members = members_are ahead group.open_slots base first_members h lawful_steps all all_fronts r k;
-        opens = opens sources ahead words scenario route well journal orders group.lawful base group.stands rows seat node r has group.open_slots;
+      of_along : (q : ReplicaState) → Along q → length q.sets ≡ slots_ahead → AreAt (logged_sets ahead base journal) (next q) q.sets → IsLogged (logged_sets ahead base journal) base q
+      of_along q j len are = record {
+        named = name_is ahead group.open_slots base first_members h lawful_steps all all_fronts q j;
+        roster = subst IsRoster (members_are ahead group.open_slots base first_members h lawful_steps all all_fronts q j) (all_rosters (next q + 3));
+        members = members_are ahead group.open_slots base first_members h lawful_steps all all_fronts q j;
+        many = len;
+        opens = are;
       }
+
+      four : length r.sets ≡ slots_ahead
+      four = many sources ahead words scenario route well journal orders group.lawful base group.stands rows seat node r has group.open_slots
+
+      open_sets : AreAt (logged_sets ahead base journal) (next r) r.sets
+      open_sets = opens sources ahead words scenario route well journal orders group.lawful base group.stands rows seat node r has group.open_slots
+
+      logged : IsLogged (logged_sets ahead base journal) base r
+      logged = of_along r k four open_sets
+
+      learnt_entered : (number : ℕ) (mail : Mail) (slot : ℕ) (command : Command) → numbered (mails rows) number ≡ Some mail → mail.body ≡ Learn base.core.id slot command → slot ≡ next r
+          → IsLogged (logged_sets ahead base journal) base (entered command r)
+      learnt_entered number mail slot command sent is at =
+          let t = subst (λ n. IsLearnt (rule ahead base) h n command) at (said rows has.more has.front number mail (Learn base.core.id slot command) sent is (same_name base.core.id base.core.id refl)) in
+          of_along (entered command r) (entered_along ahead group.open_slots base first_members h lawful_steps all all_fronts command r k t)
+          (entered_many ahead group.open_slots base first_members h lawful_steps all all_fronts command r four)
+          (entered_opens ahead group.open_slots base first_members h lawful_steps all all_fronts command r k t open_sets four)
 
       learnt_next : (number : ℕ) (mail : Mail) (slot : ℕ) (command : Command) → numbered (mails rows) number ≡ Some mail → mail.body ≡ Learn base.core.id slot command → slot ≡ next r → IsNext (logged_sets ahead base journal) command r
       learnt_next number mail slot command sent is at =
@@ -149,7 +169,7 @@ module _ (bounded : ValidScenariosAreBounded) (begin : ValidScenariosBeginWell) 
   replicas_are_logged = logged
 
   pub commands_come_next : CommandsComeNext
-  commands_come_next = record { learnt = learnt_next; ready = ready_next; decided = decides_next }
+  commands_come_next = record { learnt = learnt_next; entered = learnt_entered; ready = ready_next; decided = decides_next }
 
   pub states_are_logged : StatesAreLogged
   states_are_logged = state_logged

@@ -14,6 +14,7 @@ use Rattle.sc_actor.specs.Replay.{value}
 use Rattle.sc_paxos_law.specs.Chosen.{members_of}
 use Rattle.sc_scenario.specs.Valid.{IsValid}
 use Rattle.sc_scenario.specs.declared.scenarios.Scenario.{Scenario}
+use Rattle.sc_node_table.specs.Execute.{entered}
 use Rattle.sc_node_table.specs.Node.{NodeState, replica_of}
 use Rattle.sc_node_table.specs.Replica.{ReplicaState, name_of, next, members, first_ballot}
 use Rattle.sc_node_table.specs.Slots.{slots_ahead}
@@ -64,6 +65,7 @@ pub record IsLogged (at : Sets) (base : Base) (r : ReplicaState) : Type 0 where
   pub named : name_of r ≡ base.core.id
   pub roster : IsRoster (members r)
   pub members : members_at at (next r) ≡ members r
+  pub many : length r.sets ≡ slots_ahead
   pub opens : AreAt at (next r) r.sets
 
 -- so has each replica of the group, after any rows of the journal
@@ -78,6 +80,11 @@ pub record CommandsComeNext : Type 0 where
       → (rows : Rows) (seat : Seat Player) (node : NodeState) (r : ReplicaState) → HasReplica ahead scenario journal base rows seat node r
       → (number : ℕ) (mail : Mail) (slot : ℕ) (command : Command) → numbered (mails rows) number ≡ Some mail → mail.body ≡ Learn base.core.id slot command → slot ≡ next r
       → IsNext (logged_sets ahead base journal) command r
+  -- .. after which it has the members of one slot more
+  pub entered : (ahead : Ahead) (words : ℕ → ℕ → ℕ × ℕ) (scenario : Scenario) (journal : Rows) (base : Base) → IsGroupOf ahead words scenario journal base
+      → (rows : Rows) (seat : Seat Player) (node : NodeState) (r : ReplicaState) → HasReplica ahead scenario journal base rows seat node r
+      → (number : ℕ) (mail : Mail) (slot : ℕ) (command : Command) → numbered (mails rows) number ≡ Some mail → mail.body ≡ Learn base.core.id slot command → slot ≡ next r
+      → IsLogged (logged_sets ahead base journal) base (entered command r)
   -- .. what is ready there, and so on
   pub ready : (ahead : Ahead) (words : ℕ → ℕ → ℕ × ℕ) (scenario : Scenario) (journal : Rows) (base : Base) → IsGroupOf ahead words scenario journal base
       → (rows : Rows) (seat : Seat Player) (node : NodeState) (r : ReplicaState) → HasReplica ahead scenario journal base rows seat node r
