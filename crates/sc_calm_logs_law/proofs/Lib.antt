@@ -2,4 +2,5 @@ pub mod Along
 pub mod Counting
 pub mod Journals
 pub mod Laws
+pub mod Nodes
 pub mod Views
