@@ -1,5 +1,5 @@
 -- The members of a group stay nodes, whatever it executes that brings nodes.
-use Rattle.std.proofs.Common.{◌≡◌, ℕ, ◌&&◌, not, nat_lt, nat_le, eqb, Bool, true, false, cond, List, [], ◌∷◌, ◌++◌, filter, take, zero, suc, length, Option, Some, None, refl, sym, ◌∙◌, ap, subst}
+use Rattle.std.proofs.Common.{◌≡◌, ℕ, ◌-◌, ◌&&◌, not, nat_lt, nat_le, eqb, Bool, true, false, cond, List, [], ◌∷◌, ◌++◌, filter, take, zero, suc, length, Option, Some, None, refl, sym, ◌∙◌, ap, subst}
 use Rattle.std.proofs.lemmas.Bool.{cond_both, and_parts}
 use Rattle.sc_base.specs.Among.{Among, Each}
 use Rattle.sc_base.specs.Same.{same_draw}
@@ -33,9 +33,11 @@ use Rattle.sc_cmd.specs.declared.votes.Past.TheVariants as Cast
 use Rattle.sc_cmd.specs.declared.votes.Vote.{Vote}
 use Rattle.sc_cmd.specs.declared.votes.Vote.TheVariants as Says
 use Rattle.sc_cmd.specs.Cores.{is_alone}
+use Rattle.sc_cmd.specs.Effects.{decided_in}
+use Rattle.sc_machine_table.specs.Logs.{state_after}
 use Rattle.sc_member.specs.Roster.{is_member, with_member}
 use Rattle.sc_member.specs.Union.{with_any, united}
-use Rattle.sc_machine_table.specs.Group.{Group}
+use Rattle.sc_machine_table.specs.Group.{Group, group_of}
 use Rattle.sc_machine_table.specs.Machine.{served_by_note, served, called, ordered_by, split_group, applied}
 use Rattle.sc_machine_table.specs.Orders.{refusal_of, ordered, with_node, without_node}
 use Rattle.sc_machine_table.specs.Splits.{has_named, left_group, staying}
@@ -46,8 +48,9 @@ use Rattle.sc_machine_table.specs.Finishes.{can_gain, gained_group, lost_group, 
 use Rattle.sc_node_table.specs.Node.{is_node}
 use Rattle.sc_paxos_words.proofs.ListLemmas.{Each-among, Each-append, Each-filter}
 use Rattle.sc_paxos_law.proofs.Among.{member-among}
+use Rattle.sc_sound.specs.Logs.{decided_log}
 use Rattle.sc_group_law.proofs.Rosters.{ordered_if}
-use Rattle.sc_calm_logs_law.specs.Nodes.{AreNodes, MovesNode, HandsNodes, BringsNodes, HeardNodes, LockNodes, HasNodes, NodesStayNodes}
+use Rattle.sc_calm_logs_law.specs.Nodes.{AreNodes, MovesNode, HandsNodes, BringsNodes, HeardNodes, LockNodes, HasNodes, NodesStayNodes, SlotsHaveNodes}
 
 -- ---- a call
 
@@ -222,3 +225,70 @@ nodes_stay_nodes group (GiveUp tx) b has = cond_both (is_coordinating group.core
 nodes_stay_nodes group (Finish tx outcome) b has = finished_nodes group.core.lock group tx outcome has b
 nodes_stay_nodes group (Watched tx watch) b has = cast_nodes _ (Watching tx watch) group tx tt has
 nodes_stay_nodes group (RecordWatch tx vote by) b has = watched_nodes group.core.lock group tx vote has.1 has
+
+-- ---- what is decided moves a node, if it moves anyone
+
+abbrev pub IfMoves : Option Outcome → Type 0
+IfMoves None = Unit {0}
+IfMoves (Some outcome) = MovesNode outcome
+
+abbrev Q : Group × Effect → Type 0
+Q x = IfMoves (decided_in x.1)
+
+committed_moves : (plan : Plan) (group : Group) (tx : Draw) → Planned plan → Q (committed plan group tx)
+committed_moves None group tx p = tt
+committed_moves (Some plan) group tx p = p.1
+
+granted_moves : (body : Body) (group : Group) (tx : Draw) (order : ℕ) (frozen : Frozen) (by : ℕ) → HasNodes group.core → AreNodes frozen.members → Q (granted body group tx order frozen by)
+granted_moves At.Merge group tx order frozen by has more =
+    cond_both (same_draw frozen.succ.group group.core.id) _ _ Q (λ _. committed_moves (closing_plan group frozen) group tx (closing_planned group frozen has more)) (λ _. tt)
+granted_moves (At.Repart at) group tx order frozen by has more = committed_moves (repart_plan group at frozen) group tx (repart_planned group at frozen has)
+granted_moves (At.Migrate node) group tx order frozen by has more = committed_moves (migrate_plan group node frozen) group tx (migrate_planned group node frozen has)
+granted_moves (At.Split at child) group tx order frozen by has more = tt
+
+answered_moves : (vote : Vote) (body : Body) (group : Group) (tx : Draw) (order by : ℕ) → HasNodes group.core → HandsNodes vote → Q (participant_answered vote body group tx order by)
+answered_moves (Says.Yes frozen) body group tx order by has more = granted_moves body group tx order frozen by has more
+answered_moves (Says.No why) body group tx order by has more = tt
+
+pub voted_moves : (lock : Lock) (group : Group) (tx : Draw) (vote : Vote) (by : ℕ) → HasNodes group.core → HandsNodes vote → IfMoves (decided_in (vote_recorded lock group tx vote by).1)
+voted_moves Free group tx vote by has more = tt
+voted_moves (Promised locked offer) group tx vote by has more = tt
+voted_moves (Watching locked watch) group tx vote by has more = tt
+voted_moves (Coordinating locked body order heard) group tx vote by has more =
+    cond_both (same_draw locked tx) _ _ Q (λ _. cond_both (asks_watcher body heard) _ _ Q (λ _. tt) (λ _. answered_moves vote body group tx order by has more)) (λ _. tt)
+
+released_moves : (body : Body) (heard : Option Heard) (group : Group) (tx : Draw) → HasNodes group.core → HeardNodes heard → Q (released body heard group tx)
+released_moves At.Merge (Some heard) group tx has more = committed_moves (merge_plan group heard.frozen) group tx (merge_planned group heard.frozen has more)
+released_moves At.Merge None group tx has more = tt
+released_moves (At.Repart at) heard group tx has more = tt
+released_moves (At.Migrate node) heard group tx has more = tt
+released_moves (At.Split at child) heard group tx has more = committed_moves (split_plan group at child) group tx (split_planned group at child has)
+
+watch_moves : (vote : Past) (body : Body) (heard : Option Heard) (group : Group) (tx : Draw) → HasNodes group.core → HeardNodes heard → Q (watch_answered vote body heard group tx)
+watch_moves Cast.Yes body heard group tx has more = released_moves body heard group tx has more
+watch_moves (Cast.No why) body heard group tx has more = tt
+watch_moves Cast.Ended body heard group tx has more = tt
+
+pub watched_moves : (lock : Lock) (group : Group) (tx : Draw) (vote : Past) → LockNodes lock → HasNodes group.core → IfMoves (decided_in (watch_recorded lock group tx vote).1)
+watched_moves Free group tx vote more has = tt
+watched_moves (Promised locked offer) group tx vote more has = tt
+watched_moves (Watching locked watch) group tx vote more has = tt
+watched_moves (Coordinating locked body order heard) group tx vote more has =
+    cond_both (same_draw locked tx) _ _ Q (λ _. cond_both (asks_watcher body heard) _ _ Q (λ _. watch_moves vote body heard group tx has more) (λ _. tt)) (λ _. tt)
+
+-- ---- a log
+
+pub log_nodes : (group : Group) (log : List Command) → HasNodes group.core → Each BringsNodes log → HasNodes (state_after group log).core
+log_nodes group [] has all = has
+log_nodes group (c ∷ log) has all = log_nodes (applied group c).0 log (nodes_stay_nodes group c all.0 has) all.1
+
+each_taken : (count : ℕ) (log : List Command) → Each BringsNodes log → Each BringsNodes (take count log)
+each_taken zero log all = tt
+each_taken (suc count) [] all = tt
+each_taken (suc count) (c ∷ log) all = (all.0, each_taken count log all.1)
+
+pub slots_have_nodes : SlotsHaveNodes
+slots_have_nodes ahead base journal begins all slot node m =
+    let log = take (slot - ahead.slots) (decided_log ahead base journal) in
+    let has = log_nodes (group_of base) log begins (each_taken (slot - ahead.slots) (decided_log ahead base journal) all) in
+    Each-among (λ n. is_node n ≡ true) (state_after (group_of base) log).core.members node has.0 (member-among (state_after (group_of base) log).core.members node m)

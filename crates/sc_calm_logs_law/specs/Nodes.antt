@@ -11,9 +11,17 @@ use Rattle.sc_cmd.specs.declared.votes.Outcome.{Outcome}
 use Rattle.sc_cmd.specs.declared.votes.Outcome.TheVariants.{Abort, Merged, Moved, Migrated, Divided}
 use Rattle.sc_cmd.specs.declared.votes.Vote.{Vote}
 use Rattle.sc_cmd.specs.declared.votes.Vote.TheVariants.{Yes, No}
+use Rattle.sc_mail.specs.declared.bodies.MailBody.{MailBody}
+use Rattle.sc_mail.specs.declared.bodies.MailBody.TheVariants.{TxVote, TxOutcome}
 use Rattle.sc_machine_table.specs.Group.{Group}
 use Rattle.sc_machine_table.specs.Machine.{applied}
+use Rattle.sc_cmd.specs.declared.cores.Base.{Base}
+use Rattle.sc_member.specs.Roster.{is_member}
 use Rattle.sc_node_table.specs.Node.{is_node}
+use Rattle.sc_sound.specs.Logs.{decided_log}
+use Rattle.sc_sound.specs.Players.{Ahead}
+use Rattle.sc_log_law.specs.Descent.{Rows}
+use Rattle.sc_calm_logs_law.specs.Logged.{logged_sets}
 use Rattle.sc_base.specs.declared.names.Draw.{Draw}
 use Rattle.std.specs.Prelude.{Option, Some, None}
 
@@ -68,3 +76,13 @@ HasNodes core = AreNodes core.members × LockNodes core.lock × Each (λ (decisi
 -- a command that brings nodes leaves it so
 abbrev pub NodesStayNodes : Type 0
 NodesStayNodes = (group : Group) (command : Command) → BringsNodes command → HasNodes group.core → HasNodes (applied group command).0.core
+
+-- what a mail of a transaction says of nodes is so
+abbrev pub SaysNodes : MailBody → Type 0
+SaysNodes (TxVote tx coord part vote) = HandsNodes vote
+SaysNodes (TxOutcome tx part outcome) = MovesNode outcome
+SaysNodes _ = Unit {0}
+
+-- So the members of each slot by a group's log are nodes, if it begins with nodes and each entry brings nodes.
+abbrev pub SlotsHaveNodes : Type 0
+SlotsHaveNodes = (ahead : Ahead) (base : Base) (journal : Rows) → HasNodes base.core → Each BringsNodes (decided_log ahead base journal) → (slot node : ℕ) → is_member (logged_sets ahead base journal slot) node ≡ true → is_node node ≡ true

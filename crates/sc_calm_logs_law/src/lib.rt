@@ -9,6 +9,7 @@ ghost use Rattle.sc_calm_logs_law.specs.Logged.{
   StatesAreLogged,
   ViewsAreReplicas,
 };
+ghost use Rattle.sc_calm_logs_law.specs.Nodes.{NodesStayNodes, SlotsHaveNodes};
 
 use sc_names_law::{names_have_one_owner, orders_are_allowed};
 use sc_scenario::valid_scenarios_are_bounded;
@@ -63,3 +64,14 @@ pub fn states_are_logged()
     orders_are_allowed();
     names_have_one_owner();
 }
+
+/// The members of a group stay nodes by each command whose own are, also those that it hears of.
+pub fn nodes_stay_nodes()
+    ensures { NodesStayNodes }
+{}
+
+/// So the members of each slot are nodes, if the group begins so and each entry of its log brings
+/// nodes.
+pub fn slots_have_nodes()
+    ensures { SlotsHaveNodes }
+{}
