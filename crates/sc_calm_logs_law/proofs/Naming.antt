@@ -1,9 +1,9 @@
 -- What a group says in transactions names nodes, where its members are nodes.
-use Rattle.std.proofs.Common.{◌≡◌, ℕ, Bool, true, false, cond, List, [], ◌∷◌, ◌++◌, Option, Some, None, refl, sym, ◌∙◌, ap, subst}
+use Rattle.std.proofs.Common.{◌≡◌, ℕ, List, [], ◌∷◌, ◌++◌, Option, Some, None, refl, subst}
 use Rattle.std.specs.List.{find}
 use Rattle.std.specs.Option.{option_map}
 use Rattle.std.proofs.lemmas.Bool.{cond_both}
-use Rattle.sc_base.specs.Among.{Among, Each}
+use Rattle.sc_base.specs.Among.{Each}
 use Rattle.sc_base.specs.Same.{same_draw}
 use Rattle.sc_base.specs.declared.names.Draw.{Draw}
 use Rattle.sc_cmd.specs.declared.bodies.Body.{Body}
@@ -37,13 +37,13 @@ use Rattle.sc_node_table.specs.declared.Before.{Before}
 use Rattle.sc_node_table.specs.Mails.{sent_all}
 use Rattle.sc_node_table.specs.Questions.{question, asked_first, asked_link, asked_node}
 use Rattle.sc_node_table.specs.Reminders.{reminders}
-use Rattle.sc_node_table.specs.Spoken.{before_of, asked_on, begun_asks, vote_sent, watch_sent, aborted_to, aborted_watcher, given_up_by, vote_answered, released_to, watch_answered_by, went_on}
+use Rattle.sc_node_table.specs.Spoken.{before_of, asked_on, vote_sent, watch_sent, aborted_to, aborted_watcher, given_up_by, vote_answered, released_to, watch_answered_by, went_on}
 use Rattle.sc_node_table.specs.Transactions.{noted_outcome, voted_to, watched_to, next_asked, asked_next}
 use Rattle.sc_paxos_words.proofs.ListLemmas.{Each-among, Each-append, find_found}
 use Rattle.sc_sound.specs.Players.{Ahead}
 use Rattle.sc_group_law.proofs.Invariant.{Steps, birth}
 use Rattle.sc_group_law.proofs.Speech.{IsSaid, AreSaid, Meets, Speaks}
-use Rattle.sc_calm_logs_law.specs.Nodes.{AreNodes, MovesNode, HandsNodes, BringsNodes, LockNodes, HasNodes, SaysNodes}
+use Rattle.sc_calm_logs_law.specs.Nodes.{AreNodes, MovesNode, BringsNodes, HasNodes, SaysNodes}
 use Rattle.sc_calm_logs_law.proofs.Nodes.{IfMoves, nodes_stay_nodes, voted_moves, watched_moves, log_nodes}
 
 abbrev Said : List Mail → Type 0

@@ -1,7 +1,7 @@
 -- The members of a group stay nodes, whatever it executes that brings nodes.
-use Rattle.std.proofs.Common.{◌≡◌, ℕ, ◌-◌, ◌&&◌, not, nat_lt, nat_le, eqb, Bool, true, false, cond, List, [], ◌∷◌, ◌++◌, filter, take, zero, suc, length, Option, Some, None, refl, sym, ◌∙◌, ap, subst}
+use Rattle.std.proofs.Common.{◌≡◌, ℕ, ◌-◌, ◌&&◌, not, nat_lt, nat_le, eqb, true, List, [], ◌∷◌, filter, take, zero, suc, length, Option, Some, None, refl, sym, subst}
 use Rattle.std.proofs.lemmas.Bool.{cond_both, and_parts}
-use Rattle.sc_base.specs.Among.{Among, Each}
+use Rattle.sc_base.specs.Among.{Each}
 use Rattle.sc_base.specs.Same.{same_draw}
 use Rattle.sc_base.specs.declared.names.Draw.{Draw}
 use Rattle.sc_base.specs.Arc.{holds}
@@ -12,10 +12,8 @@ use Rattle.std.specs.FinMap.{get}
 use Rattle.sc_cmd.specs.declared.bodies.Body.{Body}
 use Rattle.sc_cmd.specs.declared.bodies.Body.TheVariants as At
 use Rattle.sc_cmd.specs.declared.bodies.Offer.{Offer}
-use Rattle.sc_cmd.specs.declared.bodies.Watch.{Watch}
 use Rattle.sc_cmd.specs.declared.commands.Command.{Command}
 use Rattle.sc_cmd.specs.declared.commands.Command.TheVariants.{Noop, Call, Join, Leave, Split, Begin, Prepared, RecordVote, GiveUp, Finish, Watched, RecordWatch}
-use Rattle.sc_cmd.specs.declared.cores.Core.{Core}
 use Rattle.sc_cmd.specs.declared.cores.Lock.{Lock}
 use Rattle.sc_cmd.specs.declared.cores.Lock.TheVariants.{Free, Coordinating, Promised, Watching}
 use Rattle.sc_cmd.specs.declared.effects.Effect.{Effect}
@@ -39,12 +37,12 @@ use Rattle.sc_member.specs.Roster.{is_member, with_member}
 use Rattle.sc_member.specs.Union.{with_any, united}
 use Rattle.sc_machine_table.specs.Group.{Group, group_of}
 use Rattle.sc_machine_table.specs.Machine.{served_by_note, served, called, ordered_by, split_group, applied}
-use Rattle.sc_machine_table.specs.Orders.{refusal_of, ordered, with_node, without_node}
+use Rattle.sc_machine_table.specs.Orders.{refusal_of, with_node, without_node}
 use Rattle.sc_machine_table.specs.Splits.{has_named, left_group, staying}
 use Rattle.sc_machine_table.specs.Plans.{Plan, can_cut, has_key_of, taken, taking_group, can_split, split_plan, may_merge, merge_plan, closing_plan, can_repart, giving_plan, taking_plan, repart_plan, can_migrate, migrate_plan}
-use Rattle.sc_machine_table.specs.Transactions.{begun_group, decided, committed, granted, participant_answered, asks_watcher, vote_recorded, released, watch_answered, watch_recorded, is_coordinating, given_up, aborted}
+use Rattle.sc_machine_table.specs.Transactions.{begun_group, decided, committed, granted, participant_answered, asks_watcher, vote_recorded, released, watch_answered, watch_recorded, is_coordinating}
 use Rattle.sc_machine_table.specs.Votes.{has_voted, bound_by, voted_on}
-use Rattle.sc_machine_table.specs.Finishes.{can_gain, gained_group, lost_group, welcomed_group, gained, lost, moved, group_welcomed, participant_after, settled_in, watch_ended, finished}
+use Rattle.sc_machine_table.specs.Finishes.{can_gain, gained_group, lost_group, welcomed_group, moved, participant_after, settled_in, finished}
 use Rattle.sc_node_table.specs.Node.{is_node}
 use Rattle.sc_paxos_words.proofs.ListLemmas.{Each-among, Each-append, Each-filter}
 use Rattle.sc_paxos_law.proofs.Among.{member-among}
