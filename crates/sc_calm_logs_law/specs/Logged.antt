@@ -1,0 +1,111 @@
+-- What a group's log says, in a lawful journal, of the members of its slots, its replicas and its mail.
+use Rattle.std.specs.Prelude.{◌≡◌, ℕ, ◌+◌, ◌<◌, true, List, ◌++◌, length, Some}
+use Rattle.sc_base.specs.Among.{Among}
+use Rattle.sc_base.specs.declared.names.Ballot.{Ballot}
+use Rattle.sc_cmd.specs.declared.commands.Command.{Command}
+use Rattle.sc_cmd.specs.declared.cores.Base.{Base}
+use Rattle.sc_mail.specs.declared.bodies.Mail.{Mail}
+use Rattle.sc_mail.specs.declared.bodies.MailBody.TheVariants.{Accepted, Learn, Install}
+use Rattle.sc_mail.specs.declared.roles.Role.TheVariants.{Node}
+use Rattle.sc_member.specs.Roster.{IsRoster}
+use Rattle.sc_actor.specs.declared.actors.Seat.{Seat}
+use Rattle.sc_actor.specs.Mail.{mails, numbered}
+use Rattle.sc_actor.specs.Replay.{value}
+use Rattle.sc_paxos_law.specs.Chosen.{members_of}
+use Rattle.sc_scenario.specs.Valid.{IsValid}
+use Rattle.sc_scenario.specs.declared.scenarios.Scenario.{Scenario}
+use Rattle.sc_node_table.specs.Execute.{entered}
+use Rattle.sc_node_table.specs.Node.{NodeState, replica_of}
+use Rattle.sc_node_table.specs.Replica.{ReplicaState, name_of, next, members, first_ballot}
+use Rattle.sc_node_table.specs.Slots.{slots_ahead}
+use Rattle.sc_sound.specs.GroupsOf.{groups_at}
+use Rattle.sc_sound.specs.Logs.{rule_of, decided_log}
+use Rattle.sc_sound.specs.Players.{Ahead, Player, Lawful, births, player_table}
+use Rattle.sc_log_law.specs.Descent.{Rows}
+use Rattle.sc_following_law.specs.Counted.{IsNext}
+use Rattle.sc_following_law.specs.Executed.{AreNext}
+use Rattle.sc_following_law.specs.Following.{Sets, members_at}
+use Rattle.sc_following_law.specs.Leading.{DecidesNext}
+use Rattle.sc_following_law.specs.Offers.{AreAt}
+use Rattle.sc_calm_rows_law.specs.Groups.{view_at}
+use Rattle.sc_calm_rows_law.specs.Turns.{IsSeat}
+
+-- the members of each slot by the group's log in a journal: those of the state after the entries up to so many slots before it as are open, and behind the log's end those of the last state
+abbrev pub logged_sets : Ahead → Base → Rows → Sets
+logged_sets ahead base journal slot = members_of (rule_of ahead base) (decided_log ahead base journal) slot
+
+-- a group of a lawful journal of a valid scenario
+pub record IsGroupOf (ahead : Ahead) (words : ℕ → ℕ → ℕ × ℕ) (scenario : Scenario) (journal : Rows) (base : Base) : Type 0 where
+  pub open_slots : ahead.slots ≡ slots_ahead
+  pub valid : IsValid scenario
+  pub lawful : Lawful ahead words scenario journal
+  pub stands : Among base (groups_at ahead scenario.groups journal)
+
+-- its first members are those of each slot that is open at its birth and of the next one, and those of all slots are one to nine nodes, ascending
+pub record SlotsHaveRosters : Type 0 where
+  pub first : (ahead : Ahead) (words : ℕ → ℕ → ℕ × ℕ) (scenario : Scenario) (journal : Rows) (base : Base) → IsGroupOf ahead words scenario journal base → (slot : ℕ) → slot < 1 + slots_ahead → logged_sets ahead base journal slot ≡ base.core.members
+  pub rosters : (ahead : Ahead) (words : ℕ → ℕ → ℕ × ℕ) (scenario : Scenario) (journal : Rows) (base : Base) → IsGroupOf ahead words scenario journal base → (slot : ℕ) → IsRoster (logged_sets ahead base journal slot)
+
+-- a player of a scenario is a node, which has this replica of the group after the first rows of a journal
+pub record HasReplica (ahead : Ahead) (scenario : Scenario) (journal : Rows) (base : Base) (rows : Rows) (seat : Seat Player) (node : NodeState) (r : ReplicaState) : Type 0 where
+  pub more : Rows
+  pub front : journal ≡ rows ++ more
+  pub seated : IsSeat (births ahead scenario) seat
+  pub is : value player_table seat rows ≡ Node node
+  pub here : replica_of base.core.id node.replicas ≡ Some r
+
+-- each replica of the group that a player has is one of a node
+abbrev pub ViewsAreReplicas : Type 0
+ViewsAreReplicas = (ahead : Ahead) (words : ℕ → ℕ → ℕ × ℕ) (scenario : Scenario) (journal : Rows) (base : Base) → IsGroupOf ahead words scenario journal base
+    → (rows more : Rows) → journal ≡ rows ++ more → (who : ℕ) (r : ReplicaState) → view_at (births ahead scenario) rows base.core.id who ≡ Some r
+    → (seat : Seat Player) × (node : NodeState) × HasReplica ahead scenario journal base rows seat node r × (seat.who ≡ who)
+
+-- a replica has the group's name, the members of its open slots, and for its own those of the slot behind these
+pub record IsLogged (at : Sets) (base : Base) (r : ReplicaState) : Type 0 where
+  pub named : name_of r ≡ base.core.id
+  pub roster : IsRoster (members r)
+  pub members : members_at at (next r) ≡ members r
+  pub many : length r.sets ≡ slots_ahead
+  pub opens : AreAt at (next r) r.sets
+
+-- so has each replica of the group, after any rows of the journal
+abbrev pub ReplicasAreLogged : Type 0
+ReplicasAreLogged = (ahead : Ahead) (words : ℕ → ℕ → ℕ × ℕ) (scenario : Scenario) (journal : Rows) (base : Base) → IsGroupOf ahead words scenario journal base
+    → (rows : Rows) (seat : Seat Player) (node : NodeState) (r : ReplicaState) → HasReplica ahead scenario journal base rows seat node r → IsLogged (logged_sets ahead base journal) base r
+
+-- What it executes next is the entry of its slot ..
+pub record CommandsComeNext : Type 0 where
+  -- .. where a mail tells it of its next slot
+  pub learnt : (ahead : Ahead) (words : ℕ → ℕ → ℕ × ℕ) (scenario : Scenario) (journal : Rows) (base : Base) → IsGroupOf ahead words scenario journal base
+      → (rows : Rows) (seat : Seat Player) (node : NodeState) (r : ReplicaState) → HasReplica ahead scenario journal base rows seat node r
+      → (number : ℕ) (mail : Mail) (slot : ℕ) (command : Command) → numbered (mails rows) number ≡ Some mail → mail.body ≡ Learn base.core.id slot command → slot ≡ next r
+      → IsNext (logged_sets ahead base journal) command r
+  -- .. after which it has the members of one slot more
+  pub entered : (ahead : Ahead) (words : ℕ → ℕ → ℕ × ℕ) (scenario : Scenario) (journal : Rows) (base : Base) → IsGroupOf ahead words scenario journal base
+      → (rows : Rows) (seat : Seat Player) (node : NodeState) (r : ReplicaState) → HasReplica ahead scenario journal base rows seat node r
+      → (number : ℕ) (mail : Mail) (slot : ℕ) (command : Command) → numbered (mails rows) number ≡ Some mail → mail.body ≡ Learn base.core.id slot command → slot ≡ next r
+      → IsLogged (logged_sets ahead base journal) base (entered command r)
+  -- .. what is ready there, and so on
+  pub ready : (ahead : Ahead) (words : ℕ → ℕ → ℕ × ℕ) (scenario : Scenario) (journal : Rows) (base : Base) → IsGroupOf ahead words scenario journal base
+      → (rows : Rows) (seat : Seat Player) (node : NodeState) (r : ReplicaState) → HasReplica ahead scenario journal base rows seat node r
+      → (mails : List Mail) → AreNext (logged_sets ahead base journal) r.ready (r, mails)
+  -- .. and what a vote decides at one that leads, with all that is ready behind it
+  pub decided : (ahead : Ahead) (words : ℕ → ℕ → ℕ × ℕ) (scenario : Scenario) (journal : Rows) (base : Base) → IsGroupOf ahead words scenario journal base
+      → (rows : Rows) (seat : Seat Player) (node : NodeState) (r : ReplicaState) → HasReplica ahead scenario journal base rows seat node r → r.running ≡ true
+      → (number : ℕ) (mail : Mail) (ballot : Ballot) (slot : ℕ) → numbered (mails rows) number ≡ Some mail → mail.body ≡ Accepted base.core.id ballot slot
+      → DecidesNext (logged_sets ahead base journal) mail.from ballot slot r
+
+-- A state is the group's after the entries up to a slot, with the members of the slots that are open then.
+pub record IsLoggedState (at : Sets) (base : Base) (slot : ℕ) (state : Base) (sets : List (List ℕ)) : Type 0 where
+  pub many : length sets ≡ slots_ahead
+  pub named : state.core.id ≡ base.core.id
+  pub first : first_ballot state.core ≡ first_ballot base.core
+  pub roster : IsRoster state.core.members
+  pub members : members_at at (slot + 1) ≡ state.core.members
+  pub opens : AreAt at (slot + 1) sets
+
+-- so is each that is sent
+abbrev pub StatesAreLogged : Type 0
+StatesAreLogged = (ahead : Ahead) (words : ℕ → ℕ → ℕ × ℕ) (scenario : Scenario) (journal : Rows) (base : Base) → IsGroupOf ahead words scenario journal base
+    → (rows more : Rows) → journal ≡ rows ++ more → (number : ℕ) (mail : Mail) (slot : ℕ) (state : Base) (sets : List (List ℕ)) → numbered (mails rows) number ≡ Some mail → mail.body ≡ Install base.core.id slot state sets
+    → IsLoggedState (logged_sets ahead base journal) base slot state sets

@@ -1,0 +1,88 @@
+-- That the members of groups are nodes.
+use Rattle.std.specs.Prelude.{◌≡◌, ℕ, true, List}
+use Rattle.sc_base.specs.Among.{Each}
+use Rattle.sc_cmd.specs.declared.commands.Command.{Command}
+use Rattle.sc_cmd.specs.declared.commands.Command.TheVariants.{Noop, Call, Join, Leave, Split, Begin, Prepared, RecordVote, GiveUp, Finish, Watched, RecordWatch}
+use Rattle.sc_cmd.specs.declared.cores.Core.{Core}
+use Rattle.sc_cmd.specs.declared.cores.Lock.{Lock}
+use Rattle.sc_cmd.specs.declared.cores.Lock.TheVariants.{Free, Coordinating, Promised, Watching}
+use Rattle.sc_cmd.specs.declared.votes.Heard.{Heard}
+use Rattle.sc_cmd.specs.declared.votes.Outcome.{Outcome}
+use Rattle.sc_cmd.specs.declared.votes.Outcome.TheVariants.{Abort, Merged, Moved, Migrated, Divided}
+use Rattle.sc_cmd.specs.declared.votes.Vote.{Vote}
+use Rattle.sc_cmd.specs.declared.votes.Vote.TheVariants.{Yes, No}
+use Rattle.sc_mail.specs.declared.bodies.MailBody.{MailBody}
+use Rattle.sc_mail.specs.declared.bodies.MailBody.TheVariants.{TxVote, TxOutcome}
+use Rattle.sc_machine_table.specs.Group.{Group}
+use Rattle.sc_machine_table.specs.Machine.{applied}
+use Rattle.sc_cmd.specs.declared.cores.Base.{Base}
+use Rattle.sc_member.specs.Roster.{is_member}
+use Rattle.sc_node_table.specs.Node.{is_node}
+use Rattle.sc_sound.specs.Logs.{decided_log}
+use Rattle.sc_sound.specs.Players.{Ahead}
+use Rattle.sc_log_law.specs.Descent.{Rows}
+use Rattle.sc_calm_logs_law.specs.Logged.{logged_sets}
+use Rattle.sc_base.specs.declared.names.Draw.{Draw}
+use Rattle.std.specs.Prelude.{Option, Some, None}
+
+-- each of these is a node
+abbrev pub AreNodes : List ℕ → Type 0
+AreNodes = Each (λ node. is_node node ≡ true)
+
+-- a node that an outcome moves is one
+abbrev pub MovesNode : Outcome → Type 0
+MovesNode (Migrated node) = is_node node ≡ true
+MovesNode Abort = Unit {0}
+MovesNode (Merged into) = Unit {0}
+MovesNode (Moved at gift) = Unit {0}
+MovesNode Divided = Unit {0}
+
+-- the members that a vote hands over are nodes
+abbrev pub HandsNodes : Vote → Type 0
+HandsNodes (Yes frozen) = AreNodes frozen.members
+HandsNodes (No why) = Unit {0}
+
+-- the members that a command brings are nodes
+abbrev pub BringsNodes : Command → Type 0
+BringsNodes (Join node order) = is_node node ≡ true
+BringsNodes (RecordVote tx vote by) = HandsNodes vote
+BringsNodes (Finish tx outcome) = MovesNode outcome
+BringsNodes Noop = Unit {0}
+BringsNodes (Call client seq op) = Unit {0}
+BringsNodes (Leave node order) = Unit {0}
+BringsNodes (Split at child order) = Unit {0}
+BringsNodes (Begin tx body order) = Unit {0}
+BringsNodes (Prepared tx offer) = Unit {0}
+BringsNodes (GiveUp tx) = Unit {0}
+BringsNodes (Watched tx watch) = Unit {0}
+BringsNodes (RecordWatch tx vote by) = Unit {0}
+
+-- those that a coordinator heard of are nodes
+abbrev pub HeardNodes : Option Heard → Type 0
+HeardNodes None = Unit {0}
+HeardNodes (Some heard) = AreNodes heard.frozen.members
+
+-- .. by its lock
+abbrev pub LockNodes : Lock → Type 0
+LockNodes (Coordinating tx body order heard) = HeardNodes heard
+LockNodes Free = Unit {0}
+LockNodes (Promised tx offer) = Unit {0}
+LockNodes (Watching tx watch) = Unit {0}
+
+-- a group's members are nodes, and those that it heard of or has moved
+abbrev pub HasNodes : Core → Type 0
+HasNodes core = AreNodes core.members × LockNodes core.lock × Each (λ (decision : Draw × Outcome). MovesNode decision.1) core.decided
+
+-- a command that brings nodes leaves it so
+abbrev pub NodesStayNodes : Type 0
+NodesStayNodes = (group : Group) (command : Command) → BringsNodes command → HasNodes group.core → HasNodes (applied group command).0.core
+
+-- what a mail of a transaction says of nodes is so
+abbrev pub SaysNodes : MailBody → Type 0
+SaysNodes (TxVote tx coord part vote) = HandsNodes vote
+SaysNodes (TxOutcome tx part outcome) = MovesNode outcome
+SaysNodes _ = Unit {0}
+
+-- So the members of each slot by a group's log are nodes, if it begins with nodes and each entry brings nodes.
+abbrev pub SlotsHaveNodes : Type 0
+SlotsHaveNodes = (ahead : Ahead) (base : Base) (journal : Rows) → HasNodes base.core → Each BringsNodes (decided_log ahead base journal) → (slot node : ℕ) → is_member (logged_sets ahead base journal slot) node ≡ true → is_node node ≡ true
