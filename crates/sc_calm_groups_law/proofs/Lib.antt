@@ -1,0 +1,2 @@
+pub mod Dating
+pub mod Rows

@@ -1,0 +1,12 @@
+//! Of one group through a calm journal: that it follows its leader, that each node takes the one
+//! that leads for that, and that what is asked and offered is in order. Definitions and laws, no
+//! logic.
+#![tactic(auto)]
+
+ghost use Rattle.sc_calm_groups_law.specs.Rows.{RowsKeepLed};
+
+/// Each row of players keeps a group well led, by what it is in the group: one that does nothing,
+/// of a node that takes a mail, of the leader, or of one that elects itself.
+pub fn rows_keep_led()
+    ensures { RowsKeepLed }
+{}
