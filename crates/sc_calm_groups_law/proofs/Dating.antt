@@ -13,6 +13,7 @@ use Rattle.sc_actor.specs.declared.rows.Row.{Row}
 use Rattle.sc_actor.specs.Mail.{mails, numbered, is_delivery}
 use Rattle.sc_actor.specs.System.{System, row_of}
 use Rattle.sc_orderly_law.specs.Orderly.{IsTidy, IsCalmRow, IsCalmEvent, rest, mail_for, taken}
+use Rattle.sc_orderly_law.specs.Timely.{AreInTime}
 use Rattle.sc_orderly_law.proofs.InTime.{in_time_before, in_time_tidy, last_in_time}
 use Rattle.sc_orderly_law.proofs.Resting.{takes_first, is_born-from, rest-calm}
 use Rattle.sc_node_table.specs.Replica.{listed}
