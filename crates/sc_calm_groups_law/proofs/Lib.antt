@@ -1,2 +1,3 @@
+pub mod Beginning
 pub mod Dating
 pub mod Rows

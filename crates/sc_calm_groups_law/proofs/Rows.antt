@@ -108,7 +108,7 @@ none_of [] e = tt
 none_of (d ∷ dated) e = (e.0, none_of dated e.1)
 
 -- marks are those of marks with slots
-marks_all : (name : Draw) (mails : List Mail) → marks_in (dated_of name mails) ≡ marks_of name mails
+pub marks_all : (name : Draw) (mails : List Mail) → marks_in (dated_of name mails) ≡ marks_of name mails
 marks_all name [] = refl
 marks_all name (mail ∷ mails) = one (mark_of name mail.from mail.body) (marks_all name mails)
   where

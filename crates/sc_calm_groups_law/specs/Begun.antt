@@ -2,7 +2,7 @@
 use Rattle.std.specs.Prelude.{◌≡◌, ℕ, ◌+◌, ◌<◌, true, false, List, [], None}
 use Rattle.sc_base.specs.Among.{Among}
 use Rattle.sc_cmd.specs.declared.cores.Base.{Base}
-use Rattle.sc_member.specs.Roster.{is_member}
+use Rattle.sc_member.specs.Roster.{IsRoster, is_member}
 use Rattle.sc_actor.specs.declared.actors.Seat.{Seat}
 use Rattle.sc_scenario.specs.Valid.{IsBounded}
 use Rattle.sc_scenario.specs.declared.scenarios.Scenario.{Scenario}
@@ -15,10 +15,11 @@ use Rattle.sc_following_law.specs.Hints.{Tellers}
 use Rattle.sc_calm_rows_law.specs.Groups.{view_at, marks_at, begun_course}
 use Rattle.sc_calm_groups_law.specs.Led.{Ends, dated_at, IsWellLed}
 
--- the log of a group begins with its first members, and with the group standing
+-- the log of a group begins with its first members, and with the group standing; the members of each slot are a roster
 pub record BeginsSo (at : Sets) (over : Ends) (base : Base) : Type 0 where
   pub sets : (slot : ℕ) → slot < 1 + slots_ahead → at slot ≡ base.core.members
   pub stands : over 1 ≡ false
+  pub rosters : (slot : ℕ) → IsRoster (at slot)
 
 -- Each group of a bounded scenario is well led at its birth ..
 abbrev pub ScenariosBeginLed : Type 0
