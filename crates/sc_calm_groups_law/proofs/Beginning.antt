@@ -1,5 +1,5 @@
 -- Groups begin well led.
-use Rattle.std.proofs.Common.{◌≡◌, ℕ, ◌+◌, ◌<◌, true, false, cond, List, [], ◌++◌, Option, Some, None, inl, inr, refl, sym, ◌∙◌, ap, subst, arith, append-nil}
+use Rattle.std.proofs.Common.{◌≡◌, ℕ, zero, suc, ◌+◌, ◌<◌, ◌≤◌, true, true≢false, false, cond, List, [], ◌++◌, Option, Some, None, inl, inr, refl, sym, ◌∙◌, ap, subst, arith, append-nil}
 use Rattle.std.proofs.lemmas.Bool.{cases_Bool, cond-true, cond-false, cond_both, eqb-true, eq-eqb}
 use Rattle.sc_base.specs.Among.{Among}
 use Rattle.sc_base.specs.declared.names.Ballot.{Ballot}
@@ -78,7 +78,12 @@ module _ (at : Sets) (over : Ends) (by : Tellers) (words : ℕ → ℕ → ℕ �
       orderly = orderly;
       young = λ _. refl;
       ends = sym so.stands;
+      rests = some_slot;
     }
+      where
+        some_slot : (slot : ℕ) → over slot ≡ true → 1 ≤ slot
+        some_slot zero e = absurd (true≢false (sym e ∙ so.early))
+        some_slot (suc slot) e = omega arith
 
 -- ---- a group of a scenario
 

@@ -1,3 +1,4 @@
 pub mod Beginning
 pub mod Dating
+pub mod Mails
 pub mod Rows

@@ -206,6 +206,7 @@ module _ (at : Sets) (over : Ends) (by : Tellers) (words : ℕ → ℕ → ℕ �
     orderly = orderly_then leaves.orderly;
     young = λ none. stage.was.young (none_before leaves.there none);
     ends = stage.was.ends;
+    rests = stage.was.rests;
   }
 
   keeps_taking : LeavesWell at births rows seat event base course → IsKind (Takes at) births rows seat event base course course → GoesBy at by now (after_ course) seat.who taken (hints seat.who) (hints_then seat.who) → IsWellLed at over by words births then_ base course
@@ -219,6 +220,7 @@ module _ (at : Sets) (over : Ends) (by : Tellers) (words : ℕ → ℕ → ℕ �
     orderly = orderly_then leaves.orderly;
     young = λ none. stage.was.young (none_before leaves.there none);
     ends = stage.was.ends;
+    rests = stage.was.rests;
   }
 
   -- the marks that are under way, of those with slots
@@ -252,6 +254,7 @@ module _ (at : Sets) (over : Ends) (by : Tellers) (words : ℕ → ℕ → ℕ �
             subst IsOrderly same (l.orderly (ap (λ (x : ReplicaState). x.running) same ∙ runs))));
         young = λ none. absurd (never_led r after row leads.mine (stage.was.young (none_before (some_there after row.is) none)) none);
         ends = l.ends;
+        rests = l.rests;
       }
     where
       -- the first member's node has a replica where it leads
@@ -276,6 +279,7 @@ module _ (at : Sets) (over : Ends) (by : Tellers) (words : ℕ → ℕ → ℕ �
         orderly = orderly_then (λ other view runs. subst IsOrderly (same_some (view_at births then_ name seat.who) after.0 other row.is view) e.orderly);
         young = λ none. absurd (true≢false (sym (ap (λ (x : Course). x.runs) (stage.was.young (none_before (some_there after row.is) none))) ∙ elects.idle));
         ends = sym elects.stands ∙ stage.was.ends;
+        rests = stage.was.rests;
       }
 
 pub rows_keep_led : RowsKeepLed

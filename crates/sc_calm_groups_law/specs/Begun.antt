@@ -19,6 +19,7 @@ use Rattle.sc_calm_groups_law.specs.Led.{Ends, dated_at, IsWellLed}
 pub record BeginsSo (at : Sets) (over : Ends) (base : Base) : Type 0 where
   pub sets : (slot : ℕ) → slot < 1 + slots_ahead → at slot ≡ base.core.members
   pub stands : over 1 ≡ false
+  pub early : over 0 ≡ false
   pub rosters : (slot : ℕ) → IsRoster (at slot)
 
 -- Each group of a bounded scenario is well led at its birth ..

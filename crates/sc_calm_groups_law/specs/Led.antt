@@ -1,5 +1,5 @@
 -- A group after some rows of players that is well led: it follows its leader, each node takes the one for the leader that it is to, and what the leader has in flight is in order.
-use Rattle.std.specs.Prelude.{◌≡◌, ℕ, Bool, true, List, [], Option, Some, None}
+use Rattle.std.specs.Prelude.{◌≡◌, ℕ, ◌≤◌, Bool, true, List, [], Option, Some, None}
 use Rattle.sc_base.specs.declared.names.Draw.{Draw}
 use Rattle.sc_cmd.specs.declared.cores.Base.{Base}
 use Rattle.sc_cmd.specs.declared.orders.OrderLine.{OrderLine}
@@ -31,11 +31,11 @@ hints_at births rows base who = hint_in base (view_at births rows base.core.id w
 abbrev pub dated_at : System Player Mail OrderLine → Rows → Draw → ℕ → List Dated
 dated_at s rows name who = dated_of name (rest s rows who)
 
--- after which slots the group is gone
+-- whether the group is gone in the state in which a slot is the next one
 abbrev pub Ends : Type 0
 Ends = ℕ → Bool
 
--- The group follows its leader in this course; its nodes take the one that leads for that; none is asked to promise from below its next slot, and a leader has taken what it asked itself; what a leader has in flight and ready is in order; the group goes on as it began until its first member's node has a replica; and it is gone where the log says so.
+-- The group follows its leader in this course; its nodes take the one that leads for that; none is asked to promise from below its next slot, and a leader has taken what it asked itself; what a leader has in flight and ready is in order; the group goes on as it began until its first member's node has a replica; and it is gone where the log says so, which nothing follows.
 pub record IsWellLed (at : Sets) (over : Ends) (by : Tellers) (words : ℕ → ℕ → ℕ × ℕ) (births : List (Seat Player)) (rows : Rows) (base : Base) (course : Course) : Type 0 where
   pub followed : IsFollowedAt at words births rows base course
   pub heeded : IsHeeding at by (progress_at births rows base course) (hints_at births rows base) (marks_at (players words births) rows base.core.id)
@@ -44,6 +44,7 @@ pub record IsWellLed (at : Sets) (over : Ends) (by : Tellers) (words : ℕ → �
   pub orderly : (node : ℕ) (r : ReplicaState) → view_at births rows base.core.id node ≡ Some r → r.running ≡ true → IsOrderly r
   pub young : view_at births rows base.core.id base.core.first ≡ None → course ≡ begun_course base
   pub ends : course.gone ≡ over course.newest
+  pub rests : (slot : ℕ) → over slot ≡ true → course.newest ≤ slot
 
 -- .. in some course
 abbrev pub IsLedOn : Sets → Ends → Tellers → (ℕ → ℕ → ℕ × ℕ) → List (Seat Player) → Rows → Base → Type 0

@@ -1,3 +1,5 @@
 pub mod Begun
 pub mod Led
+pub mod Logged
+pub mod Mailed
 pub mod Rows

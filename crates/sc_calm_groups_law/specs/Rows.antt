@@ -38,7 +38,7 @@ pub record LeavesWell (at : Sets) (births : List (Seat Player)) (rows : Rows) (s
   pub orderly : (r : ReplicaState) → view_at births (with_event rows seat event) base.core.id seat.who ≡ Some r → r.running ≡ true → IsOrderly r
   pub there : view_at births (with_event rows seat event) base.core.id seat.who ≡ None → view_at births rows base.core.id seat.who ≡ None
 
--- a leader's row, of a leader that leaves last, counts its own promises and asks right behind a state; it is in order after it where it leads on, and the group is gone where the log says so
+-- a leader's row, of a leader that leaves last, counts its own promises and asks right behind a state; it is in order after it where it leads on, and the group is gone where the log says so, which nothing follows
 pub record LeadsWell (at : Sets) (over : Ends) (by : Tellers) (births : List (Seat Player)) (rows : Rows) (seat : Seat Player) (event : Event OrderLine) (base : Base) (course : Course) (after : Place) : Type 0 where
   pub led : LedBy at births rows seat event base course after
   pub last : LeavesLast at by (progress_at births rows base course) (progress_at births (with_event rows seat event) base (led_course led.bound course after.0))
@@ -46,6 +46,7 @@ pub record LeadsWell (at : Sets) (over : Ends) (by : Tellers) (births : List (Se
   pub low : AsksLow base.core.id after.1
   pub orderly : after.0.running ≡ true → IsOrderly after.0
   pub ends : is_some after.0.group.core.gone ≡ over (next after.0)
+  pub rests : (slot : ℕ) → over slot ≡ true → next after.0 ≤ slot
 
 -- a row in which a node elects itself by an entry that it is told: it leads after it, in order, and asks to promise from the slot after the newest state on
 pub record ElectsWell (at : Sets) (births : List (Seat Player)) (rows : Rows) (seat : Seat Player) (event : Event OrderLine) (base : Base) (course : Course) (ballot : Ballot) (after : Place) : Type 0 where
