@@ -1,4 +1,5 @@
 pub mod Beginning
 pub mod Dating
+pub mod Learns
 pub mod Mails
 pub mod Rows

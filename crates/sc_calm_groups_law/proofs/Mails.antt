@@ -187,7 +187,7 @@ module _ (at : Sets) (over : Ends) (by : Tellers) (words : ℕ → ℕ → ℕ �
           (goes_by (Deliver number) (Some r) after row mark takes_it (λ other. inl (hint (off_other other))))
 
       -- .. that takes the node further, where it does not lead
-      takes_further : r.running ≡ false → StepsBy mark r after → (IsCount mark → ⊥) → (course.runs ≡ true → seat.who ≡ course.ballot.node → ⊥) → WaitsStill at course seat.who (next after.0)
+      pub takes_further : r.running ≡ false → StepsBy mark r after → (IsCount mark → ⊥) → (course.runs ≡ true → seat.who ≡ course.ballot.node → ⊥) → WaitsStill at course seat.who (next after.0)
           → (after.0.hint ≡ hint_by at by r.acceptor.promised r.hint mark) ⊎ ((course.gone ≡ true) × (next after.0 ≡ course.newest)) → LedAfter at over by words births rows seat (Deliver number) base course
       takes_further off steps none apart waits hint =
           rows_keep_led.takes at over by words births rows seat (Deliver number) base course (the_stage (Deliver number) takes.timely)
@@ -195,10 +195,10 @@ module _ (at : Sets) (over : Ends) (by : Tellers) (words : ℕ → ℕ → ℕ �
           (steps_take at births rows seat (Deliver number) base course mark r after row (named at words births rows seat node base course the_scene number mail takes r has) has.well.0 takes_it steps (λ runs mine. none) waits)
           (goes_by (Deliver number) (Some r) after row mark takes_it (λ other. hint))
 
-    own_name : name_of r ≡ name
+    pub own_name : name_of r ≡ name
     own_name = named at words births rows seat node base course the_scene number mail takes r has
 
-    accepts : (ballot : Ballot) (slot : ℕ) (command : Command) → mail.from ≡ ballot.node → mail.body ≡ Accept name ballot slot command → LedAfter at over by words births rows seat (Deliver number) base course
+    pub accepts : (ballot : Ballot) (slot : ℕ) (command : Command) → mail.from ≡ ballot.node → mail.body ≡ Accept name ballot slot command → LedAfter at over by words births rows seat (Deliver number) base course
     accepts ballot slot command from body =
         let mark = Asks ballot slot in
         let is : mark_of name mail.from mail.body ≡ Some mark = ap (mark_of name mail.from) body ∙ same_mark name mark in
@@ -218,7 +218,7 @@ module _ (at : Sets) (over : Ends) (by : Tellers) (words : ℕ → ℕ → ℕ �
         let one : taken_dated name (mails rows) (Deliver number) ≡ Some (Prepares ballot, from_slot) = ap (dated_in name) takes.sent ∙ (ap (option_map (λ mark. (mark, from_slot_of mail.body))) is ∙ ap (λ b. Some (Prepares ballot, from_slot_of b)) body) in
         prepares_are_known.above now (dated_at (players words births) rows name) seat.who ballot from_slot dated.left r s.led.low (dated.takes ∙ ap (λ o. listed o ++ dated.left) one) (sym (ap (next_in base seat.who) was)) has.well.2
 
-    prepares : (ballot : Ballot) (from_slot : ℕ) → mail.from ≡ ballot.node → mail.body ≡ Prepare name ballot from_slot → LedAfter at over by words births rows seat (Deliver number) base course
+    pub prepares : (ballot : Ballot) (from_slot : ℕ) → mail.from ≡ ballot.node → mail.body ≡ Prepare name ballot from_slot → LedAfter at over by words births rows seat (Deliver number) base course
     prepares ballot from_slot from body =
         let mark = Prepares ballot in
         let is : mark_of name mail.from mail.body ≡ Some mark = ap (mark_of name mail.from) body ∙ same_mark name mark in
@@ -231,7 +231,7 @@ module _ (at : Sets) (over : Ends) (by : Tellers) (words : ℕ → ℕ → ℕ �
         keeps_place mark is after row steps steps.reaches (λ runs mine count. count) (leads_stay.promises at words births rows seat (Deliver number) base course ballot.node from_slot ballot r the_scene.followed has.well.0 goes row)
         (λ off. hints_follow.prepare at by ballot from_slot r fits goes low off)
 
-    installs : (slot : ℕ) (state : Base) (sets : List (List ℕ)) → mail.body ≡ Install name slot state sets → IsLogsState at by base slot mail.from state sets → LedAfter at over by words births rows seat (Deliver number) base course
+    pub installs : (slot : ℕ) (state : Base) (sets : List (List ℕ)) → mail.body ≡ Install name slot state sets → IsLogsState at by base slot mail.from state sets → LedAfter at over by words births rows seat (Deliver number) base course
     installs slot state sets body logs =
         let mark = Installs slot in
         let is : mark_of name mail.from mail.body ≡ Some mark = ap (mark_of name mail.from) body ∙ same_mark name mark in
@@ -246,7 +246,7 @@ module _ (at : Sets) (over : Ends) (by : Tellers) (words : ℕ → ℕ → ℕ �
         takes_further mark is after row off steps (λ count. count) apart (λ idle stands least. (let w = sent_waits at over by words births rows seat node base course s number mail takes slot is idle stands in let to = steps.reaches in omega (arith, w, to)))
         (inl (hints_follow.install at by slot state sets r fits off logs.whole.low (logs.whole.open_ ∙ sym has.well.1) member))
 
-    passes_vote : (ballot : Ballot) (slot : ℕ) → mail.body ≡ Accepted name ballot slot → r.running ≡ false → LedAfter at over by words births rows seat (Deliver number) base course
+    pub passes_vote : (ballot : Ballot) (slot : ℕ) → mail.body ≡ Accepted name ballot slot → r.running ≡ false → LedAfter at over by words births rows seat (Deliver number) base course
     passes_vote ballot slot body off =
         let mark = Votes mail.from ballot slot in
         let is : mark_of name mail.from mail.body ≡ Some mark = ap (mark_of name mail.from) body ∙ same_mark name mark in
@@ -257,7 +257,7 @@ module _ (at : Sets) (over : Ends) (by : Tellers) (words : ℕ → ℕ → ℕ �
         let apart = idle_apart at words births rows seat node base course the_scene r row.was off in
         keeps_place mark is after row steps steps.reaches (λ runs mine count. apart runs mine) (leads_stay.quiet at births rows seat (Deliver number) base course after.0 row.is (steps.runs ∙ off) apart) (λ _. vote_hint mail.from ballot slot r leads_not)
 
-    passes_promise : (ballot : Ballot) (reports : List (Report Command)) → mail.body ≡ Promise name ballot reports → r.running ≡ false → LedAfter at over by words births rows seat (Deliver number) base course
+    pub passes_promise : (ballot : Ballot) (reports : List (Report Command)) → mail.body ≡ Promise name ballot reports → r.running ≡ false → LedAfter at over by words births rows seat (Deliver number) base course
     passes_promise ballot reports body off =
         let mark = Promises mail.from ballot in
         let is : mark_of name mail.from mail.body ≡ Some mark = ap (mark_of name mail.from) body ∙ same_mark name mark in
@@ -268,7 +268,7 @@ module _ (at : Sets) (over : Ends) (by : Tellers) (words : ℕ → ℕ → ℕ �
         let apart = idle_apart at words births rows seat node base course the_scene r row.was off in
         keeps_place mark is after row steps steps.reaches (λ runs mine count. apart runs mine) (leads_stay.quiet at births rows seat (Deliver number) base course after.0 row.is (steps.runs ∙ off) apart) (λ _. promise_hint mail.from ballot reports r leads_not)
 
-    stays_aside : group_of_mail mail.body ≡ Some name → IsAside r mail.body → r.running ≡ false → LedAfter at over by words births rows seat (Deliver number) base course
+    pub stays_aside : group_of_mail mail.body ≡ Some name → IsAside r mail.body → r.running ≡ false → LedAfter at over by words births rows seat (Deliver number) base course
     stays_aside group aside off =
         let row = row_to at words births rows seat node base course the_scene number mail takes r has mail.from mail.body refl refl group in
         let after = (mailed mail.from mail.body (r, [])).0 in
@@ -281,7 +281,7 @@ module _ (at : Sets) (over : Ends) (by : Tellers) (words : ℕ → ℕ → ℕ �
 
   -- ---- a replica that is made of a state
 
-  makes : (number : ℕ) (mail : Mail) (takes : TakesMail words births rows seat number mail) (slot : ℕ) (state : Base) (sets : List (List ℕ)) → replica_of name node.replicas ≡ None → mail.body ≡ Install name slot state sets
+  pub makes : (number : ℕ) (mail : Mail) (takes : TakesMail words births rows seat number mail) (slot : ℕ) (state : Base) (sets : List (List ℕ)) → replica_of name node.replicas ≡ None → mail.body ≡ Install name slot state sets
       → IsLogsState at by base slot mail.from state sets → LedAfter at over by words births rows seat (Deliver number) base course
   makes number mail takes slot state sets none body logs =
       let mark = Installs slot in
@@ -302,7 +302,7 @@ module _ (at : Sets) (over : Ends) (by : Tellers) (words : ℕ → ℕ → ℕ �
 
   -- ---- an order
 
-  stays_ordered : (line : OrderLine) (r : ReplicaState) → AreInTime (players words births) (with_event rows seat (Told line)) → HoldsReplica seat node base r → group_of_order line.order ≡ name → r.running ≡ false
+  pub stays_ordered : (line : OrderLine) (r : ReplicaState) → AreInTime (players words births) (with_event rows seat (Told line)) → HoldsReplica seat node base r → group_of_order line.order ≡ name → r.running ≡ false
       → LedAfter at over by words births rows seat (Told line) base course
   stays_ordered line r timely has group off =
       let after : Place = ordered_row node.draws line (r, []) in
