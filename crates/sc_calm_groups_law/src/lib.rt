@@ -5,6 +5,7 @@
 
 ghost use Rattle.sc_calm_groups_law.specs.Rows.{RowsKeepLed};
 ghost use Rattle.sc_calm_groups_law.specs.Begun.{ChildrenBeginLed, ScenariosBeginLed};
+ghost use Rattle.sc_calm_groups_law.specs.Mailed.{LeadersKeepLed, MailsKeepLed, OthersKeepLed};
 
 /// Each row of players keeps a group well led, by what it is in the group: one that does nothing,
 /// of a node that takes a mail, of the leader, or of one that elects itself.
@@ -21,4 +22,23 @@ pub fn scenarios_begin_led()
 /// So is the child of a split, before any node has a replica of it.
 pub fn children_begin_led()
     ensures { ChildrenBeginLed }
+{}
+
+/// A mail of agreement that comes to a node of its group leaves the group well led: what asks to
+/// accept or to promise, an entry that is the log's, by which the one elects itself that is to
+/// lead next, and nobody else, a state that is the log's, and whatever else comes to one that does
+/// not lead.
+pub fn mails_keep_led()
+    ensures { MailsKeepLed }
+{}
+
+/// So does what its leader takes: a vote, a promise, other mail that comes to it, and an order.
+pub fn leaders_keep_led()
+    ensures { LeadersKeepLed }
+{}
+
+/// A row that does nothing in a group leaves it well led, also where a node makes its replica at
+/// the group's birth.
+pub fn others_keep_led()
+    ensures { OthersKeepLed }
 {}
