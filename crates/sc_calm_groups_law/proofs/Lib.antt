@@ -1,7 +1,9 @@
 pub mod Beginning
 pub mod Dating
+pub mod Events
 pub mod Leading
 pub mod Learns
 pub mod Mails
 pub mod Others
 pub mod Rows
+pub mod Through

@@ -3,3 +3,4 @@ pub mod Led
 pub mod Logged
 pub mod Mailed
 pub mod Rows
+pub mod Through

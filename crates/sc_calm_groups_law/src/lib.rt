@@ -6,6 +6,7 @@
 ghost use Rattle.sc_calm_groups_law.specs.Rows.{RowsKeepLed};
 ghost use Rattle.sc_calm_groups_law.specs.Begun.{ChildrenBeginLed, ScenariosBeginLed};
 ghost use Rattle.sc_calm_groups_law.specs.Mailed.{LeadersKeepLed, MailsKeepLed, OthersKeepLed};
+ghost use Rattle.sc_calm_groups_law.specs.Through.{EventsKeepLed, GroupsAreLedThrough};
 
 /// Each row of players keeps a group well led, by what it is in the group: one that does nothing,
 /// of a node that takes a mail, of the leader, or of one that elects itself.
@@ -41,4 +42,15 @@ pub fn leaders_keep_led()
 /// the group's birth.
 pub fn others_keep_led()
     ensures { OthersKeepLed }
+{}
+
+/// Each event of a player in a calm journal leaves a group well led whose log is one, and whose
+/// mail is sent so.
+pub fn events_keep_led()
+    ensures { EventsKeepLed }
+{}
+
+/// So it is after each row of a journal whose rows come in time, if it is at first.
+pub fn groups_are_led_through()
+    ensures { GroupsAreLedThrough }
 {}
