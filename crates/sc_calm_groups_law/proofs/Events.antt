@@ -1,9 +1,8 @@
 -- Each event of a player in a journal whose log is one keeps a group well led.
-use Rattle.std.proofs.Common.{◌≡◌, ℕ, zero, suc, Bool, true, false, true≢false, List, [], ◌∷◌, ◌++◌, slice_get, Option, Some, None, ◌⊎◌, inl, inr, refl, sym, ◌∙◌, ap, subst, append_assoc}
+use Rattle.std.proofs.Common.{◌≡◌, ℕ, zero, suc, true, true≢false, List, [], ◌∷◌, ◌++◌, slice_get, Option, Some, None, inl, inr, refl, sym, ◌∙◌, ap, subst, append_assoc}
 use Rattle.std.proofs.lemmas.Bool.{cases_Bool}
 use Rattle.sc_base.specs.Among.{Among, Each}
 use Rattle.sc_base.specs.Same.{same_draw}
-use Rattle.sc_base.specs.declared.names.Ballot.{Ballot}
 use Rattle.sc_base.specs.declared.names.Draw.{Draw}
 use Rattle.sc_base.proofs.NameLemmas.{draw_is, same_name}
 use Rattle.sc_cmd.specs.declared.cores.Base.{Base}
@@ -23,7 +22,6 @@ use Rattle.sc_orderly_law.specs.Timely.{AreInTime}
 use Rattle.sc_orderly_law.proofs.InTime.{in_time_before, in_time_tidy}
 use Rattle.sc_orderly_law.proofs.Resting.{takes_first, is_born-from}
 use Rattle.sc_paxos_words.proofs.ListLemmas.{Each-among}
-use Rattle.sc_client_table.specs.Client.{Client as ClientState}
 use Rattle.sc_node_table.specs.Node.{NodeState, replica_of, group_of_mail, may_come, group_of_order}
 use Rattle.sc_node_table.specs.Ordering.{ordered_row}
 use Rattle.sc_node_table.specs.Replica.{ReplicaState}
@@ -35,7 +33,7 @@ use Rattle.sc_following_law.specs.Following.{Tells, mark_of, Course, Sets}
 use Rattle.sc_following_law.specs.Hints.{Tellers}
 use Rattle.sc_following_law.specs.Leading.{IsAside}
 use Rattle.sc_following_law.proofs.Nodes.{same_mark}
-use Rattle.sc_calm_rows_law.specs.Groups.{view_at, mark_in, taken_mark}
+use Rattle.sc_calm_rows_law.specs.Groups.{view_at, mark_in}
 use Rattle.sc_calm_rows_law.specs.Mailed.{TakesMail, HoldsReplica}
 use Rattle.sc_calm_rows_law.specs.Senders.{IsOwnMail, IsOwnAsking}
 use Rattle.sc_calm_rows_law.specs.Turns.{IsSeat, with_event, LeavesAlone, IsReplicasRow}

@@ -22,7 +22,7 @@ use Rattle.sc_calm_law.specs.Totals.{Rows}
 use Rattle.sc_following_law.specs.Dated.{AsksLow}
 use Rattle.sc_following_law.specs.Following.{Mark, Votes, Promises, mark_of, Course, Progress, Sets, members_at}
 use Rattle.sc_following_law.specs.Hints.{Tellers, LeavesLast}
-use Rattle.sc_following_law.specs.Leading.{IsLeadOf, progress_by, LeadsInto, IsAside, DecidesNext}
+use Rattle.sc_following_law.specs.Leading.{IsLeadOf, LeadsInto, IsAside, DecidesNext}
 use Rattle.sc_following_law.specs.Orderly.{IsOrderly}
 use Rattle.sc_following_law.specs.Owning.{CountsOwn}
 use Rattle.sc_following_law.proofs.Alone.{acts_stop_alone}
@@ -39,7 +39,7 @@ use Rattle.sc_calm_rows_law.specs.Turns.{with_event, IsReplicasRow}
 use Rattle.sc_calm_rows_law.proofs.Leading.{steps_lead}
 use Rattle.sc_calm_rows_law.proofs.Scenes.{aside_mark, told_is, leads_here, named, row_to, taken}
 use Rattle.sc_calm_rows_law.proofs.Turning.{found_name, rows_replicas}
-use Rattle.sc_calm_groups_law.specs.Led.{Ends, IsWellLed, IsLedOn}
+use Rattle.sc_calm_groups_law.specs.Led.{Ends, IsLedOn}
 use Rattle.sc_calm_groups_law.specs.Logged.{IsOfLog, CountsTo}
 use Rattle.sc_calm_groups_law.specs.Mailed.{IsLedScene, LeadersKeepLed}
 use Rattle.sc_calm_groups_law.proofs.Mails.{scene, stage}

@@ -1,5 +1,5 @@
 -- A replica that is told an entry leaves the group well led: it elects itself where it is to lead next, and else does not.
-use Rattle.std.proofs.Common.{◌≡◌, ℕ, suc, ◌+◌, ◌-◌, ◌^◌, ◌<◌, ◌≤◌, nat_le, ◌&&◌, true, false, true≢false, List, [], ◌∷◌, Option, Some, None, ◌⊎◌, inl, inr, refl, sym, ◌∙◌, ap, subst, arith}
+use Rattle.std.proofs.Common.{◌≡◌, ℕ, suc, ◌+◌, ◌≤◌, nat_le, true, false, true≢false, List, [], ◌∷◌, Option, Some, None, ◌⊎◌, inl, inr, refl, sym, ◌∙◌, ap, subst, arith}
 use Rattle.std.specs.Prelude.{is_some}
 use Rattle.std.proofs.lemmas.Bool.{cases_lt, and_parts, leb-true}
 use Rattle.sc_base.specs.Among.{Each}
@@ -27,9 +27,8 @@ use Rattle.sc_calm_law.specs.Charts.{players}
 use Rattle.sc_calm_law.specs.Totals.{Rows}
 use Rattle.sc_following_law.specs.Dated.{Dated, IsNoPrepare, dated_for}
 use Rattle.sc_following_law.specs.Following.{Mark, Asks, Votes, Tells, Installs, Prepares, Promises, mark_of, pledged, Course, Progress, Sets, members_at, IsOpen}
-use Rattle.sc_following_law.specs.Heeding.{IsTold, IsHeir}
+use Rattle.sc_following_law.specs.Heeding.{IsHeir}
 use Rattle.sc_following_law.specs.Hints.{Tellers, hint_by}
-use Rattle.sc_following_law.specs.Leading.{IsLeadOf}
 use Rattle.sc_following_law.specs.Offers.{AreAt}
 use Rattle.sc_following_law.specs.Owning.{AreToldLast}
 use Rattle.sc_following_law.specs.Tables.{IsInTime, Stays, MayElect, next_ballot}
@@ -42,7 +41,7 @@ use Rattle.sc_following_law.proofs.Learn.{tables}
 use Rattle.sc_following_law.proofs.Nodes.{same_mark}
 use Rattle.sc_following_law.proofs.TableHints.{hints_follow, heirs_elect}
 use Rattle.sc_calm_rows_law.specs.Elections.{IsNextLead}
-use Rattle.sc_calm_rows_law.specs.Groups.{view_at, promise_in, progress_at, marks_at, taken_mark}
+use Rattle.sc_calm_rows_law.specs.Groups.{promise_in, progress_at, marks_at, taken_mark}
 use Rattle.sc_calm_rows_law.specs.Mailed.{IsScene, TakesMail, HoldsReplica}
 use Rattle.sc_calm_rows_law.specs.Steps.{WaitsStill, elected_course}
 use Rattle.sc_calm_rows_law.specs.Turns.{with_event, IsReplicasRow}

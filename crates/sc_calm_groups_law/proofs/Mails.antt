@@ -1,5 +1,5 @@
 -- A node that takes mail of its group, or an order, and does not lead, leaves the group well led.
-use Rattle.std.proofs.Common.{◌≡◌, ℕ, suc, ◌+◌, ◌-◌, ◌^◌, ◌<◌, ◌≤◌, ◌&&◌, true, false, true≢false, cond, List, [], ◌∷◌, ◌++◌, Option, Some, None, ◌⊎◌, inl, inr, refl, sym, ◌∙◌, ap, subst, arith}
+use Rattle.std.proofs.Common.{◌≡◌, ℕ, suc, ◌+◌, ◌<◌, ◌&&◌, true, false, true≢false, List, [], ◌∷◌, ◌++◌, Option, Some, None, ◌⊎◌, inl, inr, refl, sym, ◌∙◌, ap, subst, arith}
 use Rattle.std.specs.Prelude.{is_some}
 use Rattle.std.specs.Option.{option_map}
 use Rattle.std.proofs.lemmas.Bool.{cases_lt, cond-false}
@@ -10,8 +10,7 @@ use Rattle.sc_cmd.specs.declared.commands.Command.{Command}
 use Rattle.sc_cmd.specs.declared.cores.Base.{Base}
 use Rattle.sc_cmd.specs.declared.orders.OrderLine.{OrderLine}
 use Rattle.sc_mail.specs.declared.bodies.Mail.{Mail}
-use Rattle.sc_mail.specs.declared.bodies.MailBody.{MailBody}
-use Rattle.sc_mail.specs.declared.bodies.MailBody.TheVariants.{Prepare, Promise, Accept, Accepted, Learn, Install}
+use Rattle.sc_mail.specs.declared.bodies.MailBody.TheVariants.{Prepare, Promise, Accept, Accepted, Install}
 use Rattle.sc_member.specs.Roster.{is_member}
 use Rattle.sc_actor.specs.declared.actors.Seat.{Seat}
 use Rattle.sc_actor.specs.declared.rows.Event.{Event}
@@ -33,7 +32,7 @@ use Rattle.sc_sound.specs.Players.{Player, player_table}
 use Rattle.sc_calm_law.specs.Charts.{players}
 use Rattle.sc_calm_law.specs.Totals.{Rows}
 use Rattle.sc_following_law.specs.Dated.{from_slot_of}
-use Rattle.sc_following_law.specs.Following.{Mark, Asks, Votes, Tells, Installs, Prepares, Promises, mark_of, Course, Progress, Sets, members_at}
+use Rattle.sc_following_law.specs.Following.{Mark, Asks, Votes, Installs, Prepares, Promises, mark_of, Course, Progress, Sets, members_at}
 use Rattle.sc_following_law.specs.Hints.{Tellers, hint_by, AreHeeded, IsOther, GoesBy}
 use Rattle.sc_following_law.specs.Leading.{IsAside}
 use Rattle.sc_following_law.specs.Orderly.{AreApart, HasBallot, IsOrderly}
@@ -55,7 +54,7 @@ use Rattle.sc_calm_rows_law.proofs.Scenes.{aside_mark, apart_off, goes_on, idle_
 use Rattle.sc_calm_rows_law.proofs.Staying.{leads_stay}
 use Rattle.sc_calm_rows_law.proofs.Stepping.{steps_take, states_take, uncounted_pass, still_idle}
 use Rattle.sc_calm_rows_law.proofs.Turning.{rows_replicas}
-use Rattle.sc_calm_groups_law.specs.Led.{Ends, hint_in, hints_at, dated_at, IsWellLed}
+use Rattle.sc_calm_groups_law.specs.Led.{Ends, hint_in, hints_at, dated_at}
 use Rattle.sc_calm_groups_law.specs.Logged.{IsLogsState}
 use Rattle.sc_calm_groups_law.specs.Mailed.{IsLedScene, LedAfter}
 use Rattle.sc_calm_groups_law.specs.Rows.{IsStage, LeavesWell}

@@ -1,5 +1,5 @@
 -- An event that does nothing in a group leaves it well led, also where a replica is born; and so does all mail of agreement.
-use Rattle.std.proofs.Common.{◌≡◌, ℕ, ◌+◌, ◌<◌, true, List, None, Some, inl, inr, refl, sym, ◌∙◌, ap, subst, arith}
+use Rattle.std.proofs.Common.{◌≡◌, ℕ, ◌+◌, ◌<◌, true, List, None, Some, inl, inr, sym, ◌∙◌, ap, subst, arith}
 use Rattle.std.proofs.lemmas.Bool.{eqb-true}
 use Rattle.sc_cmd.specs.declared.cores.Base.{Base}
 use Rattle.sc_cmd.specs.declared.orders.OrderLine.{OrderLine}
@@ -17,7 +17,7 @@ use Rattle.sc_following_law.specs.Hints.{Tellers}
 use Rattle.sc_following_law.specs.Orderly.{IsOrderly}
 use Rattle.sc_following_law.proofs.Beginning.{leaders_begin}
 use Rattle.sc_calm_rows_law.specs.Groups.{view_at, begun_course, IsLedBy}
-use Rattle.sc_calm_rows_law.specs.Turns.{with_event, IsIdleIn, IsBornOr, LeavesAlone, LeavesOrBears}
+use Rattle.sc_calm_rows_law.specs.Turns.{with_event, IsIdleIn, IsBornOr}
 use Rattle.sc_calm_rows_law.proofs.Keeping.{same_some}
 use Rattle.sc_calm_rows_law.proofs.Staying.{leads_stay}
 use Rattle.sc_calm_groups_law.specs.Led.{Ends, hint_in, IsWellLed}

@@ -1,5 +1,5 @@
 -- Each row of players, by its kind in a group, keeps the group well led.
-use Rattle.std.proofs.Common.{◌≡◌, ℕ, ◌+◌, suc, ◌<◌, ◌≤◌, true, true≢false, List, [], ◌∷◌, ◌++◌, Option, Some, None, inl, inr, refl, sym, ◌∙◌, ap, subst, arith, append-nil}
+use Rattle.std.proofs.Common.{◌≡◌, ℕ, ◌≤◌, true, true≢false, List, [], ◌∷◌, ◌++◌, Option, Some, None, inl, inr, refl, sym, ◌∙◌, ap, subst, append-nil}
 use Rattle.std.specs.Option.{option_map}
 use Rattle.std.proofs.lemmas.Bool.{cases_eq}
 use Rattle.sc_base.specs.Among.{Among, Each}
@@ -19,7 +19,7 @@ use Rattle.sc_calm_law.specs.Charts.{players}
 use Rattle.sc_calm_law.specs.Totals.{Rows}
 use Rattle.sc_following_law.specs.Dated.{Dated, from_slot_of, dated_of, dated_for, marks_in, IsNoPrepare, AreLow, IsAskedLow, IsDatedRow}
 use Rattle.sc_following_law.specs.Following.{Mark, mark_of, marks_of, Course, Progress, Sets, IsFollowing}
-use Rattle.sc_following_law.specs.Hints.{Tellers, IsHeeding, GoesBy}
+use Rattle.sc_following_law.specs.Hints.{Tellers, GoesBy}
 use Rattle.sc_following_law.specs.Orderly.{IsOrderly}
 use Rattle.sc_following_law.specs.Rows.{IsRow, IsIdle, Takes, Leads, Elects, IsOffered}
 use Rattle.sc_following_law.specs.Tables.{marks_for}
@@ -27,7 +27,7 @@ use Rattle.sc_following_law.proofs.Dated.{slots_are_kept, prepares_are_known}
 use Rattle.sc_following_law.proofs.Heeding.{hints_are_kept}
 use Rattle.sc_following_law.proofs.Keeps.{idle-keeps}
 use Rattle.sc_following_law.proofs.Owning.{own_is_kept}
-use Rattle.sc_calm_rows_law.specs.Groups.{view_at, progress_at, marks_at, taken_mark, begun_course, IsLedBy}
+use Rattle.sc_calm_rows_law.specs.Groups.{view_at, progress_at, marks_at, taken_mark, begun_course}
 use Rattle.sc_calm_rows_law.specs.Steps.{led_course, elected_course}
 use Rattle.sc_calm_rows_law.specs.Turns.{with_event, IsKind, IsReplicasRow}
 use Rattle.sc_calm_rows_law.proofs.Keeping.{rows_keep, same_some}

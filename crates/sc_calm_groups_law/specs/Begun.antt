@@ -13,7 +13,7 @@ use Rattle.sc_calm_law.specs.Totals.{Rows}
 use Rattle.sc_following_law.specs.Following.{Sets}
 use Rattle.sc_following_law.specs.Hints.{Tellers}
 use Rattle.sc_calm_rows_law.specs.Groups.{view_at, marks_at, begun_course}
-use Rattle.sc_calm_groups_law.specs.Led.{Ends, dated_at, IsWellLed}
+use Rattle.sc_calm_groups_law.specs.Led.{Ends, IsWellLed}
 
 -- the log of a group begins with its first members, and with the group standing; the members of each slot are a roster
 pub record BeginsSo (at : Sets) (over : Ends) (base : Base) : Type 0 where

@@ -6,7 +6,8 @@
 ghost use Rattle.sc_calm_groups_law.specs.Rows.{RowsKeepLed};
 ghost use Rattle.sc_calm_groups_law.specs.Begun.{ChildrenBeginLed, ScenariosBeginLed};
 ghost use Rattle.sc_calm_groups_law.specs.Mailed.{LeadersKeepLed, MailsKeepLed, OthersKeepLed};
-ghost use Rattle.sc_calm_groups_law.specs.Through.{EventsKeepLed, GroupsAreLedThrough};
+ghost use Rattle.sc_calm_groups_law.specs.Through.{EventsKeepLed, GroupsAreLedThrough, ScenariosAreWellBorn};
+ghost use Rattle.sc_calm_groups_law.specs.Rests.{QuietGroupsAreLed};
 
 /// Each row of players keeps a group well led, by what it is in the group: one that does nothing,
 /// of a node that takes a mail, of the leader, or of one that elects itself.
@@ -53,4 +54,17 @@ pub fn events_keep_led()
 /// So it is after each row of a journal whose rows come in time, if it is at first.
 pub fn groups_are_led_through()
     ensures { GroupsAreLedThrough }
+{}
+
+/// The players of a scenario are born with their numbers and with replicas that are well kept, and
+/// each that runs does so with a ballot of its own.
+pub fn scenarios_are_well_born()
+    ensures { ScenariosAreWellBorn }
+{}
+
+/// In a quiet journal a group that is well led and stands has one that leads, and no other runs;
+/// none is further, and each other that decides an open slot may vote; and of one that is gone
+/// none runs.
+pub fn quiet_groups_are_led()
+    ensures { QuietGroupsAreLed }
 {}
