@@ -124,9 +124,9 @@ module _ (at : Sets) (over : Ends) (by : Tellers) (words : ℕ → ℕ → ℕ �
           | inr i ↦ elim (so.comes rows seat number mail d) [
             | inl none ↦ missed here none
             | inr comes ↦ (
-                course,
-                mails_keep_led.made at over by words births rows seat number mail node base course i.0 i.1 i.2 s (record { timely = timely; sent = d.sent; comes = comes }) here i.3 (one.sent rows seat number mail i.0 i.1 i.2 d i.3),
-              )
+              course,
+              mails_keep_led.made at over by words births rows seat number mail node base course i.0 i.1 i.2 s (record { timely = timely; sent = d.sent; comes = comes }) here i.3 (one.sent rows seat number mail i.0 i.1 i.2 d i.3),
+            )
           ]
         ]
 
@@ -224,10 +224,10 @@ module _ (at : Sets) (over : Ends) (by : Tellers) (words : ℕ → ℕ → ℕ �
       by_group (Some g) e = elim (cases_Bool (same_draw g name)) [
         | inl t ↦ own_mail (e ∙ ap Some (draw_is g name t)) (replica_of name node.replicas) refl
         | inr f ↦ (let ne : g ≡ name → ⊥ = λ is_. true≢false (sym (same_name g name is_) ∙ f) in (
-            course,
-            others_keep_led.bears at over by words births rows seat (Deliver number) base course one.log timely was one.begins one.first one.stands
-                (others_idle.other births rows seat number mail base g node born is plays.0 d.sent e ne (one.born rows seat number mail node g d is e ne)),
-          ))
+          course,
+          others_keep_led.bears at over by words births rows seat (Deliver number) base course one.log timely was one.begins one.first one.stands
+              (others_idle.other births rows seat number mail base g node born is plays.0 d.sent e ne (one.born rows seat number mail node g d is e ne)),
+        ))
       ]
 
     -- ---- an order

@@ -162,7 +162,7 @@ module _ (at : Sets) (over : Ends) (by : Tellers) (words : ℕ → ℕ → ℕ �
     goes_by mark is goes = λ m e other. elim (goes other) [
       | inl said ↦ (let same : mark ≡ m = (let both : Some mark ≡ Some m = sym is ∙ e in cc) in
           inl (subst (λ x. hints_at births (with_event rows seat event) base seat.who ≡ hint_by at by (now.promise seat.who) (hints_at births rows base seat.who) x) same
-              (ap (hint_in base) row.is ∙ (said ∙ ap (λ o. hint_by at by (promise_in base o) (hint_in base o) mark) (sym row.was)))))
+          (ap (hint_in base) row.is ∙ (said ∙ ap (λ o. hint_by at by (promise_in base o) (hint_in base o) mark) (sym row.was)))))
       | inr over_ ↦ inr (over_.0, ap (next_in base seat.who) row.is ∙ over_.1)
     ]
 
@@ -287,7 +287,7 @@ module _ (at : Sets) (over : Ends) (by : Tellers) (words : ℕ → ℕ → ℕ �
       let is : mark_of name mail.from mail.body ≡ Some mark = ap (mark_of name mail.from) body ∙ same_mark name mark in
       let after = made_by node.me (by slot) name slot state sets in
       let row : IsReplicasRow births rows seat (Deliver number) name None after = subst (λ n. IsReplicasRow births rows seat (Deliver number) name None (made_by node.me n name slot state sets)) logs.teller
-          (rows_replicas.made births rows seat number mail name slot state sets node s.seated s.is takes.sent takes.comes body logs.whole none) in
+      (rows_replicas.made births rows seat number mail name slot state sets node s.seated s.is takes.sent takes.comes body logs.whole none) in
       let at_most = (all_fit at words births rows seat node base course the_scene number mail takes mark is).0 in
       let apart = no_lead at words births rows seat node base course the_scene number mail takes mark is (omega (arith, at_most)) in
       let member = sent_member at over by words births rows seat node base course s number mail takes slot is state logs.members_are apart in

@@ -239,7 +239,7 @@ module _ (at : Sets) (over : Ends) (by : Tellers) (words : ℕ → ℕ → ℕ �
       let c = led_course l.led.bound course after.0 in
       let leads = l.led.leads in
       let dated_leads : Leads at now (after_ c) seat.who (option_map (λ d. d.0) (taken_dated name (mails rows) event)) (λ who. marks_in (sent_dated who)) =
-          subst (λ o. Leads at now (after_ c) seat.who o (λ who. marks_in (sent_dated who))) (sym (taken_same name (mails rows) event)) (leads_same at now (after_ c) seat.who taken sent (λ who. marks_in (sent_dated who)) sent_same leads) in
+      subst (λ o. Leads at now (after_ c) seat.who o (λ who. marks_in (sent_dated who))) (sym (taken_same name (mails rows) event)) (leads_same at now (after_ c) seat.who taken sent (λ who. marks_in (sent_dated who)) sent_same leads) in
       record {
         followed = rows_keep.leads at words births rows seat event base course r after stage.rosters stage.timely stage.was.followed row l.led;
         heeded = hints_are_kept.leads at by now (after_ c) seat.who taken sent marks marks_then hints hints_then stage.rosters (row_in c) leads stage.was.followed.follows others_hint l.last stage.was.heeded;

@@ -7,9 +7,10 @@ use Rattle.sc_actor.specs.Walk.{is_quiet}
 use Rattle.sc_orderly_law.specs.Orderly.{is_born}
 use Rattle.sc_orderly_law.specs.Timely.{AreInTime}
 use Rattle.sc_paxos_words.specs.Ballots.{below}
-use Rattle.sc_node_table.specs.Replica.{ReplicaState, next, members}
+use Rattle.sc_node_table.specs.Replica.{ReplicaState, next, members, settled}
 use Rattle.sc_sound.specs.Players.{Player}
 use Rattle.sc_calm_law.specs.Charts.{players}
+use Rattle.sc_calm_law.specs.Laws.{IsUnbound}
 use Rattle.sc_calm_law.specs.Quiet.{MayVote}
 use Rattle.sc_calm_law.specs.Totals.{Rows}
 use Rattle.sc_following_law.specs.Following.{Course, Sets, IsOpen}
@@ -19,11 +20,13 @@ use Rattle.sc_following_law.specs.Orderly.{IsOrderly}
 use Rattle.sc_calm_rows_law.specs.Groups.{view_at, progress_at, marks_at}
 use Rattle.sc_calm_groups_law.specs.Led.{Ends, IsWellLed}
 
--- One leads, a member with all in order, and no other runs; no replica is further, and each member's is as far; none has promised a later ballot; and each other of a node that decides an open slot may vote.
+-- One leads, a settled member that no report binds, with all in order, and no other runs; no replica is further, and each member's is as far; none has promised a later ballot; and each other of a node that decides an open slot may vote.
 pub record IsLedQuietly (at : Sets) (births : List (Seat Player)) (rows : Rows) (base : Base) (course : Course) (lead : ReplicaState) : Type 0 where
   pub leads : IsLeadOf at (progress_at births rows base course) lead
   pub runs : lead.running ≡ true
   pub mine : is_member (members lead) lead.me ≡ true
+  pub settled_is : settled lead ≡ true
+  pub unbound : IsUnbound lead
   pub orderly : IsOrderly lead
   pub alone : (node : ℕ) (r : ReplicaState) → view_at births rows base.core.id node ≡ Some r → r.running ≡ true → r ≡ lead
   pub most : (node : ℕ) (r : ReplicaState) → view_at births rows base.core.id node ≡ Some r → next r ≤ next lead
