@@ -1,6 +1,6 @@
 -- That a group is well led through a calm journal, where its log is one.
-use Rattle.std.specs.Prelude.{◌≡◌, ℕ, ◌+◌, ◌<◌, ◌≤◌, true, List, [], ◌++◌, Some, None, ◌⊎◌}
-use Rattle.sc_base.specs.Among.{Each}
+use Rattle.std.specs.Prelude.{◌≡◌, ℕ, ◌+◌, ◌<◌, ◌≤◌, true, false, List, [], ◌++◌, Some, None, ◌⊎◌}
+use Rattle.sc_base.specs.Among.{Among, Each}
 use Rattle.sc_base.specs.declared.names.Ballot.{Ballot}
 use Rattle.sc_base.specs.declared.names.Draw.{Draw}
 use Rattle.sc_cmd.specs.declared.commands.Command.{Command}
@@ -19,6 +19,7 @@ use Rattle.sc_orderly_law.specs.Orderly.{IsCalmEvent}
 use Rattle.sc_orderly_law.specs.Timely.{AreInTime}
 use Rattle.sc_client_table.specs.Client.{Client as ClientState}
 use Rattle.sc_paxos_words.specs.declared.reports.Report.{Report}
+use Rattle.sc_scenario.specs.Valid.{IsBounded}
 use Rattle.sc_scenario.specs.declared.scenarios.Scenario.{Scenario}
 use Rattle.sc_node_table.specs.Execute.{entered}
 use Rattle.sc_node_table.specs.Node.{NodeState, replica_of, group_of_mail, may_come}
@@ -110,3 +111,15 @@ abbrev pub GroupsAreLedThrough : Type 0
 GroupsAreLedThrough =
     (at : Sets) (over : Ends) (by : Tellers) (words : ℕ → ℕ → ℕ × ℕ) (births : List (Seat Player)) (journal : Rows) (base : Base) → AreWellBorn births → HasOneLog at over by births journal base → IsSentSo births journal base
     → AreInTime (players words births) journal → IsLedOn at over by words births [] base → (rows more : Rows) → journal ≡ rows ++ more → IsLedOn at over by words births rows base
+
+-- So is each group of a bounded scenario, from its birth on ..
+abbrev pub ScenariosAreLedThrough : Type 0
+ScenariosAreLedThrough =
+    (at : Sets) (over : Ends) (by : Tellers) (words : ℕ → ℕ → ℕ × ℕ) (scenario : Scenario) (journal : Rows) (base : Base) → IsBounded scenario → Among base scenario.groups → HasOneLog at over by (births as_nodes scenario) journal base
+    → IsSentSo (births as_nodes scenario) journal base → AreInTime (players words (births as_nodes scenario)) journal → (rows more : Rows) → journal ≡ rows ++ more → IsLedOn at over by words (births as_nodes scenario) rows base
+
+-- .. and each child of a split, of which no node has a replica at the births
+abbrev pub ChildrenAreLedThrough : Type 0
+ChildrenAreLedThrough =
+    (at : Sets) (over : Ends) (by : Tellers) (words : ℕ → ℕ → ℕ × ℕ) (births : List (Seat Player)) (journal : Rows) (base : Base) → AreWellBorn births → ((who : ℕ) → view_at births [] base.core.id who ≡ None) → over 1 ≡ false → over 0 ≡ false
+    → HasOneLog at over by births journal base → IsSentSo births journal base → AreInTime (players words births) journal → (rows more : Rows) → journal ≡ rows ++ more → IsLedOn at over by words births rows base

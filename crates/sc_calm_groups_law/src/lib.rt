@@ -3,11 +3,11 @@
 //! logic.
 #![tactic(auto)]
 
-ghost use Rattle.sc_calm_groups_law.specs.Rows.{RowsKeepLed};
 ghost use Rattle.sc_calm_groups_law.specs.Begun.{ChildrenBeginLed, ScenariosBeginLed};
 ghost use Rattle.sc_calm_groups_law.specs.Mailed.{LeadersKeepLed, MailsKeepLed, OthersKeepLed};
-ghost use Rattle.sc_calm_groups_law.specs.Through.{EventsKeepLed, GroupsAreLedThrough, ScenariosAreWellBorn};
 ghost use Rattle.sc_calm_groups_law.specs.Rests.{QuietGroupsAreLed};
+ghost use Rattle.sc_calm_groups_law.specs.Rows.{RowsKeepLed};
+ghost use Rattle.sc_calm_groups_law.specs.Through.{ChildrenAreLedThrough, EventsKeepLed, GroupsAreLedThrough, ScenariosAreLedThrough, ScenariosAreWellBorn};
 
 /// Each row of players keeps a group well led, by what it is in the group: one that does nothing,
 /// of a node that takes a mail, of the leader, or of one that elects itself.
@@ -67,4 +67,15 @@ pub fn scenarios_are_well_born()
 /// none runs.
 pub fn quiet_groups_are_led()
     ensures { QuietGroupsAreLed }
+{}
+
+/// So is each group of a bounded scenario, after each row of a journal in which its log is one,
+/// and its mail is sent so.
+pub fn scenarios_are_led_through()
+    ensures { ScenariosAreLedThrough }
+{}
+
+/// And so is each child of a split, of which no node has a replica at the births.
+pub fn children_are_led_through()
+    ensures { ChildrenAreLedThrough }
 {}
