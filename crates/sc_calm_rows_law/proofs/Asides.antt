@@ -47,14 +47,15 @@ module _ (r : ReplicaState) (other : Draw) where
     next_is : next place.0 ≡ next r
     promise_is : place.0.acceptor.promised ≡ r.acceptor.promised
     off : place.0.running ≡ false
+    hint_is : place.0.hint ≡ r.hint
     quiet : AreQuiet other place.1
 
   -- .. with other queues, or another ballot seen
   with_queues : (q : ReplicaState) (mails : List Mail) (acts calls : List Command) (top : Ballot) → Keeps (q, mails) → Keeps (record q { acts = acts; calls = calls; top = top }, mails)
-  with_queues q mails acts calls top k = record { next_is = k.next_is; promise_is = k.promise_is; off = k.off; quiet = k.quiet }
+  with_queues q mails acts calls top k = record { next_is = k.next_is; promise_is = k.promise_is; off = k.off; hint_is = k.hint_is; quiet = k.quiet }
 
   with_mails : (q : ReplicaState) (mails more : List Mail) → Keeps (q, mails) → AreQuiet other more → Keeps (q, more)
-  with_mails q mails more k quiet = record { next_is = k.next_is; promise_is = k.promise_is; off = k.off; quiet = quiet }
+  with_mails q mails more k quiet = record { next_is = k.next_is; promise_is = k.promise_is; off = k.off; hint_is = k.hint_is; quiet = quiet }
 
   pumped_keeps : (place : Place) → Keeps place → Keeps (pumped place)
   pumped_keeps place k = subst Keeps (sym (idle_pump place k.off)) k
@@ -192,10 +193,10 @@ away_is : (name : Draw) → away name ≡ name → ⊥
 away_is name e = (let n : suc name.node ≡ name.node = ap (λ (d : Draw). d.node) e in omega (arith, n))
 
 still : (r : ReplicaState) (after : Place) (name : Draw) → Keeps r (away name) after → IsUnmoved name r after
-still r after name k = record { next_is = k.next_is; promise_is = k.promise_is; off = k.off; silent = λ who. quiet_marks (away name) name who after.1 (away_is name) k.quiet }
+still r after name k = record { next_is = k.next_is; promise_is = k.promise_is; off = k.off; hint_is = k.hint_is; silent = λ who. quiet_marks (away name) name who after.1 (away_is name) k.quiet }
 
 begins : (r : ReplicaState) (other : Draw) → r.running ≡ false → Keeps r other (r, [])
-begins r other off = record { next_is = refl; promise_is = refl; off = off; quiet = tt }
+begins r other off = record { next_is = refl; promise_is = refl; off = off; hint_is = refl; quiet = tt }
 
 pub asides_still : AsidesStayStill
 asides_still = record {

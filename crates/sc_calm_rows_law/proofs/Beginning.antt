@@ -136,7 +136,7 @@ module _ (scenario : Scenario) (bounded : IsBounded scenario) where
 
 module _ (me : ℕ) (base : Base) where
   -- the node's replica of the group, if it is a member
-  abbrev own_replica : Option ReplicaState
+  abbrev pub own_replica : Option ReplicaState
   own_replica = cond (is_member base.core.members me) (Some (born_replica slots_ahead me base)) None
 
   -- a list of groups in which only this one has its name
@@ -224,7 +224,7 @@ module _ (scenario : Scenario) (bounded : IsBounded scenario) (base : Base) (a :
           strictly : (x y : ℕ) → x ≤ y → (x ≡ y → ⊥) → x + 1 ≤ y
           strictly x y le ne = omega (arith, le, ne)
 
-  view_born : (who : ℕ) → view_at (births as_nodes scenario) [] base.core.id who ≡ own_replica who base
+  pub view_born : (who : ℕ) → view_at (births as_nodes scenario) [] base.core.id who ≡ own_replica who base
   view_born who = seated scenario.nodes 1 who (λ m. (let w = (born_is scenario bounded base a).within who m in let low = w.0 in let high = w.1 in (low, omega (arith, high))))
 
   -- ---- the group
@@ -235,11 +235,11 @@ module _ (scenario : Scenario) (bounded : IsBounded scenario) (base : Base) (a :
   abbrev start : Progress
   start = begun base.core.members (first_ballot base.core)
 
-  next_born : (who : ℕ) → next_in base who (view_at (births as_nodes scenario) [] base.core.id who) ≡ start.next who
+  pub next_born : (who : ℕ) → next_in base who (view_at (births as_nodes scenario) [] base.core.id who) ≡ start.next who
   next_born who = ap (next_in base who) (view_born who) ∙ cond_both (is_member base.core.members who) (Some (born_replica slots_ahead who base)) None (λ o. next_in base who o ≡ start.next who)
       (λ t. sym (cond-true (is_member base.core.members who) 1 0 t)) (λ _. refl)
 
-  promise_born : (who : ℕ) → promise_in base (view_at (births as_nodes scenario) [] base.core.id who) ≡ first_ballot base.core
+  pub promise_born : (who : ℕ) → promise_in base (view_at (births as_nodes scenario) [] base.core.id who) ≡ first_ballot base.core
   promise_born who = ap (promise_in base) (view_born who) ∙ cond_both (is_member base.core.members who) (Some (born_replica slots_ahead who base)) None (λ o. promise_in base o ≡ first_ballot base.core) (λ _. refl) (λ _. refl)
 
   abbrev now : Progress
@@ -269,6 +269,10 @@ module _ (scenario : Scenario) (bounded : IsBounded scenario) (base : Base) (a :
         (sym (view_born base.core.first ∙ cond-true (is_member base.core.members base.core.first) (Some (born_replica slots_ahead base.core.first base)) None (born_is scenario bounded base a).first))
         (eq-eqb base.core.first base.core.first refl);
   }
+
+-- what a group of a scenario begins with
+pub born_facts : (scenario : Scenario) → IsBounded scenario → (base : Base) → Among base scenario.groups → IsRoster base.core.members × (is_member base.core.members base.core.first ≡ true) × (base.core.gone ≡ None)
+born_facts scenario bounded base a = (let born = born_is scenario bounded base a in (born.roster, born.first, born.stands))
 
 -- ---- where all are as at the birth
 

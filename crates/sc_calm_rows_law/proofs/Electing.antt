@@ -34,11 +34,11 @@ use Rattle.sc_calm_rows_law.proofs.Scenes.{named, row_to, fit, taken, apart_off}
 use Rattle.sc_calm_rows_law.proofs.Stepping.{steps_elect}
 
 -- an entry leaves the group its name
-entered_name : (command : Command) (r : ReplicaState) → name_of (entered command r) ≡ name_of r
+pub entered_name : (command : Command) (r : ReplicaState) → name_of (entered command r) ≡ name_of r
 unfolding entered forgotten
 entered_name command r = (applied_same r.group command).0
 
-entered_me : (command : Command) (r : ReplicaState) → (entered command r).me ≡ r.me
+pub entered_me : (command : Command) (r : ReplicaState) → (entered command r).me ≡ r.me
 unfolding entered forgotten
 entered_me command r = refl
 

@@ -40,7 +40,7 @@ module _ (at : Sets) (words : ℕ → ℕ → ℕ × ℕ) (births : List (Seat P
   abbrev name : Draw
   name = base.core.id
 
-  others : (node : ℕ) → (node ≡ seat.who → ⊥) → view_at births then_ name node ≡ view_at births rows name node
+  pub others : (node : ℕ) → (node ≡ seat.who → ⊥) → view_at births then_ name node ≡ view_at births rows name node
   others node ne = view_others births rows (row_of player_table seat rows event) name node ne
 
   -- ---- the course

@@ -51,7 +51,7 @@ use Rattle.sc_calm_rows_law.proofs.Stepping.{steps_take, states_take, uncounted_
 use Rattle.sc_calm_rows_law.proofs.Turning.{found_name, rows_replicas}
 
 -- mail that is no part of the agreement leaves no mark
-aside_mark : (name : Draw) (from : ℕ) (r : ReplicaState) (body : MailBody) → IsAside r body → mark_of name from body ≡ None
+pub aside_mark : (name : Draw) (from : ℕ) (r : ReplicaState) (body : MailBody) → IsAside r body → mark_of name from body ≡ None
 aside_mark name from r (Request group client seq op) a = refl
 aside_mark name from r (Answer group seq answer) a = refl
 aside_mark name from r (TxPrepare tx offer) a = refl
@@ -70,7 +70,7 @@ aside_mark name from r (Learn group slot command) a = absurd a
 aside_mark name from r (Ask group from_slot) a = absurd a
 aside_mark name from r (Install group slot base sets) a = absurd a
 
-told_is : (node : NodeState) (line : OrderLine) (r : ReplicaState) → (stepped false node.draws (Given.Told line) (r, [])).0 ≡ ordered_row node.draws line (r, [])
+pub told_is : (node : NodeState) (line : OrderLine) (r : ReplicaState) → (stepped false node.draws (Given.Told line) (r, [])).0 ≡ ordered_row node.draws line (r, [])
 unfolding stepped
 told_is node line r = refl
 
@@ -84,18 +84,18 @@ module _ (at : Sets) (words : ℕ → ℕ → ℕ × ℕ) (births : List (Seat P
   -- ---- one that leads, and one that does not
 
   module _ (r : ReplicaState) (was : view_at births rows base.core.id seat.who ≡ Some r) where
-    leads_here : r.running ≡ true → IsLeadOf at now r × (seat.who ≡ course.ballot.node)
+    pub leads_here : r.running ≡ true → IsLeadOf at now r × (seat.who ≡ course.ballot.node)
     leads_here runs = scene.followed.given.gives seat.who r was runs
 
     -- no leader stops for a ballot that is not later
-    goes_on : (ballot : Ballot) → below course.ballot ballot ≡ false → GoesOn ballot r
+    pub goes_on : (ballot : Ballot) → below course.ballot ballot ≡ false → GoesOn ballot r
     goes_on ballot low = elim (cases_Bool r.running) [
       | inl t ↦ and_right r.running (below r.leader.ballot ballot) (ap (λ b. below b ballot) (leads_here t).0.led.may.ballot ∙ low)
       | inr f ↦ ap (λ b. b && below r.leader.ballot ballot) f
     ]
 
     -- another leads, or none
-    idle_apart : r.running ≡ false → course.runs ≡ true → seat.who ≡ course.ballot.node → ⊥
+    pub idle_apart : r.running ≡ false → course.runs ≡ true → seat.who ≡ course.ballot.node → ⊥
     idle_apart off runs mine =
         let running : r.running ≡ true = subst (IsLedBy base course) was (subst (λ n. IsLedBy base course (view_at births rows name n)) (sym mine) (scene.followed.given.runs runs)) in
         true≢false (sym running ∙ off)
@@ -104,7 +104,7 @@ module _ (at : Sets) (words : ℕ → ℕ → ℕ × ℕ) (births : List (Seat P
     apart_off none = elim (cases_Bool r.running) [ inl t ↦ (let l = leads_here t in absurd (none l.0.runs l.1)) | inr f ↦ f ]
 
     -- one that is to lead next has not executed all
-    waits_here : WaitsStill at course seat.who (next r)
+    pub waits_here : WaitsStill at course seat.who (next r)
     waits_here off stands least =
         (let low = scene.followed.follows.elects off stands in
         let here = ap now.next least in
@@ -114,7 +114,7 @@ module _ (at : Sets) (words : ℕ → ℕ → ℕ × ℕ) (births : List (Seat P
   -- ---- the mail
 
   module _ (number : ℕ) (mail : Mail) (takes : TakesMail words births rows seat number mail) where
-    row_in : IsRow now (progress_at births (with_event rows seat (Deliver number)) base course) seat.who (taken_mark name (mails rows) (Deliver number)) (λ who. marks_for name who (row_of player_table seat rows (Deliver number)).sent)
+    pub row_in : IsRow now (progress_at births (with_event rows seat (Deliver number)) base course) seat.who (taken_mark name (mails rows) (Deliver number)) (λ who. marks_for name who (row_of player_table seat rows (Deliver number)).sent)
         (marks_at (players words births) rows name) (marks_at (players words births) (with_event rows seat (Deliver number)) name)
     row_in = rows_are words births rows (row_of player_table seat rows (Deliver number)) base course course takes.timely
 
@@ -122,16 +122,16 @@ module _ (at : Sets) (words : ℕ → ℕ → ℕ × ℕ) (births : List (Seat P
       pub taken : taken_mark name (mails rows) (Deliver number) ≡ Some mark
       taken = ap (mark_in name) takes.sent ∙ is
 
-      head : marks_at (players words births) rows name seat.who ≡ mark ∷ row_in.left
+      pub head : marks_at (players words births) rows name seat.who ≡ mark ∷ row_in.left
       head = row_in.takes ∙ ap (λ o. listed o ++ row_in.left) taken
 
-      all_fit : AreFit (now.next seat.who) (now.promise seat.who) (mark ∷ row_in.left)
+      pub all_fit : AreFit (now.next seat.who) (now.promise seat.who) (mark ∷ row_in.left)
       all_fit = subst (AreFit (now.next seat.who) (now.promise seat.who)) head (scene.followed.follows.fits seat.who)
 
-      known : IsKnown course mark
+      pub known : IsKnown course mark
       known = (subst (Each (IsKnown course)) head (scene.followed.follows.known seat.who)).0
 
-      within : next_by (now.next seat.who) mark ≤ course.newest
+      pub within : next_by (now.next seat.who) mark ≤ course.newest
       within =
           (let all = scene.followed.follows.within seat.who in
           let same = ap (reached (now.next seat.who)) head in
@@ -139,7 +139,7 @@ module _ (at : Sets) (words : ℕ → ℕ → ℕ × ℕ) (births : List (Seat P
           omega (arith, all, same, more))
 
       -- a mail that takes the node further does not come to the leader
-      no_lead : suc (now.next seat.who) ≤ next_by (now.next seat.who) mark → course.runs ≡ true → seat.who ≡ course.ballot.node → ⊥
+      pub no_lead : suc (now.next seat.who) ≤ next_by (now.next seat.who) mark → course.runs ≡ true → seat.who ≡ course.ballot.node → ⊥
       no_lead up runs mine =
           (let all = (scene.followed.follows.leads runs).executed in
           let here = ap now.next mine in

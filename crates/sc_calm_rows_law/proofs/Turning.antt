@@ -77,12 +77,14 @@ module _ (births : List (Seat Player)) (rows : Rows) (seat : Seat Player) (event
   }
 
   pub replica_by : (name : Draw) (before : Option ReplicaState) (after : Place) → replica_of name (replicas_of player) ≡ before → replica_of name (replicas_of (acted player_table player o).0) ≡ Some after.0
-      → ((who : ℕ) → marks_for name who (acted player_table player o).1 ≡ marks_for name who after.1) → IsReplicasRow births rows seat event name before after
-  replica_by name before after was now sends = record {
-    was = view_was births rows seat event name born player is ∙ was;
-    is = view_is births rows seat event name born player is o e ∙ now;
-    sends = λ who. ap (marks_for name who) (sent_is births rows seat event name born player is o e) ∙ sends who;
-  }
+      → (acted player_table player o).1 ≡ after.1 → IsReplicasRow births rows seat event name before after
+  replica_by name before after was now sends =
+      let all = sent_is births rows seat event name born player is o e ∙ sends in record {
+        was = view_was births rows seat event name born player is ∙ was;
+        is = view_is births rows seat event name born player is o e ∙ now;
+        sends_all = all;
+        sends = λ who. ap (marks_for name who) all;
+      }
 
 -- the name of a replica that is found
 pub found_name : (group : Draw) (replicas : List ReplicaState) (r : ReplicaState) → replica_of group replicas ≡ Some r → name_of r ≡ group
@@ -242,7 +244,7 @@ order_other name line node ne (Some r) e =
 
 -- ---- what does nothing
 
-delivered : (rows : Rows) (number : ℕ) (mail : Mail) → numbered (mails rows) number ≡ Some mail → input_of {O = OrderLine} (mails rows) (Deliver number) ≡ Some (Got mail)
+pub delivered : (rows : Rows) (number : ℕ) (mail : Mail) → numbered (mails rows) number ≡ Some mail → input_of {O = OrderLine} (mails rows) (Deliver number) ≡ Some (Got mail)
 delivered rows number mail at = ap (λ o. option_map Got o) at
 
 client_idle : (births : List (Seat Player)) (rows : Rows) (seat : Seat Player) (event : Event OrderLine) (base : Base) (client : ClientState) → IsSeat births seat → value player_table seat rows ≡ Client client
@@ -316,19 +318,19 @@ made_row births rows seat number mail group slot base sets node born is at comes
     let made = made_step group place node (names_stay.made node.me mail.from group slot base sets) none in
     replica_by births rows seat (Deliver number) born (Node node) is (Some (Got mail)) (delivered rows number mail at) group None place none
     (ap (λ (x : NodeState × List Mail). replica_of group x.0.replicas) step ∙ made.0)
-    (λ who. ap (λ (x : NodeState × List Mail). marks_for group who x.1) step ∙ ap (marks_for group who) made.1)
+    (ap (λ (x : NodeState × List Mail). x.1) step ∙ made.1)
 
 pub rows_replicas : RowsAreReplicas
 rows_replicas = record {
   taken = λ births rows seat number mail group node r born is at comes named here.
       (let step = taken_is group mail.from mail.body node r comes named here in
       replica_by births rows seat (Deliver number) born (Node node) is (Some (Got mail)) (delivered rows number mail at) group (Some r) (mailed mail.from mail.body (r, [])).0 here
-      (ap (λ (x : NodeState × List Mail). replica_of group x.0.replicas) step ∙ taken_found group mail.from mail.body node r here) (λ who. ap (λ (x : NodeState × List Mail). marks_for group who x.1) step));
+      (ap (λ (x : NodeState × List Mail). replica_of group x.0.replicas) step ∙ taken_found group mail.from mail.body node r here) (ap (λ (x : NodeState × List Mail). x.1) step));
   made = made_row;
   ordered = λ births rows seat line node r born is here.
       (let group = group_of_order line.order in
       let step : on_order line node ≡ ordered_of (Some r) line node = ap (λ o. ordered_of o line node) here in
       replica_by births rows seat (Told line) born (Node node) is (Some (ToldInput line)) refl group (Some r) (ordered_row node.draws line (r, [])) here
       (ap (λ (x : NodeState × List Mail). replica_of group x.0.replicas) step ∙ put_found group (ordered_row node.draws line (r, [])).0 r node.replicas (names_stay.ordered node.draws line r ∙ found_name group node.replicas r here) here)
-      (λ who. ap (λ (x : NodeState × List Mail). marks_for group who x.1) step));
+      (ap (λ (x : NodeState × List Mail). x.1) step));
 }

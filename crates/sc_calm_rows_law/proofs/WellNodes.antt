@@ -31,7 +31,7 @@ use Rattle.sc_calm_rows_law.proofs.WellRows.{K, born_well, made_well, mailed_wel
 module _ (me : ℕ) where
   -- ---- replicas in their order
 
-  abbrev All : List ReplicaState → Type 0
+  abbrev pub All : List ReplicaState → Type 0
   All replicas = Each (IsWellKept me) replicas
 
   put_well : (group : Draw) (new : ReplicaState) (replicas : List ReplicaState) → IsWellKept me new → All replicas → All (with_replica group new replicas)
@@ -42,17 +42,17 @@ module _ (me : ℕ) where
   new_well new [] n k = (n, tt)
   new_well new (r ∷ replicas) n k = either_way All (is_before (name_of r) (name_of new)) _ _ (k.0, new_well new replicas n k.1) (n, k)
 
-  abbrev Found : Option ReplicaState → Type 0
+  abbrev pub Found : Option ReplicaState → Type 0
   Found None = Unit {0}
   Found (Some r) = IsWellKept me r
 
-  found_well : (group : Draw) (replicas : List ReplicaState) → All replicas → Found (replica_of group replicas)
+  pub found_well : (group : Draw) (replicas : List ReplicaState) → All replicas → Found (replica_of group replicas)
   found_well group [] k = tt
   found_well group (r ∷ replicas) k = either_way Found (same_draw (name_of r) group) (Some r) (replica_of group replicas) k.0 (found_well group replicas k.1)
 
   -- ---- a node of this number
 
-  abbrev N : NodeState → Type 0
+  abbrev pub N : NodeState → Type 0
   N node = (node.me ≡ me) × All node.replicas
 
   abbrev Step : NodeState × List Mail → Type 0
@@ -105,7 +105,7 @@ module _ (me : ℕ) where
 
   -- ---- any rows
 
-  abbrev Plays : Player → Type 0
+  abbrev pub Plays : Player → Type 0
   Plays (Node node) = N node
   Plays (Client client) = Unit {0}
 
@@ -117,7 +117,7 @@ module _ (me : ℕ) where
   acted_well (Node node) (Some Go) k = k
   acted_well (Client client) (Some input) k = tt
 
-  replay_well : (who : ℕ) (rows : List (Row Mail OrderLine)) (player : Player) (sent : List Mail) → Plays player → Plays (replay player_table who player sent rows)
+  pub replay_well : (who : ℕ) (rows : List (Row Mail OrderLine)) (player : Player) (sent : List Mail) → Plays player → Plays (replay player_table who player sent rows)
   replay_well who [] player sent k = k
   replay_well who (row ∷ rows) player sent k =
       let after : Player = cond (eqb row.who who) (acted player_table player (input_of sent row.event)).0 player in

@@ -10,11 +10,12 @@ use Rattle.sc_node_table.specs.Rows.{mailed}
 use Rattle.sc_following_law.specs.Leading.{IsAside}
 use Rattle.sc_following_law.specs.Tables.{marks_for}
 
--- it stays where it is, does not run, and sends nothing of the group
+-- it stays where it is, does not run, takes the same one for the leader, and sends nothing of the group
 pub record IsUnmoved (name : Draw) (r : ReplicaState) (after : Place) : Type 0 where
   pub next_is : next after.0 ≡ next r
   pub promise_is : after.0.acceptor.promised ≡ r.acceptor.promised
   pub off : after.0.running ≡ false
+  pub hint_is : after.0.hint ≡ r.hint
   pub silent : (who : ℕ) → marks_for name who after.1 ≡ []
 
 -- .. whatever such mail it takes, and whatever it is told

@@ -120,10 +120,11 @@ pub record OthersRowsAreIdle : Type 0 where
   -- .. and that it is told to go
   pub go : (births : List (Seat Player)) (rows : Rows) (seat : Seat Player) (base : Base) (node : NodeState) → IsSeat births seat → value player_table seat rows ≡ Node node → LeavesAlone births rows seat Go base
 
--- In a row the replica of a group at the player who acts becomes another, by its own table alone, and what is sent of the group is what that sends.
+-- In a row the replica of a group at the player who acts becomes another, by its own table alone, and what is sent is what that sends.
 pub record IsReplicasRow (births : List (Seat Player)) (rows : Rows) (seat : Seat Player) (event : Event OrderLine) (name : Draw) (before : Option ReplicaState) (after : Place) : Type 0 where
   pub was : view_at births rows name seat.who ≡ before
   pub is : view_at births (with_event rows seat event) name seat.who ≡ Some after.0
+  pub sends_all : (row_of player_table seat rows event).sent ≡ after.1
   pub sends : (who : ℕ) → marks_for name who (row_of player_table seat rows event).sent ≡ marks_for name who after.1
 
 -- a state with the members of as many slots as are open, of none after the last slot

@@ -104,7 +104,7 @@ pub fn rows_keep_following()
 {}
 
 /// A replica that does not run stays where it is by mail that is no part of the agreement, and by
-/// an order, and sends nothing of its group.
+/// an order, takes the same one for the leader, and sends nothing of its group.
 pub fn asides_stay_still()
     ensures { AsidesStayStill }
 {}

@@ -1,0 +1,11 @@
+pub mod Beginning
+pub mod BornWell
+pub mod Dating
+pub mod Events
+pub mod Leading
+pub mod Learns
+pub mod Mails
+pub mod Others
+pub mod Resting
+pub mod Rows
+pub mod Through

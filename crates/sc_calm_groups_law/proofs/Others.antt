@@ -1,0 +1,77 @@
+-- An event that does nothing in a group leaves it well led, also where a replica is born; and so does all mail of agreement.
+use Rattle.std.proofs.Common.{◌≡◌, ℕ, ◌+◌, ◌<◌, true, List, None, Some, inl, inr, sym, ◌∙◌, ap, subst, arith}
+use Rattle.std.proofs.lemmas.Bool.{eqb-true}
+use Rattle.sc_cmd.specs.declared.cores.Base.{Base}
+use Rattle.sc_cmd.specs.declared.orders.OrderLine.{OrderLine}
+use Rattle.sc_member.specs.Roster.{IsRoster, is_member}
+use Rattle.sc_actor.specs.declared.actors.Seat.{Seat}
+use Rattle.sc_actor.specs.declared.rows.Event.{Event}
+use Rattle.sc_orderly_law.specs.Timely.{AreInTime}
+use Rattle.sc_node_table.specs.Replica.{ReplicaState, born_replica}
+use Rattle.sc_node_table.specs.Slots.{slots_ahead}
+use Rattle.sc_sound.specs.Players.{Player}
+use Rattle.sc_calm_law.specs.Charts.{players}
+use Rattle.sc_calm_law.specs.Totals.{Rows}
+use Rattle.sc_following_law.specs.Following.{Course, Sets}
+use Rattle.sc_following_law.specs.Hints.{Tellers}
+use Rattle.sc_following_law.specs.Orderly.{IsOrderly}
+use Rattle.sc_following_law.proofs.Beginning.{leaders_begin}
+use Rattle.sc_calm_rows_law.specs.Groups.{view_at, begun_course, IsLedBy}
+use Rattle.sc_calm_rows_law.specs.Turns.{with_event, IsIdleIn, IsBornOr}
+use Rattle.sc_calm_rows_law.proofs.Keeping.{same_some}
+use Rattle.sc_calm_rows_law.proofs.Staying.{leads_stay}
+use Rattle.sc_calm_groups_law.specs.Led.{Ends, hint_in, IsWellLed}
+use Rattle.sc_calm_groups_law.specs.Logged.{IsLogOf}
+use Rattle.sc_calm_groups_law.specs.Mailed.{LedAfter, MailsKeepLed, OthersKeepLed}
+use Rattle.sc_calm_groups_law.specs.Rows.{IsStage}
+use Rattle.sc_calm_groups_law.proofs.Learns.{learns}
+use Rattle.sc_calm_groups_law.proofs.Mails.{accepts, prepares, installs, passes_vote, passes_promise, stays_aside, makes, stays_ordered}
+use Rattle.sc_calm_groups_law.proofs.Rows.{rows_keep_led}
+
+module _ (at : Sets) (over : Ends) (by : Tellers) (words : ℕ → ℕ → ℕ × ℕ) (births : List (Seat Player)) (rows : Rows) (seat : Seat Player) (event : Event OrderLine) (base : Base) (course : Course) (log : IsLogOf at by)
+    (timely : AreInTime (players words births) (with_event rows seat event)) (was : IsWellLed at over by words births rows base course) where
+  abbrev stage : IsStage at over by words births rows seat event base course
+  stage = record { rosters = log.rosters; timely = timely; was = was }
+
+  by_same : view_at births (with_event rows seat event) base.core.id seat.who ≡ view_at births rows base.core.id seat.who → IsIdleIn births rows seat event base → LedAfter at over by words births rows seat event base course
+  by_same same idle = rows_keep_led.idle at over by words births rows seat event base course stage
+      (record { lead = leads_stay.same at words births rows seat event base course was.followed same; orderly = λ r e runs. was.orderly seat.who r (sym same ∙ e) runs; there = λ none. sym same ∙ none }) (idle course) (ap (hint_in base) same)
+
+  module _ (same : (slot : ℕ) → slot < 1 + slots_ahead → at slot ≡ base.core.members) (first : is_member base.core.members base.core.first ≡ true) (stands : base.core.gone ≡ None) where
+    by_born : IsBornOr base seat.who (view_at births (with_event rows seat event) base.core.id seat.who) (view_at births rows base.core.id seat.who) → IsIdleIn births rows seat event base → LedAfter at over by words births rows seat event base course
+    by_born (inl stays) idle = by_same stays idle
+    by_born (inr makes_) idle =
+        let roster : IsRoster base.core.members = subst IsRoster (same 0 (omega arith)) (log.rosters 0) in
+        rows_keep_led.idle at over by words births rows seat event base course stage
+        (record {
+          lead = leads_stay.born at births rows seat event base course same roster first stands (λ who. was.young (ap (view_at births rows base.core.id) (sym who) ∙ makes_.0))
+              (λ runs mine.
+              (let begins : course ≡ begun_course base = subst (IsLedBy base course) makes_.0 (subst (λ n. IsLedBy base course (view_at births rows base.core.id n)) (sym mine) (was.followed.given.runs runs)) in
+              mine ∙ ap (λ (c : Course). c.ballot.node) begins))
+              makes_.1;
+          orderly = λ r e runs.
+              (let own : born_replica slots_ahead seat.who base ≡ r = same_some (view_at births (with_event rows seat event) base.core.id seat.who) (born_replica slots_ahead seat.who base) r makes_.1 e in
+              let who : base.core.first ≡ seat.who = eqb-true base.core.first seat.who (ap (λ (x : ReplicaState). x.running) own ∙ runs) in
+              subst IsOrderly own (leaders_begin at seat.who base same who (subst (λ n. is_member base.core.members n ≡ true) who first) stands roster).1);
+          there = λ none. (let bad : Some (born_replica slots_ahead seat.who base) ≡ None = sym makes_.1 ∙ none in cc);
+        })
+        (idle course) (ap (hint_in base) makes_.1 ∙ sym (ap (hint_in base) makes_.0))
+
+pub others_keep_led : OthersKeepLed
+others_keep_led = record {
+  alone = λ at over by words births rows seat event base course log timely was leaves. by_same at over by words births rows seat event base course log timely was leaves.view leaves.idle;
+  bears = λ at over by words births rows seat event base course log timely was same first stands leaves. by_born at over by words births rows seat event base course log timely was same first stands leaves.view leaves.idle;
+}
+
+pub mails_keep_led : MailsKeepLed
+mails_keep_led = record {
+  accept = λ at over by words births rows seat number mail node base course r ballot slot command s takes has from body. accepts at over by words births rows seat node base course s number mail takes r has ballot slot command from body;
+  prepare = λ at over by words births rows seat number mail node base course r ballot from_slot s takes has from body. prepares at over by words births rows seat node base course s number mail takes r has ballot from_slot from body;
+  learn = λ at over by words births rows seat number mail node base course r slot command s takes has body low logs rounds. learns at over by words births rows seat node base course s number mail takes r has slot command body low logs rounds;
+  install = λ at over by words births rows seat number mail node base course r slot state sets s takes has body logs. installs at over by words births rows seat node base course s number mail takes r has slot state sets body logs;
+  made = λ at over by words births rows seat number mail node base course slot state sets s takes none body logs. makes at over by words births rows seat node base course s number mail takes slot state sets none body logs;
+  vote = λ at over by words births rows seat number mail node base course r ballot slot s takes has body off. passes_vote at over by words births rows seat node base course s number mail takes r has ballot slot body off;
+  promise = λ at over by words births rows seat number mail node base course r ballot reports s takes has body off. passes_promise at over by words births rows seat node base course s number mail takes r has ballot reports body off;
+  aside = λ at over by words births rows seat number mail node base course r s takes has group aside off. stays_aside at over by words births rows seat node base course s number mail takes r has group aside off;
+  order = λ at over by words births rows seat line node base course r s timely has group off. stays_ordered at over by words births rows seat node base course s line r timely has group off;
+}

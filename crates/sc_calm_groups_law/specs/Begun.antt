@@ -1,0 +1,35 @@
+-- That groups begin well led.
+use Rattle.std.specs.Prelude.{◌≡◌, ℕ, ◌+◌, ◌<◌, true, false, List, [], None}
+use Rattle.sc_base.specs.Among.{Among}
+use Rattle.sc_cmd.specs.declared.cores.Base.{Base}
+use Rattle.sc_member.specs.Roster.{IsRoster, is_member}
+use Rattle.sc_actor.specs.declared.actors.Seat.{Seat}
+use Rattle.sc_scenario.specs.Valid.{IsBounded}
+use Rattle.sc_scenario.specs.declared.scenarios.Scenario.{Scenario}
+use Rattle.sc_node_table.specs.Slots.{slots_ahead}
+use Rattle.sc_sound.specs.Players.{Player, births, as_nodes}
+use Rattle.sc_calm_law.specs.Charts.{players}
+use Rattle.sc_calm_law.specs.Totals.{Rows}
+use Rattle.sc_following_law.specs.Following.{Sets}
+use Rattle.sc_following_law.specs.Hints.{Tellers}
+use Rattle.sc_calm_rows_law.specs.Groups.{view_at, marks_at, begun_course}
+use Rattle.sc_calm_groups_law.specs.Led.{Ends, IsWellLed}
+
+-- the log of a group begins with its first members, and with the group standing; the members of each slot are a roster
+pub record BeginsSo (at : Sets) (over : Ends) (base : Base) : Type 0 where
+  pub sets : (slot : ℕ) → slot < 1 + slots_ahead → at slot ≡ base.core.members
+  pub stands : over 1 ≡ false
+  pub early : over 0 ≡ false
+  pub rosters : (slot : ℕ) → IsRoster (at slot)
+
+-- Each group of a bounded scenario is well led at its birth ..
+abbrev pub ScenariosBeginLed : Type 0
+ScenariosBeginLed =
+    (at : Sets) (over : Ends) (by : Tellers) (words : ℕ → ℕ → ℕ × ℕ) (scenario : Scenario) (base : Base) → IsBounded scenario → Among base scenario.groups → BeginsSo at over base
+    → IsWellLed at over by words (births as_nodes scenario) [] base (begun_course base)
+
+-- .. and so is one that is still to be born, the first of whose members is one, where no node has a replica of it and no mail of it is under way
+abbrev pub ChildrenBeginLed : Type 0
+ChildrenBeginLed =
+    (at : Sets) (over : Ends) (by : Tellers) (words : ℕ → ℕ → ℕ × ℕ) (seats : List (Seat Player)) (rows : Rows) (base : Base) → BeginsSo at over base → is_member base.core.members base.core.first ≡ true
+    → ((who : ℕ) → view_at seats rows base.core.id who ≡ None) → ((who : ℕ) → marks_at (players words seats) rows base.core.id who ≡ []) → IsWellLed at over by words seats rows base (begun_course base)

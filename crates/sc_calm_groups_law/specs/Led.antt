@@ -1,0 +1,51 @@
+-- A group after some rows of players that is well led: it follows its leader, each node takes the one for the leader that it is to, and what the leader has in flight is in order.
+use Rattle.std.specs.Prelude.{◌≡◌, ℕ, ◌≤◌, Bool, true, List, Option, Some, None}
+use Rattle.sc_base.specs.declared.names.Draw.{Draw}
+use Rattle.sc_cmd.specs.declared.cores.Base.{Base}
+use Rattle.sc_cmd.specs.declared.orders.OrderLine.{OrderLine}
+use Rattle.sc_mail.specs.declared.bodies.Mail.{Mail}
+use Rattle.sc_actor.specs.declared.actors.Seat.{Seat}
+use Rattle.sc_actor.specs.System.{System}
+use Rattle.sc_orderly_law.specs.Orderly.{rest}
+use Rattle.sc_node_table.specs.Replica.{ReplicaState}
+use Rattle.sc_sound.specs.Players.{Player}
+use Rattle.sc_calm_law.specs.Charts.{players}
+use Rattle.sc_calm_law.specs.Totals.{Rows}
+use Rattle.sc_following_law.specs.Dated.{Dated, dated_of, IsAskedLow}
+use Rattle.sc_following_law.specs.Following.{Course, Sets}
+use Rattle.sc_following_law.specs.Hints.{Tellers, IsHeeding}
+use Rattle.sc_following_law.specs.Orderly.{IsOrderly}
+use Rattle.sc_following_law.specs.Owning.{IsOwnFirst}
+use Rattle.sc_calm_rows_law.specs.Groups.{view_at, progress_at, marks_at, begun_course, IsFollowedAt}
+
+-- whom a replica takes for the leader; where there is none yet, it will be the group's first member
+abbrev pub hint_in : Base → Option ReplicaState → Option ℕ
+hint_in base None = Some base.core.first
+hint_in base (Some r) = r.hint
+
+-- .. that of each node after some rows
+abbrev pub hints_at : List (Seat Player) → Rows → Base → ℕ → Option ℕ
+hints_at births rows base who = hint_in base (view_at births rows base.core.id who)
+
+-- the marks, for a group, of the mail that an actor has not taken, with the slots from which it is asked to promise
+abbrev pub dated_at : System Player Mail OrderLine → Rows → Draw → ℕ → List Dated
+dated_at s rows name who = dated_of name (rest s rows who)
+
+-- whether the group is gone in the state in which a slot is the next one
+abbrev pub Ends : Type 0
+Ends = ℕ → Bool
+
+-- The group follows its leader in this course; its nodes take the one that leads for that; none is asked to promise from below its next slot, and a leader has taken what it asked itself; what a leader has in flight and ready is in order; the group goes on as it began until its first member's node has a replica; and it is gone where the log says so, which nothing follows.
+pub record IsWellLed (at : Sets) (over : Ends) (by : Tellers) (words : ℕ → ℕ → ℕ × ℕ) (births : List (Seat Player)) (rows : Rows) (base : Base) (course : Course) : Type 0 where
+  pub followed : IsFollowedAt at words births rows base course
+  pub heeded : IsHeeding at by (progress_at births rows base course) (hints_at births rows base) (marks_at (players words births) rows base.core.id)
+  pub low : IsAskedLow (progress_at births rows base course) (dated_at (players words births) rows base.core.id)
+  pub own : IsOwnFirst (progress_at births rows base course) (marks_at (players words births) rows base.core.id)
+  pub orderly : (node : ℕ) (r : ReplicaState) → view_at births rows base.core.id node ≡ Some r → r.running ≡ true → IsOrderly r
+  pub young : view_at births rows base.core.id base.core.first ≡ None → course ≡ begun_course base
+  pub ends : course.gone ≡ over course.newest
+  pub rests : (slot : ℕ) → over slot ≡ true → course.newest ≤ slot
+
+-- .. in some course
+abbrev pub IsLedOn : Sets → Ends → Tellers → (ℕ → ℕ → ℕ × ℕ) → List (Seat Player) → Rows → Base → Type 0
+IsLedOn at over by words births rows base = (course : Course) × IsWellLed at over by words births rows base course

@@ -1,0 +1,7 @@
+pub mod Begun
+pub mod Led
+pub mod Logged
+pub mod Mailed
+pub mod Rests
+pub mod Rows
+pub mod Through

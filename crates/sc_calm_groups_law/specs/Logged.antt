@@ -1,0 +1,43 @@
+-- What a group's log must be, so that each row of a calm journal keeps the group well led: what is said of it here is of the log alone, and not of who leads or heeds.
+use Rattle.std.specs.Prelude.{◌≡◌, ℕ, ◌+◌, ◌-◌, ◌^◌, ◌<◌, ◌≤◌, true, List, length, is_some, ◌⊎◌}
+use Rattle.sc_cmd.specs.declared.cores.Base.{Base}
+use Rattle.sc_member.specs.Roster.{IsRoster, is_member}
+use Rattle.sc_paxos_words.specs.Ballots.{IsAtLeast}
+use Rattle.sc_node_table.specs.Node.{is_node}
+use Rattle.sc_node_table.specs.Replica.{ReplicaState, next, members, first_ballot}
+use Rattle.sc_node_table.specs.Slots.{slots_ahead}
+use Rattle.sc_following_law.specs.Following.{Sets, members_at}
+use Rattle.sc_following_law.specs.Hints.{Tellers}
+use Rattle.sc_following_law.specs.Offers.{AreAt}
+use Rattle.sc_calm_rows_law.specs.Turns.{IsWholeState}
+use Rattle.sc_calm_groups_law.specs.Led.{Ends}
+
+-- a replica's state is the log's: its members, those of its open slots, and whether the group is gone, which nothing follows
+pub record IsOfLog (at : Sets) (over : Ends) (r : ReplicaState) : Type 0 where
+  pub members_are : members_at at (next r) ≡ members r
+  pub opens : AreAt at (next r) r.sets
+  pub many : length r.sets ≡ slots_ahead
+  pub ends : is_some r.group.core.gone ≡ over (next r)
+  pub rests : (slot : ℕ) → over slot ≡ true → next r ≤ slot
+
+-- a replica has seen what it has promised, and a later round is left
+pub record HasRounds (r : ReplicaState) : Type 0 where
+  pub seen : IsAtLeast r.top r.acceptor.promised
+  pub later : r.top.round < 2 ^ 32 - 1
+
+-- a state that is sent is the log's after this slot, whole, of the group that began so, and sent by the one that leads at the slot
+pub record IsLogsState (at : Sets) (by : Tellers) (base : Base) (slot from : ℕ) (state : Base) (sets : List (List ℕ)) : Type 0 where
+  pub whole : IsWholeState slot sets
+  pub members_are : members_at at (slot + 1) ≡ state.core.members
+  pub firsts : first_ballot state.core ≡ first_ballot base.core
+  pub teller : from ≡ by slot
+
+-- a row that takes a replica on to a slot counts the entries before it, where the one of a node leads
+abbrev pub CountsTo : Tellers → ReplicaState → ReplicaState → ℕ → Type 0
+CountsTo by r after node = (slot : ℕ) → next r ≤ slot → slot < next after → by slot ≡ node
+
+-- The members of each slot are a roster of nodes; and nobody comes by an entry by which the one that counts it goes.
+pub record IsLogOf (at : Sets) (by : Tellers) : Type 0 where
+  pub rosters : (slot : ℕ) → IsRoster (at slot)
+  pub nodes : (slot node : ℕ) → is_member (at slot) node ≡ true → is_node node ≡ true
+  pub leaves : (slot : ℕ) → (is_member (members_at at (slot + 1)) (by slot) ≡ true) ⊎ ((who : ℕ) → is_member (members_at at (slot + 1)) who ≡ true → is_member (members_at at slot) who ≡ true)

@@ -1,0 +1,43 @@
+-- What a group that is well led is in a quiet journal.
+use Rattle.std.specs.Prelude.{◌≡◌, ℕ, ◌≤◌, true, false, List, [], Some}
+use Rattle.sc_cmd.specs.declared.cores.Base.{Base}
+use Rattle.sc_member.specs.Roster.{IsRoster, is_member}
+use Rattle.sc_actor.specs.declared.actors.Seat.{Seat}
+use Rattle.sc_actor.specs.Walk.{is_quiet}
+use Rattle.sc_orderly_law.specs.Orderly.{is_born}
+use Rattle.sc_orderly_law.specs.Timely.{AreInTime}
+use Rattle.sc_paxos_words.specs.Ballots.{below}
+use Rattle.sc_node_table.specs.Replica.{ReplicaState, next, members, settled}
+use Rattle.sc_sound.specs.Players.{Player}
+use Rattle.sc_calm_law.specs.Charts.{players}
+use Rattle.sc_calm_law.specs.Laws.{IsUnbound}
+use Rattle.sc_calm_law.specs.Quiet.{MayVote}
+use Rattle.sc_calm_law.specs.Totals.{Rows}
+use Rattle.sc_following_law.specs.Following.{Course, Sets, IsOpen}
+use Rattle.sc_following_law.specs.Hints.{Tellers}
+use Rattle.sc_following_law.specs.Leading.{IsLeadOf}
+use Rattle.sc_following_law.specs.Orderly.{IsOrderly}
+use Rattle.sc_calm_rows_law.specs.Groups.{view_at, progress_at, marks_at}
+use Rattle.sc_calm_groups_law.specs.Led.{Ends, IsWellLed}
+
+-- One leads, a settled member that no report binds, with all in order, and no other runs; no replica is further, and each member's is as far; none has promised a later ballot; and each other of a node that decides an open slot may vote.
+pub record IsLedQuietly (at : Sets) (births : List (Seat Player)) (rows : Rows) (base : Base) (course : Course) (lead : ReplicaState) : Type 0 where
+  pub leads : IsLeadOf at (progress_at births rows base course) lead
+  pub runs : lead.running ≡ true
+  pub mine : is_member (members lead) lead.me ≡ true
+  pub settled_is : settled lead ≡ true
+  pub unbound : IsUnbound lead
+  pub orderly : IsOrderly lead
+  pub alone : (node : ℕ) (r : ReplicaState) → view_at births rows base.core.id node ≡ Some r → r.running ≡ true → r ≡ lead
+  pub most : (node : ℕ) (r : ReplicaState) → view_at births rows base.core.id node ≡ Some r → next r ≤ next lead
+  pub member : (node : ℕ) (r : ReplicaState) → view_at births rows base.core.id node ≡ Some r → is_member (members lead) node ≡ true → next r ≡ next lead
+  pub promised : (node : ℕ) (r : ReplicaState) → view_at births rows base.core.id node ≡ Some r → below lead.leader.ballot r.acceptor.promised ≡ false
+  pub voter : (node : ℕ) (r : ReplicaState) → view_at births rows base.core.id node ≡ Some r → r.me ≡ node → IsOpen at course.newest node → (node ≡ lead.me → ⊥) → MayVote lead r
+
+-- So it is in a quiet journal, where no mail of it is for who is no actor: if it stands, with the replica of the node of its ballot; and if it is gone, none runs.
+pub record QuietGroupsAreLed : Type 0 where
+  pub stands : (at : Sets) (over : Ends) (by : Tellers) (words : ℕ → ℕ → ℕ × ℕ) (births : List (Seat Player)) (rows : Rows) (base : Base) (course : Course) (lead : ReplicaState) → ((slot : ℕ) → IsRoster (at slot)) → AreInTime (players words births) rows
+      → is_quiet (players words births) rows ≡ true → ((who : ℕ) → is_born (players words births) who ≡ false → marks_at (players words births) rows base.core.id who ≡ []) → IsWellLed at over by words births rows base course
+      → course.gone ≡ false → view_at births rows base.core.id course.ballot.node ≡ Some lead → IsLedQuietly at births rows base course lead
+  pub gone : (at : Sets) (over : Ends) (by : Tellers) (words : ℕ → ℕ → ℕ × ℕ) (births : List (Seat Player)) (rows : Rows) (base : Base) (course : Course) → IsWellLed at over by words births rows base course → course.gone ≡ true
+      → (node : ℕ) (r : ReplicaState) → view_at births rows base.core.id node ≡ Some r → r.running ≡ false

@@ -1,0 +1,125 @@
+-- That a group is well led through a calm journal, where its log is one.
+use Rattle.std.specs.Prelude.{◌≡◌, ℕ, ◌+◌, ◌<◌, ◌≤◌, true, false, List, [], ◌++◌, Some, None, ◌⊎◌}
+use Rattle.sc_base.specs.Among.{Among, Each}
+use Rattle.sc_base.specs.declared.names.Ballot.{Ballot}
+use Rattle.sc_base.specs.declared.names.Draw.{Draw}
+use Rattle.sc_cmd.specs.declared.commands.Command.{Command}
+use Rattle.sc_cmd.specs.declared.cores.Base.{Base}
+use Rattle.sc_cmd.specs.declared.orders.OrderLine.{OrderLine}
+use Rattle.sc_mail.specs.declared.bodies.Mail.{Mail}
+use Rattle.sc_mail.specs.declared.bodies.MailBody.TheVariants.{Promise, Accepted, Nack, Learn, Ask, Install}
+use Rattle.sc_mail.specs.declared.roles.Role.TheVariants.{Node, Client}
+use Rattle.sc_member.specs.Roster.{is_member}
+use Rattle.sc_actor.specs.declared.actors.Seat.{Seat}
+use Rattle.sc_actor.specs.declared.rows.Event.{Event}
+use Rattle.sc_actor.specs.declared.rows.Event.TheVariants.{Deliver}
+use Rattle.sc_actor.specs.Mail.{mails, numbered}
+use Rattle.sc_actor.specs.Replay.{value}
+use Rattle.sc_orderly_law.specs.Orderly.{IsCalmEvent}
+use Rattle.sc_orderly_law.specs.Timely.{AreInTime}
+use Rattle.sc_client_table.specs.Client.{Client as ClientState}
+use Rattle.sc_paxos_words.specs.declared.reports.Report.{Report}
+use Rattle.sc_scenario.specs.Valid.{IsBounded}
+use Rattle.sc_scenario.specs.declared.scenarios.Scenario.{Scenario}
+use Rattle.sc_node_table.specs.Execute.{entered}
+use Rattle.sc_node_table.specs.Node.{NodeState, replica_of, group_of_mail, may_come}
+use Rattle.sc_node_table.specs.Replica.{ReplicaState, next, last_slot}
+use Rattle.sc_node_table.specs.Slots.{slots_ahead}
+use Rattle.sc_law_lemmas.specs.Steps.{GoesOn}
+use Rattle.sc_sound.specs.Players.{Player, player_table, births, as_nodes}
+use Rattle.sc_calm_law.specs.Charts.{players}
+use Rattle.sc_calm_law.specs.Totals.{Rows}
+use Rattle.sc_following_law.specs.Following.{mark_of, Course, Sets}
+use Rattle.sc_following_law.specs.Hints.{Tellers}
+use Rattle.sc_following_law.specs.Leading.{DecidesNext}
+use Rattle.sc_calm_rows_law.specs.Groups.{view_at}
+use Rattle.sc_calm_rows_law.specs.Senders.{PlaysAlone}
+use Rattle.sc_calm_rows_law.specs.Turns.{IsSeat, with_event, made_children, AreAsBegun}
+use Rattle.sc_calm_rows_law.specs.WellKept.{IsWellKeptNode}
+use Rattle.sc_calm_groups_law.specs.Led.{Ends, IsWellLed, IsLedOn}
+use Rattle.sc_calm_groups_law.specs.Logged.{IsOfLog, HasRounds, IsLogsState, CountsTo, IsLogOf}
+
+-- a player with its number, each of whose replicas is well kept
+abbrev pub IsWellPlayer : ℕ → Player → Type 0
+IsWellPlayer who (Node node) = (node.me ≡ who) × IsWellKeptNode node
+IsWellPlayer who (Client client) = Unit {0}
+
+-- players are born well: each with its number and with replicas that are well kept, and each replica that runs does so with a ballot of its own
+pub record AreWellBorn (births : List (Seat Player)) : Type 0 where
+  pub well : (seat : Seat Player) → IsSeat births seat → IsWellPlayer seat.who seat.actor
+  pub alone : Each (λ seat. PlaysAlone seat.actor) births
+
+-- the players of a scenario are
+abbrev pub ScenariosAreWellBorn : Type 0
+ScenariosAreWellBorn = (scenario : Scenario) → AreWellBorn (births as_nodes scenario)
+
+-- a row of a journal, and what is before it
+pub record IsRowOf (journal rows : Rows) (seat : Seat Player) (event : Event OrderLine) : Type 0 where
+  pub more : Rows
+  pub is : journal ≡ with_event rows seat event ++ more
+
+-- .. in which this mail is delivered
+pub record Delivers (journal rows : Rows) (seat : Seat Player) (number : ℕ) (mail : Mail) : Type 0 where
+  pub row : IsRowOf journal rows seat (Deliver number)
+  pub sent : numbered (mails rows) number ≡ Some mail
+
+-- The group's log is one: its slots have rosters of nodes, beginning with the group's first members; each replica has the log's state, and a later round left; what is told, sent and decided is the log's; one leads at each slot, and counts its entry; and a child of that name is the group as it began.
+pub record HasOneLog (at : Sets) (over : Ends) (by : Tellers) (births : List (Seat Player)) (journal : Rows) (base : Base) : Type 0 where
+  pub log : IsLogOf at by
+  pub begins : (slot : ℕ) → slot < 1 + slots_ahead → at slot ≡ base.core.members
+  pub first : is_member base.core.members base.core.first ≡ true
+  pub stands : base.core.gone ≡ None
+  -- each replica after any of the rows
+  pub states : (rows more : Rows) (node : ℕ) (r : ReplicaState) → journal ≡ rows ++ more → view_at births rows base.core.id node ≡ Some r → IsOfLog at over r
+  pub rounds : (rows more : Rows) (node : ℕ) (r : ReplicaState) → journal ≡ rows ++ more → view_at births rows base.core.id node ≡ Some r → HasRounds r
+  -- an entry that a replica is told at its next slot
+  pub told : (rows : Rows) (seat : Seat Player) (number : ℕ) (mail : Mail) (slot : ℕ) (command : Command) (r : ReplicaState) → Delivers journal rows seat number mail → mail.body ≡ Learn base.core.id slot command
+      → view_at births rows base.core.id seat.who ≡ Some r → slot ≡ next r → (slot ≤ last_slot) × IsOfLog at over (entered command r)
+  -- a state that is sent
+  pub sent : (rows : Rows) (seat : Seat Player) (number : ℕ) (mail : Mail) (slot : ℕ) (state : Base) (sets : List (List ℕ)) → Delivers journal rows seat number mail → mail.body ≡ Install base.core.id slot state sets
+      → IsLogsState at by base slot mail.from state sets
+  -- a vote that a leader counts
+  pub decided : (rows : Rows) (seat : Seat Player) (number : ℕ) (mail : Mail) (ballot : Ballot) (slot : ℕ) (r : ReplicaState) → Delivers journal rows seat number mail → mail.body ≡ Accepted base.core.id ballot slot
+      → view_at births rows base.core.id seat.who ≡ Some r → r.running ≡ true → DecidesNext at mail.from ballot slot r
+  -- entries that a leader executes
+  pub counted : (rows : Rows) (seat : Seat Player) (event : Event OrderLine) (r after : ReplicaState) → IsRowOf journal rows seat event → view_at births rows base.core.id seat.who ≡ Some r → r.running ≡ true
+      → view_at births (with_event rows seat event) base.core.id seat.who ≡ Some after → CountsTo by r after seat.who
+  -- a child that a mail of another group makes
+  pub born : (rows : Rows) (seat : Seat Player) (number : ℕ) (mail : Mail) (node : NodeState) (group : Draw) → Delivers journal rows seat number mail → value player_table seat rows ≡ Node node → group_of_mail mail.body ≡ Some group
+      → (group ≡ base.core.id → ⊥) → AreAsBegun base seat.who (made_children (replica_of group node.replicas) mail.from mail.body)
+
+-- What mail of the group there is: what is of the agreement comes from nodes, to nodes, and finds a replica or brings a state; none asks for entries; no promise has reports; and a Nack names no ballot for which a leader stops.
+pub record IsSentSo (births : List (Seat Player)) (journal : Rows) (base : Base) : Type 0 where
+  pub comes : (rows : Rows) (seat : Seat Player) (number : ℕ) (mail : Mail) → Delivers journal rows seat number mail → (mark_of base.core.id mail.from mail.body ≡ None) ⊎ (may_come mail.from mail.body ≡ true)
+  pub clients : (rows : Rows) (seat : Seat Player) (number : ℕ) (mail : Mail) (client : ClientState) → Delivers journal rows seat number mail → value player_table seat rows ≡ Client client → mark_of base.core.id mail.from mail.body ≡ None
+  pub finds : (rows : Rows) (seat : Seat Player) (number : ℕ) (mail : Mail) (node : NodeState) → Delivers journal rows seat number mail → value player_table seat rows ≡ Node node → replica_of base.core.id node.replicas ≡ None
+      → (mark_of base.core.id mail.from mail.body ≡ None) ⊎ ((slot : ℕ) × (state : Base) × (sets : List (List ℕ)) × (mail.body ≡ Install base.core.id slot state sets))
+  pub asks : (rows : Rows) (seat : Seat Player) (number : ℕ) (mail : Mail) (from_slot : ℕ) → Delivers journal rows seat number mail → mail.body ≡ Ask base.core.id from_slot → ⊥
+  pub plain : (rows : Rows) (seat : Seat Player) (number : ℕ) (mail : Mail) (ballot : Ballot) (reports : List (Report Command)) → Delivers journal rows seat number mail → mail.body ≡ Promise base.core.id ballot reports → reports ≡ []
+  pub nacks : (rows : Rows) (seat : Seat Player) (number : ℕ) (mail : Mail) (promised : Ballot) (r : ReplicaState) → Delivers journal rows seat number mail → mail.body ≡ Nack base.core.id promised
+      → view_at births rows base.core.id seat.who ≡ Some r → GoesOn promised r
+
+-- So each event of a player in such a journal keeps the group well led ..
+abbrev pub EventsKeepLed : Type 0
+EventsKeepLed =
+    (at : Sets) (over : Ends) (by : Tellers) (words : ℕ → ℕ → ℕ × ℕ) (births : List (Seat Player)) (journal : Rows) (base : Base) → AreWellBorn births → HasOneLog at over by births journal base → IsSentSo births journal base
+    → (rows : Rows) (seat : Seat Player) (event : Event OrderLine) (course : Course) → IsRowOf journal rows seat event → IsSeat births seat → IsCalmEvent (players words births) rows seat.who event
+    → AreInTime (players words births) (with_event rows seat event) → IsWellLed at over by words births rows base course → IsLedOn at over by words births (with_event rows seat event) base
+
+-- .. and it is so after each of its rows, where they come in time, if it is at first
+abbrev pub GroupsAreLedThrough : Type 0
+GroupsAreLedThrough =
+    (at : Sets) (over : Ends) (by : Tellers) (words : ℕ → ℕ → ℕ × ℕ) (births : List (Seat Player)) (journal : Rows) (base : Base) → AreWellBorn births → HasOneLog at over by births journal base → IsSentSo births journal base
+    → AreInTime (players words births) journal → IsLedOn at over by words births [] base → (rows more : Rows) → journal ≡ rows ++ more → IsLedOn at over by words births rows base
+
+-- So is each group of a bounded scenario, from its birth on ..
+abbrev pub ScenariosAreLedThrough : Type 0
+ScenariosAreLedThrough =
+    (at : Sets) (over : Ends) (by : Tellers) (words : ℕ → ℕ → ℕ × ℕ) (scenario : Scenario) (journal : Rows) (base : Base) → IsBounded scenario → Among base scenario.groups → HasOneLog at over by (births as_nodes scenario) journal base
+    → IsSentSo (births as_nodes scenario) journal base → AreInTime (players words (births as_nodes scenario)) journal → (rows more : Rows) → journal ≡ rows ++ more → IsLedOn at over by words (births as_nodes scenario) rows base
+
+-- .. and each child of a split, of which no node has a replica at the births
+abbrev pub ChildrenAreLedThrough : Type 0
+ChildrenAreLedThrough =
+    (at : Sets) (over : Ends) (by : Tellers) (words : ℕ → ℕ → ℕ × ℕ) (births : List (Seat Player)) (journal : Rows) (base : Base) → AreWellBorn births → ((who : ℕ) → view_at births [] base.core.id who ≡ None) → over 1 ≡ false → over 0 ≡ false
+    → HasOneLog at over by births journal base → IsSentSo births journal base → AreInTime (players words births) journal → (rows more : Rows) → journal ≡ rows ++ more → IsLedOn at over by words births rows base

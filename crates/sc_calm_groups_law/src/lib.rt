@@ -1,0 +1,81 @@
+//! Of one group through a calm journal: that it follows its leader, that each node takes the one
+//! that leads for that, and that what is asked and offered is in order. Definitions and laws, no
+//! logic.
+#![tactic(auto)]
+
+ghost use Rattle.sc_calm_groups_law.specs.Begun.{ChildrenBeginLed, ScenariosBeginLed};
+ghost use Rattle.sc_calm_groups_law.specs.Mailed.{LeadersKeepLed, MailsKeepLed, OthersKeepLed};
+ghost use Rattle.sc_calm_groups_law.specs.Rests.{QuietGroupsAreLed};
+ghost use Rattle.sc_calm_groups_law.specs.Rows.{RowsKeepLed};
+ghost use Rattle.sc_calm_groups_law.specs.Through.{ChildrenAreLedThrough, EventsKeepLed, GroupsAreLedThrough, ScenariosAreLedThrough, ScenariosAreWellBorn};
+
+/// Each row of players keeps a group well led, by what it is in the group: one that does nothing,
+/// of a node that takes a mail, of the leader, or of one that elects itself.
+pub fn rows_keep_led()
+    ensures { RowsKeepLed }
+{}
+
+/// Each group of a bounded scenario is well led at its birth, whatever log it then has that begins
+/// with its first members.
+pub fn scenarios_begin_led()
+    ensures { ScenariosBeginLed }
+{}
+
+/// So is the child of a split, before any node has a replica of it.
+pub fn children_begin_led()
+    ensures { ChildrenBeginLed }
+{}
+
+/// A mail of agreement that comes to a node of its group leaves the group well led: what asks to
+/// accept or to promise, an entry that is the log's, by which the one elects itself that is to
+/// lead next, and nobody else, a state that is the log's, and whatever else comes to one that does
+/// not lead.
+pub fn mails_keep_led()
+    ensures { MailsKeepLed }
+{}
+
+/// So does what its leader takes: a vote, a promise, other mail that comes to it, and an order.
+pub fn leaders_keep_led()
+    ensures { LeadersKeepLed }
+{}
+
+/// A row that does nothing in a group leaves it well led, also where a node makes its replica at
+/// the group's birth.
+pub fn others_keep_led()
+    ensures { OthersKeepLed }
+{}
+
+/// Each event of a player in a calm journal leaves a group well led whose log is one, and whose
+/// mail is sent so.
+pub fn events_keep_led()
+    ensures { EventsKeepLed }
+{}
+
+/// So it is after each row of a journal whose rows come in time, if it is at first.
+pub fn groups_are_led_through()
+    ensures { GroupsAreLedThrough }
+{}
+
+/// The players of a scenario are born with their numbers and with replicas that are well kept, and
+/// each that runs does so with a ballot of its own.
+pub fn scenarios_are_well_born()
+    ensures { ScenariosAreWellBorn }
+{}
+
+/// In a quiet journal a group that is well led and stands has one that leads, and no other runs;
+/// none is further, and each other that decides an open slot may vote; and of one that is gone
+/// none runs.
+pub fn quiet_groups_are_led()
+    ensures { QuietGroupsAreLed }
+{}
+
+/// So is each group of a bounded scenario, after each row of a journal in which its log is one,
+/// and its mail is sent so.
+pub fn scenarios_are_led_through()
+    ensures { ScenariosAreLedThrough }
+{}
+
+/// And so is each child of a split, of which no node has a replica at the births.
+pub fn children_are_led_through()
+    ensures { ChildrenAreLedThrough }
+{}
