@@ -1,5 +1,5 @@
 -- Groups of a scenario and children of groups of nodes begin with nodes, and what orders and policies queue brings nodes.
-use Rattle.std.proofs.Common.{◌≡◌, ℕ, ◌<◌, ◌≤◌, ◌&&◌, nat_le, Bool, true, List, [], ◌∷◌, ◌++◌, zero, suc, length, map, Option, Some, None, inl, inr, refl, ◌∙◌, ap, subst, arith, option_to_list}
+use Rattle.std.proofs.Common.{◌≡◌, ℕ, ◌<◌, ◌≤◌, ◌&&◌, nat_le, Bool, true, List, [], ◌∷◌, zero, suc, length, map, Option, Some, None, inl, inr, ◌∙◌, ap, subst, arith, option_to_list}
 use Rattle.std.specs.FinMap.{entries}
 use Rattle.std.specs.Option.{option_map}
 use Rattle.std.proofs.lemmas.Bool.{and_from, le-leb, cond_both}
@@ -13,7 +13,6 @@ use Rattle.sc_cmd.specs.declared.bodies.Body.TheVariants as By
 use Rattle.sc_cmd.specs.declared.commands.Command.{Command}
 use Rattle.sc_cmd.specs.declared.commands.Command.TheVariants.{Split, RecordWatch}
 use Rattle.sc_cmd.specs.declared.cores.Base.{Base}
-use Rattle.sc_cmd.specs.declared.cores.Core.{Core}
 use Rattle.sc_cmd.specs.declared.cores.Lock.{Lock}
 use Rattle.sc_cmd.specs.declared.cores.Lock.TheVariants.{Free, Coordinating, Promised, Watching}
 use Rattle.sc_cmd.specs.declared.links.Route.{Route}
@@ -38,7 +37,7 @@ use Rattle.sc_node_table.specs.Replica.{ReplicaState}
 use Rattle.sc_policy.specs.declared.bodies.Body0.{Body0}
 use Rattle.sc_policy.specs.declared.bodies.Body0.TheVariants as Wants
 use Rattle.sc_policy.specs.Wishes.{wished, order_of, wished_order}
-use Rattle.sc_paxos_words.proofs.ListLemmas.{Each-among, Each-append, Each-from_All, Each-weaker}
+use Rattle.sc_paxos_words.proofs.ListLemmas.{Each-from_All, Each-weaker}
 use Rattle.sc_paxos_law.proofs.Among.{Among-either}
 use Rattle.sc_scenario.specs.Groups.{group_at, base_at, bases_up_to}
 use Rattle.sc_scenario.specs.Valid.{IsUpTo, IsBounded, IsBoundedGroup, IsBoundedLine, IsBoundedOrder}
@@ -51,11 +50,12 @@ use Rattle.sc_sound.specs.GroupsOf.{children_of}
 use Rattle.sc_sound.specs.Players.{line_of}
 use Rattle.sc_names_law.proofs.Lists.{Each-drop}
 use Rattle.sc_group_law.proofs.Orders.{TellsSo}
-use Rattle.sc_calm_logs_law.specs.Nodes.{AreNodes, BringsNodes, HasNodes}
+use Rattle.sc_calm_logs_law.specs.Nodes.{BringsNodes, HasNodes}
 use Rattle.sc_calm_logs_law.proofs.Nodes.{nodes_stay_nodes}
 
 -- ---- nodes of a scenario
 
+-- a node of a scenario is one
 up_to_node : (nodes node : ℕ) → nodes ≤ most_nodes → IsUpTo nodes node → is_node node ≡ true
 up_to_node nodes node few is =
     let low = is.0 in
@@ -68,9 +68,12 @@ up_to_nodes : (nodes : ℕ) → nodes ≤ most_nodes → (lines : List GroupLine
 up_to_nodes nodes few lines each zero low base a = absurd a
 up_to_nodes nodes few lines each (suc count) low base a = elim (Among-either base (bases_up_to lines count) (base_at lines count ∷ []) a) [
   | inl b ↦ up_to_nodes nodes few lines each count (omega (arith, low)) base b
-  | inr (inl e) ↦ subst (λ (b : Base). HasNodes b.core) e
-      (Each-weaker (IsUpTo nodes) (λ node. is_node node ≡ true) (λ node is. up_to_node nodes node few is) (group_at lines count).members
-      (Each-from_All (IsUpTo nodes) (group_at lines count).members (each count (omega (arith, low))).members_in), tt, tt)
+  | inr (inl e) ↦ subst (λ (b : Base). HasNodes b.core) e (
+    Each-weaker (IsUpTo nodes) (λ node. is_node node ≡ true) (λ node is. up_to_node nodes node few is) (group_at lines count).members
+        (Each-from_All (IsUpTo nodes) (group_at lines count).members (each count (omega (arith, low))).members_in),
+    tt,
+    tt,
+  )
   | inr (inr e) ↦ absurd e
 ]
 
@@ -81,6 +84,7 @@ first_nodes scenario bounded base a =
 
 -- ---- orders
 
+-- an order to join names one
 ordered_nodes : (nodes : ℕ) → nodes ≤ most_nodes → (order : Order) → IsBoundedOrder nodes order → (name : Draw) (number : ℕ) → BringsNodes (ordered_command name number order)
 ordered_nodes nodes few (An.Join node group) bounded name number = up_to_node nodes node few bounded
 ordered_nodes nodes few (An.Leave node group) bounded name number = tt
@@ -93,6 +97,7 @@ ordered_nodes nodes few (An.Migrate group node) bounded name number = tt
 abbrev pub OrdersNodes : ℕ → OrderLine → Type 0
 OrdersNodes who line = (name : Draw) → BringsNodes (ordered_command name line.number line.order)
 
+-- so does each line of the schedule
 line_nodes : (nodes : ℕ) → nodes ≤ most_nodes → (clients : List Asks) (line : SchedLine) → IsBoundedLine nodes clients line → TellsSo OrdersNodes (line_of line)
 line_nodes nodes few clients (scheduled.Told node line) bounded = λ name. ordered_nodes nodes few line.order bounded.1 name line.number
 line_nodes nodes few clients (scheduled.Go client) bounded = tt
@@ -105,6 +110,7 @@ line_nodes nodes few clients (scheduled.Settle most) bounded = tt
 line_nodes nodes few clients (scheduled.Free most workers) bounded = tt
 line_nodes nodes few clients (scheduled.Storm number most) bounded = tt
 
+-- and so do all lines
 pub lines_nodes : (nodes : ℕ) → nodes ≤ most_nodes → (clients : List Asks) (lines : List SchedLine) → Each (IsBoundedLine nodes clients) lines → Each (TellsSo OrdersNodes) (map line_of lines)
 lines_nodes nodes few clients [] bounded = tt
 lines_nodes nodes few clients (line ∷ lines) bounded = (line_nodes nodes few clients line bounded.0, lines_nodes nodes few clients lines bounded.1)
@@ -115,6 +121,7 @@ wished_nodes (Wants.Split at) group name number = tt
 wished_nodes Wants.Merge group name number = tt
 wished_nodes (Wants.Repart at) group name number = tt
 
+-- nor does what is wished at a tick
 pub wishes_nodes : (on : Bool) (r : ReplicaState) (line : OrderLine) (name : Draw) → wished_line on r ≡ Some line → BringsNodes (ordered_command name line.number line.order)
 wishes_nodes on r line name e =
     cond_both (on && is_at_rest r) (option_map policy_line (wished_order r.group.core (entries r.group.pairs))) None (λ (o : Option OrderLine). o ≡ Some line → BringsNodes (ordered_command name line.number line.order))
@@ -126,6 +133,7 @@ wishes_nodes on r line name e =
 
 -- ---- children
 
+-- the members that go are nodes
 child_nodes : (group : Group) (at : ℕ) (child : Draw) → HasNodes group.core → HasNodes (child_of group at child).core
 child_nodes group at child has = (Each-drop (λ node. is_node node ≡ true) (staying group.core.members) group.core.members has.0, tt, tt)
 

@@ -1,5 +1,5 @@
 -- Each entry of a group's log brings nodes, row by row of a lawful journal of a valid scenario.
-use Rattle.std.proofs.Common.{◌≡◌, ℕ, Bool, List, [], ◌∷◌, ◌++◌, length, map, drop, Some, inl, inr, refl, sym, ◌∙◌, ap, subst, append_assoc, append-nil, option_to_list}
+use Rattle.std.proofs.Common.{◌≡◌, ℕ, Bool, List, [], ◌∷◌, ◌++◌, length, drop, Some, inl, inr, refl, sym, ◌∙◌, ap, subst, append_assoc, append-nil, option_to_list}
 use Rattle.sc_base.specs.Among.{Among, Each}
 use Rattle.sc_base.specs.Drawing.{Drawer, next_name}
 use Rattle.sc_cmd.specs.declared.commands.Command.{Command}
@@ -27,7 +27,7 @@ use Rattle.sc_scenario.specs.Valid.{IsBounded, IsBoundedLine}
 use Rattle.sc_scenario.specs.declared.scenarios.Scenario.{Scenario}
 use Rattle.sc_sound.specs.GroupsOf.{children_of, groups_at, birth_at}
 use Rattle.sc_sound.specs.Logs.{decided_log, decided_state}
-use Rattle.sc_sound.specs.Players.{Ahead, Lawful, line_of, schedule, system_of}
+use Rattle.sc_sound.specs.Players.{Ahead, Lawful, schedule, system_of}
 use Rattle.sc_ring_law.specs.Allowed.{Sources}
 use Rattle.sc_ring_law.proofs.Finds.{some_none}
 use Rattle.sc_log_law.specs.Descent.{Rows, added_by}
@@ -38,7 +38,7 @@ use Rattle.sc_log_law.proofs.Histories.{told_rows_stay}
 use Rattle.sc_log_law.proofs.Parts.{in_turn_parts}
 use Rattle.sc_names_law.proofs.Lists.{Each-drop}
 use Rattle.sc_group_law.proofs.Births.{at_start, first_of}
-use Rattle.sc_group_law.proofs.Families.{h_of, Kept, Stepped, IsLater, Moved, push, decided_made, entry_offered}
+use Rattle.sc_group_law.proofs.Families.{h_of, Kept, IsLater, Moved, push, decided_made, entry_offered}
 use Rattle.sc_group_law.proofs.Lists.{each_got}
 use Rattle.sc_group_law.proofs.Orders.{IsToldSo, told_induction}
 use Rattle.sc_group_law.proofs.Stepping.{HasPlayers, MayTell, KnowsOffspring, moved}
@@ -98,9 +98,11 @@ module _ (sources : Sources) (ahead : Ahead) (words : ℕ → ℕ → ℕ × ℕ
 
   -- ---- the orders of the schedule
 
+  -- a row that tells no order but of nodes
   abbrev TellsNodes : Row Mail OrderLine → Type 0
   TellsNodes row = IsToldSo OrdersNodes row.who row.event
 
+  -- each order that is told is of nodes
   told_nodes : Each TellsNodes journal
   told_nodes =
       told_induction OrdersNodes (system_of ahead words scenario) (Each TellsNodes) (λ before row p told step. Each-append TellsNodes before (row ∷ []) p (told, tt)) (schedule scenario) journal
@@ -119,9 +121,11 @@ module _ (sources : Sources) (ahead : Ahead) (words : ℕ → ℕ → ℕ × ℕ
     after_it : Holds sources ahead words scenario route b.place b.seats b.asks next
     after_it = front sources ahead words scenario route b journal orders lawful next more (e ∙ sym (append_assoc rows (row ∷ []) more))
 
+    -- the row decides in turn
     decides : DecidesInTurn sources ahead scenario.groups rows row
     decides = (in_turn_parts sources ahead scenario.groups [] rows (row ∷ []) after_it.turn).1.0
 
+    -- the groups that there are before it
     found : AreFound ahead scenario.groups rows
     found = groups_are_found sources ahead scenario.groups b.place rows before.turn
 
@@ -156,14 +160,15 @@ module _ (sources : Sources) (ahead : Ahead) (words : ℕ → ℕ → ℕ × ℕ
     may_tell who (Drop number) told = tt
     may_tell who (Again number) told = tt
 
-    later : IsLater ahead scenario scenario.groups (bases rows) route made heard rows row
-    later = record { made_later = λ base c m. m; heard_later = λ body t. t }
+    -- what may be queued and heard stays so
+    later : (r : Row Mail OrderLine) → IsLater ahead scenario scenario.groups (bases rows) route made heard rows r
+    later r = record { made_later = λ base c m. m; heard_later = λ body t. t }
 
     -- what became of each part
     moves : Moved ahead scenario scenario.groups (bases rows) route made heard rows row
     moves =
         moved ahead words scenario scenario.groups (bases rows) route made heard players rows h.kept (λ body t tx coord hint. tt)
-        (λ base a. says_nodes ahead base (h.begins base a) (h_of rows base)) offspring (λ r steps. record { made_later = λ base c m. m; heard_later = λ body t. t }) row
+        (λ base a. says_nodes ahead base (h.begins base a) (h_of rows base)) offspring (λ r steps. later r) row
         (may_tell row.who row.event (Each-among TellsNodes (rows ++ row ∷ more) row (subst (Each TellsNodes) e told_nodes) (Among-right row rows (row ∷ more) (inl refl)))) step
 
     -- a newborn has a new name
@@ -193,20 +198,23 @@ module _ (sources : Sources) (ahead : Ahead) (words : ℕ → ℕ → ℕ × ℕ
         let stay = told_rows_stay sources ahead scenario.groups b.place rows (row ∷ []) after_it.turn in
         record {
           kept = grown ahead scenario scenario.groups (bases rows) (bases next) route made heard next stay.groups (λ base other client seq op m. m)
-              (push ahead scenario scenario.groups (bases rows) route made heard rows row later h.kept moves) old_or_new;
+              (push ahead scenario scenario.groups (bases rows) route made heard rows row (later row) h.kept moves) old_or_new;
           begins = begin_next;
         }
 
   -- ---- all rows
 
+  -- what holds of each first part of the journal
   abbrev P : Rows → Type 0
   P rows = (more : Rows) → journal ≡ rows ++ more → NodesHold rows
 
+  -- one row more keeps it
   keeps : (rows : Rows) (row : Row Mail OrderLine) → P rows → IsStep (system_of ahead words scenario) rows row → P (rows ++ row ∷ [])
   keeps rows row p step more e =
       let are : journal ≡ rows ++ row ∷ more = e ∙ append_assoc rows (row ∷ []) more in
       next_holds rows row more are (p (row ∷ more) are) step
 
+  -- so it holds of the whole
   all_hold : NodesHold journal
   all_hold = lawful-induction (system_of ahead words scenario) P keeps (schedule scenario) journal (λ rest is. none_hold) lawful [] (sym (append-nil journal))
 
