@@ -114,7 +114,7 @@ module _ (sources : Sources) (ahead : Ahead) (words : ℕ → ℕ → ℕ × ℕ
   found = groups_are_found sources ahead scenario.groups b.place journal whole.turn
 
   -- .. and of each of its first parts
-  front : (rows more : Rows) → journal ≡ rows ++ more → All rows
+  pub front : (rows more : Rows) → journal ≡ rows ++ more → All rows
   front rows more e =
       holds sources ahead words scenario route b.place b.seats b.asks b.apart b.fresh rows (fewer_orders sources ahead scenario rows more (subst (OrdersAreAllowed sources ahead scenario) e orders))
       (lawful-prefix (system_of ahead words scenario) (schedule scenario) rows more (subst (Lawful ahead words scenario) e lawful))

@@ -1,6 +1,7 @@
 -- The laws of this crate, of lawful journals of valid scenarios.
 use Rattle.std.proofs.Common.{◌≡◌, ℕ, ◌+◌, ◌<◌, ◌≤◌, true, List, [], ◌++◌, length, take, Some, refl, sym, ◌∙◌, ap, subst, arith}
 use Rattle.sc_base.specs.declared.names.Ballot.{Ballot}
+use Rattle.sc_base.specs.Among.{Each}
 use Rattle.sc_base.proofs.NameLemmas.{same_name}
 use Rattle.sc_cmd.specs.declared.commands.Command.{Command}
 use Rattle.sc_cmd.specs.declared.cores.Base.{Base}
@@ -42,9 +43,12 @@ use Rattle.sc_following_law.specs.Executed.{AreNext}
 use Rattle.sc_following_law.specs.Leading.{DecidesNext}
 use Rattle.sc_following_law.specs.Offers.{AreAt}
 use Rattle.sc_calm_logs_law.specs.Logged.{logged_sets, IsGroupOf, HasReplica, IsLogged, IsLoggedState, SlotsHaveRosters, ReplicasAreLogged, CommandsComeNext, StatesAreLogged}
+use Rattle.sc_calm_logs_law.specs.Nodes.{BringsNodes, HasNodes, EntriesBringNodes, MembersAreNodes}
 use Rattle.sc_calm_logs_law.proofs.Along.{IsAlong, first_sets, rosters, by_log, are_at, after_log, members_are, name_is, entered_along, entered_opens, entered_many, is_next, are_next, are_entries}
+use Rattle.sc_calm_logs_law.proofs.Bringing.{begins_nodes, brings_nodes}
 use Rattle.sc_calm_logs_law.proofs.Counting.{counted_learnt, each_with_slot}
 use Rattle.sc_calm_logs_law.proofs.Journals.{part, roster, fronts, sent_in, along, opens, many, flying}
+use Rattle.sc_calm_logs_law.proofs.Nodes.{slots_have_nodes}
 
 -- what the laws under this one say of valid scenarios
 module _ (bounded : ValidScenariosAreBounded) (begin : ValidScenariosBeginWell) (allowed : TakenOrdersAreAllowed) (wishes : TakenWishesAreAllowed) (positions : WishesAreAtPositions) (free : OtherNamesAreFree) where
@@ -84,6 +88,16 @@ module _ (bounded : ValidScenariosAreBounded) (begin : ValidScenariosBeginWell) 
 
     all_rosters : (slot : ℕ) → IsRoster (logged_sets ahead base journal slot)
     all_rosters slot = rosters ahead group.open_slots base first_members h lawful_steps all all_fronts slot
+
+    -- ---- nodes
+
+    -- the group begins with nodes
+    begins : HasNodes base.core
+    begins = begins_nodes sources ahead words scenario route well journal orders group.lawful (bounded scenario group.valid) base group.stands
+
+    -- and each entry of its log brings nodes
+    entries_are : Each BringsNodes all
+    entries_are = brings_nodes sources ahead words scenario route well journal orders group.lawful (bounded scenario group.valid) base group.stands
 
     -- ---- mail
 
@@ -173,3 +187,9 @@ module _ (bounded : ValidScenariosAreBounded) (begin : ValidScenariosBeginWell) 
 
   pub states_are_logged : StatesAreLogged
   states_are_logged = state_logged
+
+  pub entries_bring_nodes : EntriesBringNodes
+  entries_bring_nodes = record { begins = begins; entries = entries_are }
+
+  pub members_are_nodes : MembersAreNodes
+  members_are_nodes ahead words scenario journal base group = slots_have_nodes ahead base journal (begins ahead words scenario journal base group) (entries_are ahead words scenario journal base group)

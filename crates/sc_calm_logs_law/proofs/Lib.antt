@@ -1,4 +1,6 @@
 pub mod Along
+pub mod Bearing
+pub mod Bringing
 pub mod Counting
 pub mod Journals
 pub mod Laws

@@ -21,7 +21,8 @@ use Rattle.sc_node_table.specs.Node.{is_node}
 use Rattle.sc_sound.specs.Logs.{decided_log}
 use Rattle.sc_sound.specs.Players.{Ahead}
 use Rattle.sc_log_law.specs.Descent.{Rows}
-use Rattle.sc_calm_logs_law.specs.Logged.{logged_sets}
+use Rattle.sc_scenario.specs.declared.scenarios.Scenario.{Scenario}
+use Rattle.sc_calm_logs_law.specs.Logged.{logged_sets, IsGroupOf}
 use Rattle.sc_base.specs.declared.names.Draw.{Draw}
 use Rattle.std.specs.Prelude.{Option, Some, None}
 
@@ -86,3 +87,13 @@ SaysNodes _ = Unit {0}
 -- So the members of each slot by a group's log are nodes, if it begins with nodes and each entry brings nodes.
 abbrev pub SlotsHaveNodes : Type 0
 SlotsHaveNodes = (ahead : Ahead) (base : Base) (journal : Rows) → HasNodes base.core → Each BringsNodes (decided_log ahead base journal) → (slot node : ℕ) → is_member (logged_sets ahead base journal slot) node ≡ true → is_node node ≡ true
+
+-- Each group of a lawful journal of a valid scenario begins with nodes, and each entry of its log brings nodes ..
+pub record EntriesBringNodes : Type 0 where
+  pub begins : (ahead : Ahead) (words : ℕ → ℕ → ℕ × ℕ) (scenario : Scenario) (journal : Rows) (base : Base) → IsGroupOf ahead words scenario journal base → HasNodes base.core
+  pub entries : (ahead : Ahead) (words : ℕ → ℕ → ℕ × ℕ) (scenario : Scenario) (journal : Rows) (base : Base) → IsGroupOf ahead words scenario journal base → Each BringsNodes (decided_log ahead base journal)
+
+-- .. so the members of each of its slots are nodes.
+abbrev pub MembersAreNodes : Type 0
+MembersAreNodes = (ahead : Ahead) (words : ℕ → ℕ → ℕ × ℕ) (scenario : Scenario) (journal : Rows) (base : Base) → IsGroupOf ahead words scenario journal base
+    → (slot node : ℕ) → is_member (logged_sets ahead base journal slot) node ≡ true → is_node node ≡ true

@@ -9,7 +9,12 @@ ghost use Rattle.sc_calm_logs_law.specs.Logged.{
   StatesAreLogged,
   ViewsAreReplicas,
 };
-ghost use Rattle.sc_calm_logs_law.specs.Nodes.{NodesStayNodes, SlotsHaveNodes};
+ghost use Rattle.sc_calm_logs_law.specs.Nodes.{
+  EntriesBringNodes,
+  MembersAreNodes,
+  NodesStayNodes,
+  SlotsHaveNodes,
+};
 
 use sc_names_law::{names_have_one_owner, orders_are_allowed};
 use sc_scenario::valid_scenarios_are_bounded;
@@ -75,3 +80,23 @@ pub fn nodes_stay_nodes()
 pub fn slots_have_nodes()
     ensures { SlotsHaveNodes }
 {}
+
+/// A group of the journal begins with nodes, and each entry of its log brings nodes.
+pub fn entries_bring_nodes()
+    ensures { EntriesBringNodes }
+{
+    valid_scenarios_are_bounded();
+    valid_scenarios_begin_well();
+    orders_are_allowed();
+    names_have_one_owner();
+}
+
+/// So the members of each of its slots are nodes.
+pub fn members_are_nodes()
+    ensures { MembersAreNodes }
+{
+    valid_scenarios_are_bounded();
+    valid_scenarios_begin_well();
+    orders_are_allowed();
+    names_have_one_owner();
+}
