@@ -1,0 +1,5 @@
+pub mod Left
+pub mod Newest
+pub mod Parts
+pub mod Viewing
+pub mod Turning
