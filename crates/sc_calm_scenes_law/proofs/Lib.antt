@@ -1,5 +1,6 @@
+pub mod Doing
 pub mod Left
 pub mod Newest
 pub mod Parts
-pub mod Viewing
 pub mod Turning
+pub mod Viewing

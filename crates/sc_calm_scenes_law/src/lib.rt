@@ -2,6 +2,7 @@
 //! are. Definitions and laws, no logic.
 #![tactic(auto)]
 
+ghost use Rattle.sc_calm_scenes_law.specs.Kinds.{AsidesAre, AsidesStay, EntriesAre, LeadersAre};
 ghost use Rattle.sc_calm_scenes_law.specs.Turns.{RowsAreOfScenes, ScenesTell};
 
 /// Where one replica of a group runs, the scene has its bond, its work, and its node for the
@@ -14,4 +15,27 @@ pub fn scenes_tell()
 /// the mail, sends those of what it sends, and leaves the other groups, but for these.
 pub fn rows_are_of_scenes()
     ensures { RowsAreOfScenes }
+{}
+
+/// A row at a node without replica that makes none, one of a replica that does not run where
+/// another leads, and one where none runs leave their group as it is.
+pub fn asides_stay()
+    ensures { AsidesStay }
+{}
+
+/// Such a row does nothing of the order, or passes a question on.
+pub fn asides_are()
+    ensures { AsidesAre }
+{}
+
+/// A row of the leader alone does nothing of the order, or is that it is told one, takes what comes
+/// to it, or asks elsewhere, by the work that its table leaves and the errands that it sends.
+pub fn leaders_are()
+    ensures { LeadersAre }
+{}
+
+/// A row in which the leader alone executes the command that was its one work is of the kind of
+/// its entry, by the bond that this leaves and the errands that it sends.
+pub fn entries_are()
+    ensures { EntriesAre }
 {}
