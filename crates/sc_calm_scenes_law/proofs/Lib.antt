@@ -2,5 +2,6 @@ pub mod Doing
 pub mod Left
 pub mod Newest
 pub mod Parts
+pub mod Taking
 pub mod Turning
 pub mod Viewing

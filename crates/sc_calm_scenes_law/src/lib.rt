@@ -3,6 +3,7 @@
 #![tactic(auto)]
 
 ghost use Rattle.sc_calm_scenes_law.specs.Kinds.{AsidesAre, AsidesStay, EntriesAre, LeadersAre};
+ghost use Rattle.sc_calm_scenes_law.specs.Taken.{RowsAreTaken};
 ghost use Rattle.sc_calm_scenes_law.specs.Turns.{RowsAreOfScenes, ScenesTell};
 
 /// Where one replica of a group runs, the scene has its bond, its work, and its node for the
@@ -38,4 +39,10 @@ pub fn leaders_are()
 /// its entry, by the bond that this leaves and the errands that it sends.
 pub fn entries_are()
     ensures { EntriesAre }
+{}
+
+/// The row in which a node takes a mail or an order is one of that group, and what it does and
+/// sends is what the table of the replica there says; without one it answers an errand so.
+pub fn rows_are_taken()
+    ensures { RowsAreTaken }
 {}
