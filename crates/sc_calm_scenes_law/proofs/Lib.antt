@@ -1,4 +1,5 @@
 pub mod Doing
+pub mod Keeping
 pub mod Left
 pub mod Newest
 pub mod Parts

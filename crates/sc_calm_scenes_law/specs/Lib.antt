@@ -1,3 +1,4 @@
+pub mod Kept
 pub mod Kinds
 pub mod Scenes
 pub mod Taken

@@ -2,6 +2,7 @@
 //! are. Definitions and laws, no logic.
 #![tactic(auto)]
 
+ghost use Rattle.sc_calm_scenes_law.specs.Kept.{AsidesKeep, LeadersKeep};
 ghost use Rattle.sc_calm_scenes_law.specs.Kinds.{AsidesAre, AsidesStay, EntriesAre, LeadersAre};
 ghost use Rattle.sc_calm_scenes_law.specs.Taken.{RowsAreTaken};
 ghost use Rattle.sc_calm_scenes_law.specs.Turns.{RowsAreOfScenes, ScenesTell};
@@ -45,4 +46,17 @@ pub fn entries_are()
 /// sends is what the table of the replica there says; without one it answers an errand so.
 pub fn rows_are_taken()
     ensures { RowsAreTaken }
+{}
+
+/// An order stays under way where its leader takes a question on which no vote stands, a vote for
+/// which it waits, the outcome of the transaction that binds it, or that it is to ask elsewhere;
+/// and where it is asked to accept or to promise, or is promised.
+pub fn leaders_keep()
+    ensures { LeadersKeep }
+{}
+
+/// So it does where a question comes to one that does not lead, or to a node without replica, and
+/// where such a one is asked to accept or to promise, learns an entry, or takes over a state.
+pub fn asides_keep()
+    ensures { AsidesKeep }
 {}
