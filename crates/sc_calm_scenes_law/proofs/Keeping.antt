@@ -68,7 +68,7 @@ module _ (words : ℕ → ℕ → ℕ × ℕ) (births : List (Seat Player)) (row
       works_so = subst (λ b. Works done sent r (mailed mail.from b (r, [])).0) (sym e) works_so;
     }
 
-    lead_rests : ComesToLeader words births rows seat number mail group r → (body : MailBody) → mail.body ≡ body → option_map (λ entry. entry.1) (errand_by mail.from mail.to body) ≡ None
+    pub lead_rests : ComesToLeader words births rows seat number mail group r → (body : MailBody) → mail.body ≡ body → option_map (λ entry. entry.1) (errand_by mail.from mail.to body) ≡ None
         → Works (works r) [] r (mailed mail.from body (r, [])).0 → KeepsStage births rows seat event
     lead_rests c body e none works_so =
         keeps_by Rests rests-keep words births rows seat event group (row_of_comes c.comes).0

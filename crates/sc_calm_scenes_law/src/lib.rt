@@ -2,6 +2,7 @@
 //! are. Definitions and laws, no logic.
 #![tactic(auto)]
 
+ghost use Rattle.sc_calm_scenes_law.specs.Counted.{OrdersKeep, VotesKeep};
 ghost use Rattle.sc_calm_scenes_law.specs.Kept.{AsidesKeep, LeadersKeep};
 ghost use Rattle.sc_calm_scenes_law.specs.Kinds.{AsidesAre, AsidesStay, EntriesAre, LeadersAre};
 ghost use Rattle.sc_calm_scenes_law.specs.Taken.{RowsAreTaken};
@@ -59,4 +60,16 @@ pub fn leaders_keep()
 /// where such a one is asked to accept or to promise, learns an entry, or takes over a state.
 pub fn asides_keep()
     ensures { AsidesKeep }
+{}
+
+/// So it does where a vote comes to a leader for the one command that it has in flight: that stays,
+/// or is decided and executed, and the row is of the kind of its entry.
+pub fn votes_keep()
+    ensures { VotesKeep }
+{}
+
+/// Where nothing is under way, an order that a leader is told begins to be, or is refused; one that
+/// is refused beside the leader changes nothing.
+pub fn orders_keep()
+    ensures { OrdersKeep }
 {}
