@@ -3,6 +3,7 @@ pub mod Doing
 pub mod Keeping
 pub mod Left
 pub mod Newest
+pub mod Over
 pub mod Parts
 pub mod Taking
 pub mod Turning

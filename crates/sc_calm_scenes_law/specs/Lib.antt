@@ -1,6 +1,7 @@
 pub mod Counted
 pub mod Kept
 pub mod Kinds
+pub mod Quiet
 pub mod Scenes
 pub mod Taken
 pub mod Turns

@@ -5,6 +5,7 @@
 ghost use Rattle.sc_calm_scenes_law.specs.Counted.{OrdersKeep, VotesKeep};
 ghost use Rattle.sc_calm_scenes_law.specs.Kept.{AsidesKeep, LeadersKeep};
 ghost use Rattle.sc_calm_scenes_law.specs.Kinds.{AsidesAre, AsidesStay, EntriesAre, LeadersAre};
+ghost use Rattle.sc_calm_scenes_law.specs.Quiet.{QuietScenesAreOver, WorksFlyLone};
 ghost use Rattle.sc_calm_scenes_law.specs.Taken.{RowsAreTaken};
 ghost use Rattle.sc_calm_scenes_law.specs.Turns.{RowsAreOfScenes, ScenesTell};
 
@@ -72,4 +73,16 @@ pub fn votes_keep()
 /// is refused beside the leader changes nothing.
 pub fn orders_keep()
     ensures { OrdersKeep }
+{}
+
+/// In a quiet journal in which no leader has anything in flight no order is under way, and each
+/// group that is led is free.
+pub fn quiet_scenes_are_over()
+    ensures { QuietScenesAreOver }
+{}
+
+/// The one work of a leader flies alone, where neither calls nor fillers are under way there, and
+/// something is in flight at its next slot.
+pub fn works_fly_lone()
+    ensures { WorksFlyLone }
 {}
