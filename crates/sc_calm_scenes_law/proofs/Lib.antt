@@ -1,5 +1,6 @@
 pub mod Counting
 pub mod Doing
+pub mod Fit
 pub mod Keeping
 pub mod Left
 pub mod Newest

@@ -1,4 +1,5 @@
 pub mod Counted
+pub mod Fitting
 pub mod Kept
 pub mod Kinds
 pub mod Quiet

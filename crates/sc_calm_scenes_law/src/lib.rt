@@ -3,6 +3,7 @@
 #![tactic(auto)]
 
 ghost use Rattle.sc_calm_scenes_law.specs.Counted.{OrdersKeep, VotesKeep};
+ghost use Rattle.sc_calm_scenes_law.specs.Fitting.{EntriesFit};
 ghost use Rattle.sc_calm_scenes_law.specs.Kept.{AsidesKeep, LeadersKeep};
 ghost use Rattle.sc_calm_scenes_law.specs.Kinds.{AsidesAre, AsidesStay, EntriesAre, LeadersAre};
 ghost use Rattle.sc_calm_scenes_law.specs.Quiet.{QuietScenesAreOver, WorksFlyLone};
@@ -85,4 +86,10 @@ pub fn quiet_scenes_are_over()
 /// something is in flight at its next slot.
 pub fn works_fly_lone()
     ensures { WorksFlyLone }
+{}
+
+/// What each entry of an order leaves and sends is what its group's table says: an order of a group
+/// that is free, a vote that is true, a vote that is recorded, and an outcome that is taken.
+pub fn entries_fit()
+    ensures { EntriesFit }
 {}
