@@ -4,6 +4,7 @@ pub mod Fit
 pub mod Keeping
 pub mod Left
 pub mod Newest
+pub mod Others
 pub mod Over
 pub mod Parts
 pub mod Taking

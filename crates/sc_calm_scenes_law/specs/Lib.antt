@@ -3,6 +3,7 @@ pub mod Fitting
 pub mod Kept
 pub mod Kinds
 pub mod Quiet
+pub mod Resting
 pub mod Scenes
 pub mod Taken
 pub mod Turns

@@ -7,6 +7,7 @@ ghost use Rattle.sc_calm_scenes_law.specs.Fitting.{EntriesFit};
 ghost use Rattle.sc_calm_scenes_law.specs.Kept.{AsidesKeep, LeadersKeep};
 ghost use Rattle.sc_calm_scenes_law.specs.Kinds.{AsidesAre, AsidesStay, EntriesAre, LeadersAre};
 ghost use Rattle.sc_calm_scenes_law.specs.Quiet.{QuietScenesAreOver, WorksFlyLone};
+ghost use Rattle.sc_calm_scenes_law.specs.Resting.{OthersKeep};
 ghost use Rattle.sc_calm_scenes_law.specs.Taken.{RowsAreTaken};
 ghost use Rattle.sc_calm_scenes_law.specs.Turns.{RowsAreOfScenes, ScenesTell};
 
@@ -92,4 +93,10 @@ pub fn works_fly_lone()
 /// that is free, a vote that is true, a vote that is recorded, and an outcome that is taken.
 pub fn entries_fit()
     ensures { EntriesFit }
+{}
+
+/// Rows of clients, of nodes that are told to go, and of nodes that get mail of no group or have no
+/// replica of it, and make none, keep an order under way.
+pub fn others_keep()
+    ensures { OthersKeep }
 {}
