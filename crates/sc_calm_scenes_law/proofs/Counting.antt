@@ -1,17 +1,15 @@
 -- That an order stays under way where a vote is counted, and where an order is told.
-use Rattle.std.proofs.Common.{◌≡◌, ℕ, Bool, true, false, cond, List, [], ◌∷◌, ◌++◌, Option, Some, None, ◌⊎◌, inl, inr, refl, sym, ◌∙◌, ap, subst}
+use Rattle.std.proofs.Common.{◌≡◌, ℕ, true, false, cond, List, [], ◌∷◌, ◌++◌, Option, Some, None, ◌⊎◌, inl, inr, refl, sym, ◌∙◌, ap, subst}
 use Rattle.sc_base.specs.declared.names.Draw.{Draw}
 use Rattle.sc_cmd.specs.declared.commands.Command.{Command}
 use Rattle.sc_cmd.specs.declared.orders.OrderLine.{OrderLine}
 use Rattle.sc_cmd.specs.declared.orders.OrderRefusal.{OrderRefusal}
-use Rattle.sc_machine_table.specs.Group.{Group}
 use Rattle.sc_machine_table.specs.Machine.{applied}
 use Rattle.sc_mail.specs.declared.bodies.Mail.{Mail}
 use Rattle.sc_mail.specs.declared.bodies.MailBody.TheVariants.{Accepted}
 use Rattle.sc_actor.specs.declared.actors.Seat.{Seat}
 use Rattle.sc_actor.specs.declared.rows.Event.{Event}
 use Rattle.sc_actor.specs.declared.rows.Event.TheVariants.{Deliver, Told}
-use Rattle.sc_node_table.specs.Execute.{executed}
 use Rattle.sc_node_table.specs.Node.{NodeState, group_of_order}
 use Rattle.sc_node_table.specs.Ordering.{ordered_row, untaken}
 use Rattle.sc_node_table.specs.Replica.{ReplicaState, Place, listed}
@@ -20,9 +18,9 @@ use Rattle.sc_node_table.specs.Spoken.{before_of, went_on}
 use Rattle.sc_paxos_words.specs.declared.flights.Flight.{Flight}
 use Rattle.sc_sound.specs.Players.{Player}
 use Rattle.sc_calm_law.specs.Totals.{Rows}
-use Rattle.sc_calm_orders_law.specs.Scenes.{First, Lone, Next, is_watch, Bond, Unbound, Asking, Errand, Question, Reply, Work, Opens, Answers, Records, Ends, IsOnly}
+use Rattle.sc_calm_orders_law.specs.Scenes.{First, Lone, Next, is_watch, Bond, Unbound, Asking, Errand, Question, Reply, Work, Opens, Answers, Records, Ends}
 use Rattle.sc_calm_orders_law.specs.Stages.{bound_by, IsAt, Still, IsUnderWay}
-use Rattle.sc_calm_orders_law.specs.Rows.{Kind, Keeps, Rests, IsTold, Changed, Opened, Voted, Aborted, Decided, Heard, Ended, results}
+use Rattle.sc_calm_orders_law.specs.Rows.{Kind, Keeps, Rests, Changed, Opened, Voted, Aborted, Decided, Heard, Ended, results}
 use Rattle.sc_calm_orders_law.specs.Parts.{work_by, works_in, works_flying, works_ready, works, bond_of, errands_for}
 use Rattle.sc_calm_orders_law.specs.Entries.{EntryLeaves}
 use Rattle.sc_calm_orders_law.specs.Running.{FliesLone, Decides, RunsAlone}

@@ -1,10 +1,9 @@
 -- Which kinds of rows the rows of a group are.
-use Rattle.std.proofs.Common.{◌≡◌, ℕ, eqb, Bool, true, false, true≢false, cond, List, [], ◌∷◌, ◌++◌, Option, Some, None, ◌⊎◌, inl, inr, refl, sym, ◌∙◌, ap, subst}
+use Rattle.std.proofs.Common.{◌≡◌, ℕ, eqb, true, false, true≢false, cond, List, [], ◌∷◌, ◌++◌, Option, Some, None, ◌⊎◌, inl, inr, sym, ◌∙◌, ap, subst}
 use Rattle.std.proofs.lemmas.Bool.{cases_Bool, eqb-true, eq-eqb}
 use Rattle.sc_base.specs.Among.{Each}
 use Rattle.sc_base.specs.declared.names.Draw.{Draw}
 use Rattle.sc_cmd.specs.declared.orders.OrderLine.{OrderLine}
-use Rattle.sc_mail.specs.declared.bodies.Mail.{Mail}
 use Rattle.sc_actor.specs.declared.actors.Seat.{Seat}
 use Rattle.sc_actor.specs.declared.rows.Event.{Event}
 use Rattle.sc_actor.specs.Mail.{mails}
@@ -20,7 +19,7 @@ use Rattle.sc_calm_rows_law.specs.Groups.{view_at}
 use Rattle.sc_calm_rows_law.specs.Turns.{with_event}
 use Rattle.sc_calm_rows_law.proofs.Viewing.{view_others}
 use Rattle.sc_calm_scenes_law.specs.Scenes.{scene_at, taken_errand}
-use Rattle.sc_calm_scenes_law.specs.Turns.{errands_sent, NewestAreBound, IsTablesRow, LeadsAlone, NoneRuns}
+use Rattle.sc_calm_scenes_law.specs.Turns.{errands_sent, IsTablesRow, LeadsAlone, NoneRuns}
 use Rattle.sc_calm_scenes_law.specs.Kinds.{Stays, IsUnled, AsidesStay, AsidesAre, IsLeadsRow, LeadersAre, IsEntrysRow, EntriesAre}
 use Rattle.sc_calm_scenes_law.proofs.Parts.{same_part}
 use Rattle.sc_calm_scenes_law.proofs.Viewing.{tell}
@@ -50,13 +49,13 @@ module _ (births : List (Seat Player)) (rows : Rows) (seat : Seat Player) (event
   other = view_at births after_rows name
 
   pub who_or : (node : ℕ) → (node ≡ seat.who) ⊎ (node ≡ seat.who → ⊥)
-  who_or node = elim (cases_Bool (eqb node seat.who)) [ | inl t ↦ inl (eqb-true node seat.who t) | inr f ↦ inr (λ e. true≢false (sym (eq-eqb node seat.who e) ∙ f)) ]
+  who_or node = elim (cases_Bool (eqb node seat.who)) [ inl t ↦ inl (eqb-true node seat.who t) | inr f ↦ inr (λ e. true≢false (sym (eq-eqb node seat.who e) ∙ f)) ]
 
   pub others_same : (node : ℕ) → (node ≡ seat.who → ⊥) → other node ≡ one node
   others_same node ne = view_others births rows (row_of player_table seat rows event) name node ne
 
   all_same : other seat.who ≡ one seat.who → (node : ℕ) → other node ≡ one node
-  all_same own node = elim (who_or node) [ | inl e ↦ ap other e ∙ (own ∙ sym (ap one e)) | inr ne ↦ others_same node ne ]
+  all_same own node = elim (who_or node) [ inl e ↦ ap other e ∙ (own ∙ sym (ap one e)) | inr ne ↦ others_same node ne ]
 
   -- the replicas stay
   missed_stays : other seat.who ≡ one seat.who → Stays births rows seat event name
@@ -71,14 +70,14 @@ module _ (births : List (Seat Player)) (rows : Rows) (seat : Seat Player) (event
     leads_on leads runs = record {
       is_there = table.is;
       running = runs;
-      alone = λ node x has running. elim (who_or node) [ | inl e ↦ e | inr ne ↦ leads.alone node x (sym (others_same node ne) ∙ has) running ];
+      alone = λ node x has running. elim (who_or node) [ inl e ↦ e | inr ne ↦ leads.alone node x (sym (others_same node ne) ∙ has) running ];
     }
 
     -- where it stops, none runs
     pub stops_alone : LeadsAlone births rows name seat.who r → after.0.running ≡ false → NoneRuns births after_rows name
     stops_alone leads stops node x has = elim (who_or node) [
       | inl e ↦ subst (λ (y : ReplicaState). y.running ≡ false) (own_is node x e has) stops
-      | inr ne ↦ elim (cases_Bool x.running) [ | inl t ↦ absurd (ne (leads.alone node x (sym (others_same node ne) ∙ has) t)) | inr f ↦ f ]
+      | inr ne ↦ elim (cases_Bool x.running) [ inl t ↦ absurd (ne (leads.alone node x (sym (others_same node ne) ∙ has) t)) | inr f ↦ f ]
     ]
 
     -- none runs by it
@@ -93,7 +92,7 @@ module _ (births : List (Seat Player)) (rows : Rows) (seat : Seat Player) (event
     elected_alone none runs = record {
       is_there = table.is;
       running = runs;
-      alone = λ node x has running. elim (who_or node) [ | inl e ↦ e | inr ne ↦ absurd (true≢false (sym running ∙ none node x (sym (others_same node ne) ∙ has))) ];
+      alone = λ node x has running. elim (who_or node) [ inl e ↦ e | inr ne ↦ absurd (true≢false (sym running ∙ none node x (sym (others_same node ne) ∙ has))) ];
     }
 
     -- another leads on
@@ -122,18 +121,18 @@ module _ (births : List (Seat Player)) (rows : Rows) (seat : Seat Player) (event
         let was = tell.idle births rows name u.bond seat.who r u.none u.was table.was in
         elim (cases_Bool after.0.running) [
           | inl t ↦ (let is = tell.led births after_rows name seat.who after.0 (elected_alone u.none t) in
-            let e = u.elected t in
-            record {
-              bond = is.1.0 ∙ (e.1 ∙ sym was.1.0);
-              work = is.1.1 ∙ (e.0 ∙ sym was.1.1);
-              leads = λ n e'. (let bad : None ≡ Some n = sym was.0 ∙ e' in cc);
-            })
+              let e = u.elected t in
+              record {
+                bond = is.1.0 ∙ (e.1 ∙ sym was.1.0);
+                work = is.1.1 ∙ (e.0 ∙ sym was.1.1);
+                leads = λ n e'. (let bad : None ≡ Some n = sym was.0 ∙ e' in cc);
+              })
           | inr f ↦ (let is = tell.idle births after_rows name u.bond seat.who after.0 (none_still u.none f) u.has table.is in
-            record {
-              bond = is.1.0 ∙ sym was.1.0;
-              work = is.1.1 ∙ sym was.1.1;
-              leads = λ n e'. (let bad : None ≡ Some n = sym was.0 ∙ e' in cc);
-            })
+              record {
+                bond = is.1.0 ∙ sym was.1.0;
+                work = is.1.1 ∙ sym was.1.1;
+                leads = λ n e'. (let bad : None ≡ Some n = sym was.0 ∙ e' in cc);
+              })
         ]
 
     sends_as : (sent : List (Draw × List Errand)) → IsOnly [] sent (λ n. errands_for n after.1) → IsOnly [] sent (errands_sent rows seat event)

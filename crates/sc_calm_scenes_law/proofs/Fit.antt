@@ -1,8 +1,8 @@
 -- What each entry of an order leaves, by the laws of a group's table.
-use Rattle.std.proofs.Common.{◌≡◌, ℕ, Bool, true, false, List, [], ◌∷◌, Option, Some, None, refl, subst}
+use Rattle.std.proofs.Common.{◌≡◌, ℕ, Bool, true, false, List, [], ◌∷◌, Some, refl, subst}
 use Rattle.sc_base.specs.declared.names.Draw.{Draw}
 use Rattle.sc_cmd.specs.declared.commands.Command.{Command}
-use Rattle.sc_cmd.specs.declared.commands.Command.TheVariants.{Join, Leave, Split, Begin, Prepared, RecordVote, Finish, Watched, RecordWatch}
+use Rattle.sc_cmd.specs.declared.commands.Command.TheVariants.{Split, Begin, RecordVote}
 use Rattle.sc_cmd.specs.declared.votes.Vote.TheVariants as Says
 use Rattle.sc_mail.specs.declared.bodies.Mail.{Mail}
 use Rattle.sc_member.specs.Roster.{least_of}
@@ -10,7 +10,7 @@ use Rattle.sc_actor.specs.declared.actors.Seat.{Seat}
 use Rattle.sc_node_table.specs.Replica.{ReplicaState}
 use Rattle.sc_sound.specs.Players.{Player}
 use Rattle.sc_calm_law.specs.Totals.{Rows}
-use Rattle.sc_calm_orders_law.specs.Scenes.{First, Lone, Next, Bond, Asking, Errand, Question, Work, Opens, Records}
+use Rattle.sc_calm_orders_law.specs.Scenes.{First, Lone, Next, Bond, Asking, Question, Work, Opens, Records}
 use Rattle.sc_calm_orders_law.specs.Parts.{work_by}
 use Rattle.sc_calm_orders_law.specs.Entries.{EntryLeaves}
 use Rattle.sc_calm_orders_law.proofs.Entries.{orders-leave, votes-leave}

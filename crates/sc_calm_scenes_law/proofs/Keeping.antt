@@ -1,10 +1,7 @@
 -- That an order stays under way: by the laws of tables, and the kinds of rows.
-use Rattle.std.proofs.Common.{◌≡◌, ℕ, Bool, true, false, cond, List, [], ◌∷◌, ◌++◌, Option, Some, None, ◌⊎◌, inl, inr, refl, sym, ◌∙◌, ap, subst}
+use Rattle.std.proofs.Common.{◌≡◌, ℕ, Bool, true, false, List, [], ◌∷◌, Some, None, refl, sym, ◌∙◌, ap, subst}
 use Rattle.std.specs.Option.{option_map}
-use Rattle.sc_base.specs.declared.names.Ballot.{Ballot}
 use Rattle.sc_base.specs.declared.names.Draw.{Draw}
-use Rattle.sc_cmd.specs.declared.bodies.Offer.{Offer}
-use Rattle.sc_cmd.specs.declared.bodies.Watch.{Watch}
 use Rattle.sc_cmd.specs.declared.orders.OrderLine.{OrderLine}
 use Rattle.sc_mail.specs.declared.bodies.Mail.{Mail}
 use Rattle.sc_mail.specs.declared.bodies.MailBody.{MailBody}
@@ -13,22 +10,19 @@ use Rattle.sc_actor.specs.declared.actors.Seat.{Seat}
 use Rattle.sc_actor.specs.declared.rows.Event.{Event}
 use Rattle.sc_actor.specs.declared.rows.Event.TheVariants.{Deliver}
 use Rattle.sc_actor.specs.Mail.{mails}
-use Rattle.sc_actor.specs.System.{row_of}
 use Rattle.sc_node_table.specs.Node.{absent}
 use Rattle.sc_node_table.specs.Replica.{ReplicaState, Place, name_of}
 use Rattle.sc_node_table.specs.Rows.{mailed}
-use Rattle.sc_sound.specs.Players.{Player, player_table}
+use Rattle.sc_sound.specs.Players.{Player}
 use Rattle.sc_calm_law.specs.Totals.{Rows}
 use Rattle.sc_calm_orders_law.specs.Scenes.{Asking, is_watch, Turn, Errand, Question, Elsewhere, Reply, Result, Work, Answers, Records, Ends, IsOnly}
 use Rattle.sc_calm_orders_law.specs.Rows.{Kind, Keeps, Rests, PassesOn, AsksOn, Files, work_for}
 use Rattle.sc_calm_orders_law.specs.Parts.{bond_of, is_yes, is_cast_yes, works, errand_by, errands_for}
-use Rattle.sc_calm_orders_law.specs.Running.{Rested}
 use Rattle.sc_calm_orders_law.specs.Tables.{Works}
 use Rattle.sc_calm_orders_law.proofs.Filing.{tables-file, tables-pass, tables-ask-on}
 use Rattle.sc_calm_orders_law.proofs.Questions.{passes-keep, asks-keep, files-keep}
 use Rattle.sc_calm_orders_law.proofs.Resting.{tables-rest, promises-keep}
 use Rattle.sc_calm_orders_law.proofs.Told.{rests-keep}
-use Rattle.sc_calm_rows_law.specs.Groups.{view_at}
 use Rattle.sc_calm_rows_law.specs.Turns.{with_event}
 use Rattle.sc_calm_rows_law.proofs.Turning.{found_name}
 use Rattle.sc_calm_scenes_law.specs.Scenes.{scene_at, errand_in, taken_errand}

@@ -1,5 +1,5 @@
 -- Who of some nodes leads, and which replica at them is the newest.
-use Rattle.std.proofs.Common.{◌≡◌, ℕ, ◌≤◌, nat_le, Bool, true, false, true≢false, cond, List, [], ◌∷◌, find, Option, Some, None, inl, inr, refl, sym, ◌∙◌, ap, subst, arith}
+use Rattle.std.proofs.Common.{◌≡◌, ℕ, ◌≤◌, nat_le, true, false, true≢false, cond, List, [], ◌∷◌, Option, Some, None, inl, inr, refl, sym, ◌∙◌, ap, subst, arith}
 use Rattle.std.proofs.lemmas.Bool.{cases_Bool, cond-true, cond-false, cond_both, leb-true, leb-false}
 use Rattle.sc_base.specs.Among.{Among, Each}
 use Rattle.sc_node_table.specs.Replica.{ReplicaState, next}
@@ -16,7 +16,7 @@ module _ (at : ℕ → Option ReplicaState) where
       elim (cases_Bool (is_running (at first))) [
         | inl t ↦ cond-true (is_running (at first)) (Some first) (lead_of at nodes) t ∙ ap Some (alone first t)
         | inr f ↦ cond-false (is_running (at first)) (Some first) (lead_of at nodes) f
-            ∙ lead_found nodes node (elim is [ | inl same ↦ absurd (true≢false (sym (ap (λ n. is_running (at n)) same ∙ runs) ∙ f)) | inr more ↦ more ]) runs alone
+            ∙ lead_found nodes node (elim is [ inl same ↦ absurd (true≢false (sym (ap (λ n. is_running (at n)) same ∙ runs) ∙ f)) | inr more ↦ more ]) runs alone
       ]
 
   all_stopped : (nodes : List ℕ) → ((node : ℕ) → is_running (at node) ≡ false) → Each (λ node. is_running (at node) ≡ false) nodes
@@ -68,11 +68,11 @@ IsNewest at nodes (Some r) = IsNewestAt at nodes r
 
 module _ (at : ℕ → Option ReplicaState) where
   next_by : (node : ℕ) (nodes : List ℕ) (here rest : Option ReplicaState) → at node ≡ here → IsNewest at nodes rest → IsNewest at (node ∷ nodes) (later here rest)
-  next_by node nodes None None e new = λ other is. elim is [ | inl same ↦ ap at (sym same) ∙ e | inr more ↦ new other more ]
+  next_by node nodes None None e new = λ other is. elim is [ inl same ↦ ap at (sym same) ∙ e | inr more ↦ new other more ]
   next_by node nodes None (Some r) e new = record {
     node = new.node;
     there = new.there;
-    most = λ other x is has. elim is [ | inl same ↦ (let bad : None ≡ Some x = sym e ∙ (ap at same ∙ has) in cc) | inr more ↦ new.most other x more has ];
+    most = λ other x is has. elim is [ inl same ↦ (let bad : None ≡ Some x = sym e ∙ (ap at same ∙ has) in cc) | inr more ↦ new.most other x more has ];
   }
   next_by node nodes (Some r) None e new = record {
     node = node;

@@ -1,5 +1,5 @@
 -- What is nothing to any order: all that a client sends, and the rows of those who have no part in a group.
-use Rattle.std.proofs.Common.{◌≡◌, ℕ, ◌+◌, nat_le, false, cond, List, [], ◌∷◌, ◌++◌, length, Option, Some, None, ◌⊎◌, inl, inr, refl, sym, ◌∙◌, ap, subst}
+use Rattle.std.proofs.Common.{◌≡◌, ℕ, ◌+◌, nat_le, cond, List, [], ◌∷◌, ◌++◌, length, Option, Some, None, inl, refl, sym, ◌∙◌, ap}
 use Rattle.std.specs.Option.{option_map}
 use Rattle.std.proofs.lemmas.Bool.{cond-true, cond-false}
 use Rattle.sc_base.specs.Among.{Each}
@@ -27,11 +27,10 @@ use Rattle.sc_lookup.specs.Known.{target_in, preferring, passed_on, told_not_min
 use Rattle.sc_law_lemmas.proofs.Ways.{either_way}
 use Rattle.sc_orderly_law.specs.Timely.{AreInTime}
 use Rattle.sc_node_table.specs.Mails.{told_desk}
-use Rattle.sc_node_table.specs.Node.{NodeState, replica_of, group_of_mail, may_come, absent, unknown, taken_by, routed, on_mail, group_of_order, ordered_of, on_order}
+use Rattle.sc_node_table.specs.Node.{NodeState, replica_of, group_of_mail, may_come, absent, taken_by, routed, on_mail, ordered_of, on_order}
 use Rattle.sc_sound.specs.Players.{Player, player_table}
 use Rattle.sc_calm_law.specs.Charts.{players}
 use Rattle.sc_calm_law.specs.Totals.{Rows}
-use Rattle.sc_calm_orders_law.specs.Scenes.{Errand}
 use Rattle.sc_calm_orders_law.specs.Rows.{Rests}
 use Rattle.sc_calm_orders_law.specs.Parts.{errand_by, errand_for, errands_for}
 use Rattle.sc_calm_orders_law.proofs.Told.{rests-keep}
@@ -39,7 +38,7 @@ use Rattle.sc_calm_rows_law.specs.Groups.{replicas_of}
 use Rattle.sc_calm_rows_law.specs.Turns.{IsSeat, with_event}
 use Rattle.sc_calm_rows_law.proofs.Viewing.{view_was, view_is, sent_is}
 use Rattle.sc_calm_scenes_law.specs.Scenes.{errand_in, errand_taken}
-use Rattle.sc_calm_scenes_law.specs.Kept.{KeepsStage, ComesToNone}
+use Rattle.sc_calm_scenes_law.specs.Kept.{KeepsStage}
 use Rattle.sc_calm_scenes_law.specs.Resting.{OthersKeep}
 use Rattle.sc_calm_scenes_law.proofs.Doing.{asides_stay, asides_are}
 use Rattle.sc_calm_scenes_law.proofs.Keeping.{keeps_by}

@@ -1,5 +1,5 @@
 -- In quiet no order is under way; and a leader's one work flies alone.
-use Rattle.std.proofs.Common.{◌≡◌, ℕ, zero, suc, ◌+◌, ◌≤◌, eqb, Bool, true, false, cond, List, [], ◌∷◌, ◌++◌, length, replicate, Option, Some, None, ◌⊎◌, inl, inr, refl, sym, ◌∙◌, ap, subst, arith}
+use Rattle.std.proofs.Common.{◌≡◌, ℕ, zero, suc, ◌≤◌, eqb, true, cond, List, [], ◌∷◌, ◌++◌, length, replicate, Option, Some, None, inl, inr, refl, sym, ◌∙◌, ap, subst, arith}
 use Rattle.std.proofs.lemmas.Bool.{eq-eqb}
 use Rattle.std.proofs.lemmas.List.{length-append}
 use Rattle.sc_base.specs.Among.{Among, Each}
@@ -12,24 +12,19 @@ use Rattle.sc_mail.specs.declared.bodies.Mail.{Mail}
 use Rattle.sc_actor.specs.declared.actors.Seat.{Seat}
 use Rattle.sc_actor.specs.Mail.{mails, copies}
 use Rattle.sc_actor.specs.System.{numbers_of}
-use Rattle.sc_actor.specs.Walk.{is_quiet}
 use Rattle.sc_orderly_law.specs.Orderly.{mail_with, is_born}
-use Rattle.sc_orderly_law.specs.Timely.{AreInTime}
 use Rattle.sc_orderly_law.proofs.InTime.{in_time_tidy}
 use Rattle.sc_orderly_law.proofs.Resting.{quiet-empty}
-use Rattle.sc_node_table.specs.Replica.{ReplicaState, next, listed}
+use Rattle.sc_node_table.specs.Replica.{ReplicaState, listed}
 use Rattle.sc_paxos_words.specs.declared.flights.Flight.{Flight}
 use Rattle.sc_sound.specs.Players.{Player}
 use Rattle.sc_calm_law.specs.Charts.{players}
 use Rattle.sc_calm_law.specs.Totals.{Rows}
-use Rattle.sc_calm_orders_law.specs.Scenes.{Unbound, Errand, Work}
-use Rattle.sc_calm_orders_law.specs.Stages.{IsUnderWay}
-use Rattle.sc_calm_orders_law.specs.Parts.{bond_in as bond_by_lock, work_by, works_in, works_flying, works_ready, works, errand_by, errand_for, errands_for}
-use Rattle.sc_calm_orders_law.specs.Running.{FliesLone}
-use Rattle.sc_calm_orders_law.specs.Tables.{IsUnbound}
+use Rattle.sc_calm_orders_law.specs.Scenes.{Unbound, Errand}
+use Rattle.sc_calm_orders_law.specs.Parts.{bond_in as bond_by_lock, works_in, works_flying, works_ready, works, errand_by, errand_for, errands_for}
 use Rattle.sc_calm_orders_law.proofs.InQuiet.{quiet-still}
 use Rattle.sc_calm_rows_law.specs.Groups.{view_at}
-use Rattle.sc_calm_scenes_law.specs.Scenes.{is_running, lead_of, works_of, work_at, left_after, scene_at}
+use Rattle.sc_calm_scenes_law.specs.Scenes.{is_running, lead_of, works_of, work_at, scene_at}
 use Rattle.sc_calm_scenes_law.specs.Quiet.{GoesToActor, HasNothing, QuietScenesAreOver, IsWork, WorksFlyLone}
 use Rattle.sc_calm_scenes_law.proofs.Left.{errands-append}
 use Rattle.sc_calm_scenes_law.proofs.Newest.{lead_runs}

@@ -1,12 +1,12 @@
 -- The part of a group, where its replicas stay, and where one is made at its birth.
-use Rattle.std.proofs.Common.{◌≡◌, ℕ, ◌≤◌, eqb, Bool, true, false, true≢false, List, [], ◌∷◌, Option, Some, None, ◌⊎◌, inl, inr, refl, sym, ◌∙◌, ap, subst}
+use Rattle.std.proofs.Common.{◌≡◌, ℕ, ◌≤◌, eqb, true, false, true≢false, List, [], Option, Some, None, ◌⊎◌, inl, inr, refl, sym, ◌∙◌, ap, subst}
 use Rattle.std.proofs.lemmas.Bool.{cases_Bool, eqb-true, eq-eqb}
 use Rattle.sc_base.specs.Among.{Among}
 use Rattle.sc_node_table.specs.Replica.{ReplicaState, next}
-use Rattle.sc_calm_orders_law.specs.Scenes.{Bond, Unbound, Work}
+use Rattle.sc_calm_orders_law.specs.Scenes.{Bond, Unbound}
 use Rattle.sc_calm_orders_law.specs.Parts.{bond_of, works}
-use Rattle.sc_calm_scenes_law.specs.Scenes.{is_running, lead_of, newest_of, bond_in, works_of, bond_by, work_at}
-use Rattle.sc_calm_scenes_law.proofs.Newest.{lead_runs, none_runs, lead_same, newest_same, IsNewestAt, IsNewest, newest_is}
+use Rattle.sc_calm_scenes_law.specs.Scenes.{is_running, lead_of, newest_of, bond_there, works_of, bond_by, work_at}
+use Rattle.sc_calm_scenes_law.proofs.Newest.{lead_runs, none_runs, lead_same, newest_same, IsNewest, newest_is}
 
 abbrev pub Nodes : Type 0
 Nodes = ℕ → Option ReplicaState
@@ -19,12 +19,12 @@ AreAll at nodes = (node : ℕ) (r : ReplicaState) → at node ≡ Some r → Amo
 abbrev pub AreBound : Nodes → Bond → Type 0
 AreBound at bond = (node : ℕ) (r : ReplicaState) → at node ≡ Some r → ((other : ℕ) (x : ReplicaState) → at other ≡ Some x → next x ≤ next r) → bond_of r.group.core ≡ bond
 
-bound_by : (at : Nodes) (nodes : List ℕ) (bond : Bond) → AreAll at nodes → AreBound at bond → (o : Option ReplicaState) → IsNewest at nodes o → ((o ≡ None) → Unbound ≡ bond) → bond_in o ≡ bond
+bound_by : (at : Nodes) (nodes : List ℕ) (bond : Bond) → AreAll at nodes → AreBound at bond → (o : Option ReplicaState) → IsNewest at nodes o → ((o ≡ None) → Unbound ≡ bond) → bond_there o ≡ bond
 bound_by at nodes bond all bound None new none = none refl
 bound_by at nodes bond all bound (Some r) new none = bound new.node r new.there (λ other x has. new.most other x (all other x has) has)
 
 -- so is the newest, if there is one
-pub newest_bound : (at : Nodes) (nodes : List ℕ) (bond : Bond) → AreAll at nodes → AreBound at bond → ((newest_of at nodes ≡ None) → Unbound ≡ bond) → bond_in (newest_of at nodes) ≡ bond
+pub newest_bound : (at : Nodes) (nodes : List ℕ) (bond : Bond) → AreAll at nodes → AreBound at bond → ((newest_of at nodes ≡ None) → Unbound ≡ bond) → bond_there (newest_of at nodes) ≡ bond
 newest_bound at nodes bond all bound none = bound_by at nodes bond all bound (newest_of at nodes) (newest_is at nodes) none
 
 -- where a node has a replica there is a newest
@@ -42,8 +42,8 @@ pub record SamePart (one other : Nodes) (nodes : List ℕ) : Type 0 where
   pub leads : (node : ℕ) → lead_of one nodes ≡ Some node → lead_of other nodes ≡ Some node
 
 bond_as : (one other : Nodes) (nodes : List ℕ) → ((node : ℕ) → other node ≡ one node) → (o : Option ℕ) → bond_by other nodes o ≡ bond_by one nodes o
-bond_as one other nodes same None = ap bond_in (newest_same other one nodes same)
-bond_as one other nodes same (Some node) = ap bond_in (same node)
+bond_as one other nodes same None = ap bond_there (newest_same other one nodes same)
+bond_as one other nodes same (Some node) = ap bond_there (same node)
 
 work_as : (one other : Nodes) → ((node : ℕ) → other node ≡ one node) → (o : Option ℕ) → work_at other o ≡ work_at one o
 work_as one other same None = refl
@@ -64,7 +64,7 @@ module _ (one other : Nodes) (nodes : List ℕ) (who : ℕ) (born : ReplicaState
     (same : (node : ℕ) → (node ≡ who → ⊥) → other node ≡ one node) (free : bond_of born.group.core ≡ Unbound) (idle : works born ≡ []) (newest : AreBound one Unbound) where
   -- the node is this one or another
   who_or : (node : ℕ) → (node ≡ who) ⊎ (node ≡ who → ⊥)
-  who_or node = elim (cases_Bool (eqb node who)) [ | inl t ↦ inl (eqb-true node who t) | inr f ↦ inr (λ e. true≢false (sym (eq-eqb node who e) ∙ f)) ]
+  who_or node = elim (cases_Bool (eqb node who)) [ inl t ↦ inl (eqb-true node who t) | inr f ↦ inr (λ e. true≢false (sym (eq-eqb node who e) ∙ f)) ]
 
   all_after : AreAll other nodes
   all_after node r has = elim (who_or node) [
@@ -81,7 +81,7 @@ module _ (one other : Nodes) (nodes : List ℕ) (who : ℕ) (born : ReplicaState
     | inr ne ↦ newest node r (sym (same node ne) ∙ has) (λ n x has'. most n x (same n (not_who n x has') ∙ has'))
   ]
 
-  newest_both : bond_in (newest_of other nodes) ≡ bond_in (newest_of one nodes)
+  newest_both : bond_there (newest_of other nodes) ≡ bond_there (newest_of one nodes)
   newest_both = newest_bound other nodes Unbound all_after newest_after (λ e. refl) ∙ sym (newest_bound one nodes Unbound all newest (λ e. refl))
 
   runs_not : (node : ℕ) → is_running (one node) ≡ true → node ≡ who → ⊥
@@ -92,7 +92,7 @@ module _ (one other : Nodes) (nodes : List ℕ) (who : ℕ) (born : ReplicaState
   stopped_by None e = (newest_both, refl)
   stopped_by (Some node) e =
       let there = same node (runs_not node (lead_runs one nodes node e)) in
-      (ap bond_in there, ap works_of there)
+      (ap bond_there there, ap works_of there)
 
   pub stopped_part : born.running ≡ false → SamePart one other nodes
   stopped_part stopped =
@@ -120,7 +120,7 @@ module _ (one other : Nodes) (nodes : List ℕ) (who : ℕ) (born : ReplicaState
         | inr ne ↦ absurd (running_one node (sym (ap is_running (same node ne)) ∙ lead_runs other nodes node e) (one node) refl unled)
       ] in
       let there : other node ≡ Some born = ap other is ∙ makes in
-      (ap bond_in there ∙ (free ∙ sym (newest_bound one nodes Unbound all newest (λ e'. refl))), ap works_of there ∙ idle)
+      (ap bond_there there ∙ (free ∙ sym (newest_bound one nodes Unbound all newest (λ e'. refl))), ap works_of there ∙ idle)
 
   pub running_part : born.running ≡ true → lead_of one nodes ≡ None → SamePart one other nodes
   running_part runs unled =

@@ -1,5 +1,5 @@
 -- Who takes a mail or an order leaves the replicas of other groups, or makes children.
-use Rattle.std.proofs.Common.{◌≡◌, ℕ, true, false, true≢false, cond, List, [], ◌∷◌, Option, Some, None, ◌⊎◌, inl, inr, refl, sym, ◌∙◌, ap, subst}
+use Rattle.std.proofs.Common.{◌≡◌, ℕ, true≢false, cond, List, [], ◌∷◌, Option, Some, None, ◌⊎◌, inl, inr, refl, sym, ◌∙◌, ap, subst}
 use Rattle.std.specs.Prelude.{is_some}
 use Rattle.std.specs.Option.{option_map}
 use Rattle.std.proofs.lemmas.Bool.{cases_Bool, cond-true, cond_both}
@@ -24,7 +24,7 @@ use Rattle.sc_actor.specs.System.{row_of}
 use Rattle.sc_orderly_law.specs.Timely.{AreInTime}
 use Rattle.sc_node_table.specs.Node.{NodeState, replica_of, with_replica, with_new, with_born, with_children, group_of_mail, may_come, unknown, taken_by, routed, on_mail, absent, group_of_order, ordered_of, on_order}
 use Rattle.sc_node_table.specs.Ordering.{ordered_row}
-use Rattle.sc_node_table.specs.Replica.{ReplicaState, Executed, name_of, born_replica}
+use Rattle.sc_node_table.specs.Replica.{ReplicaState, Executed, born_replica}
 use Rattle.sc_node_table.specs.Rows.{mailed}
 use Rattle.sc_node_table.specs.Slots.{slots_ahead}
 use Rattle.sc_law_lemmas.proofs.Ways.{either_way}
@@ -40,7 +40,7 @@ use Rattle.sc_calm_rows_law.proofs.Hearing.{names_stay}
 use Rattle.sc_calm_rows_law.proofs.Turning.{found_name, rows_replicas}
 use Rattle.sc_calm_rows_law.proofs.Viewing.{view_was, view_is, sent_is, new_others, new_is}
 use Rattle.sc_calm_scenes_law.specs.Scenes.{errand_in, errand_taken}
-use Rattle.sc_calm_scenes_law.specs.Turns.{Bears, LeavesOrBears, IsOfGroup, IsTablesRow}
+use Rattle.sc_calm_scenes_law.specs.Turns.{Bears, LeavesOrMakes, IsOfGroup, IsTablesRow}
 use Rattle.sc_calm_scenes_law.specs.Taken.{MayBear, IsTaking, RowsAreTaken}
 
 -- ---- the group of an errand
@@ -125,7 +125,7 @@ module _ (who : ℕ) where
   ]
 
   first_of : (child : Base) (children : List Base) (x : Base) → Among x (child ∷ []) → Among x (child ∷ children)
-  first_of child children x is = elim is [ | inl e ↦ inl e | inr bad ↦ absurd bad ]
+  first_of child children x is = elim is [ inl e ↦ inl e | inr bad ↦ absurd bad ]
 
   then_of : (name : Draw) (child : Base) (children : List Base) (now between before : Option ReplicaState) → OneOf name who (child ∷ []) between before → OneOf name who children now between → OneOf name who (child ∷ children) now before
   then_of name child children now between before (inl e) (inl f) = inl (f ∙ e)
@@ -144,7 +144,7 @@ module _ (who : ℕ) where
 
 each_is : {X : Type 0} (P : X → Type 0) (xs : List X) (x : X) → Each P xs → Among x xs → P x
 each_is P [] x all is = absurd is
-each_is P (y ∷ ys) x all is = elim is [ | inl e ↦ subst P e all.0 | inr more ↦ each_is P ys x all.1 more ]
+each_is P (y ∷ ys) x all is = elim is [ inl e ↦ subst P e all.0 | inr more ↦ each_is P ys x all.1 more ]
 
 module _ (births : List (Seat Player)) (rows : Rows) (seat : Seat Player) (event : Event OrderLine) (node : NodeState) (born : IsSeat births seat) (is : value player_table seat rows ≡ Node node) (step : NodeState × List Mail)
     (o : Option (Input Mail OrderLine)) (input : input_of (mails rows) event ≡ o) (does : acted player_table (Node node) o ≡ (Node step.0, step.1)) where
@@ -161,7 +161,7 @@ module _ (births : List (Seat Player)) (rows : Rows) (seat : Seat Player) (event
       replicas_name = record { node = 0; count = 0 }
 
   -- by what it makes
-  bears_by : (name : Draw) (children : List Base) → Each (MayBear births rows seat) children → OneOf name seat.who children (replica_of name step.0.replicas) (replica_of name node.replicas) → LeavesOrBears births rows seat event name
+  bears_by : (name : Draw) (children : List Base) → Each (MayBear births rows seat) children → OneOf name seat.who children (replica_of name step.0.replicas) (replica_of name node.replicas) → LeavesOrMakes births rows seat event name
   bears_by name children may (inl e) = inl (now_is name ∙ (e ∙ sym (was_is name)))
   bears_by name children may (inr (child, among, id, none, makes)) =
       let m = each_is (MayBear births rows seat) children child may among in
@@ -184,7 +184,7 @@ module _ (words : ℕ → ℕ → ℕ × ℕ) (births : List (Seat Player)) (row
   acts_by step e = ap (λ (x : NodeState × List Mail). (Node x.0, x.1)) e
 
   of_group : (step : NodeState × List Mail) → on_mail mail.from mail.body node ≡ step
-      → ((other : Draw) → (other ≡ group → ⊥) → LeavesOrBears births rows seat (Deliver number) other) → IsOfGroup words births rows seat (Deliver number) group
+      → ((other : Draw) → (other ≡ group → ⊥) → LeavesOrMakes births rows seat (Deliver number) other) → IsOfGroup words births rows seat (Deliver number) group
   of_group step e others = record { seated = t.seated; timely = t.timely; own = own_group rows number mail group t.sent t.named; others = others }
 
   pub takes : (r : ReplicaState) → replica_of group node.replicas ≡ Some r → Each (MayBear births rows seat) (mailed mail.from mail.body (r, [])).1
@@ -196,8 +196,7 @@ module _ (words : ℕ → ℕ → ℕ × ℕ) (births : List (Seat Player)) (row
       let e : on_mail mail.from mail.body node ≡ step = takes_by (Some r) here in
       let does = acts_by step e in
       let name = found_name group node.replicas r here in
-      let row = rows_replicas.taken births rows seat number mail group node r t.seated t.is_node t.sent t.comes t.named here in
-      (
+      let row = rows_replicas.taken births rows seat number mail group node r t.seated t.is_node t.sent t.comes t.named here in (
         of_group step e (λ other ne.
             let stays : replica_of other put.replicas ≡ replica_of other node.replicas = put_others group other after.0.0 node.replicas (names_stay.mailed mail.from mail.body r ∙ name) ne in
             bears_by births rows seat (Deliver number) node t.seated t.is_node step (Some (Got mail)) got does other after.1 may
@@ -226,8 +225,7 @@ orders words births rows seat line node r born timely is here =
     let e : on_order line node ≡ step = ap (λ o. ordered_of o line node) here in
     let does : acted player_table (Node node) (Some (ToldInput line)) ≡ (Node step.0, step.1) = ap (λ (x : NodeState × List Mail). (Node x.0, x.1)) e in
     let row = rows_replicas.ordered births rows seat line node r born is here in
-    let name = found_name group node.replicas r here in
-    (
+    let name = found_name group node.replicas r here in (
       record {
         seated = born;
         timely = timely;

@@ -1,5 +1,5 @@
 -- Each row in time is a row of the scene.
-use Rattle.std.proofs.Common.{◌≡◌, ℕ, eqb, Bool, true, false, true≢false, cond, List, [], ◌∷◌, ◌++◌, Option, Some, None, ◌⊎◌, inl, inr, refl, sym, ◌∙◌, ap, subst, append_assoc, append-nil}
+use Rattle.std.proofs.Common.{◌≡◌, ℕ, eqb, false, true≢false, List, [], ◌∷◌, ◌++◌, Option, Some, None, inl, inr, refl, sym, ◌∙◌, ap, subst, append-nil}
 use Rattle.std.specs.Option.{option_map}
 use Rattle.std.proofs.lemmas.Bool.{cases_Bool, cond-true, cond-false, eqb-true, eq-eqb}
 use Rattle.sc_base.specs.Same.{same_draw}
@@ -11,7 +11,7 @@ use Rattle.sc_actor.specs.declared.actors.Seat.{Seat}
 use Rattle.sc_actor.specs.declared.rows.Event.{Event}
 use Rattle.sc_actor.specs.declared.rows.Event.TheVariants.{Deliver, Tick, Go, Told, Crash, Drop, Again}
 use Rattle.sc_actor.specs.declared.rows.Row.{Row}
-use Rattle.sc_actor.specs.Mail.{mails, numbered}
+use Rattle.sc_actor.specs.Mail.{mails}
 use Rattle.sc_actor.specs.System.{numbers_of, row_of}
 use Rattle.sc_orderly_law.specs.Orderly.{IsCalmRow, IsCalmEvent}
 use Rattle.sc_orderly_law.proofs.InTime.{last_in_time}
@@ -28,8 +28,8 @@ use Rattle.sc_calm_rows_law.specs.Groups.{view_at}
 use Rattle.sc_calm_rows_law.specs.Turns.{IsSeat, with_event}
 use Rattle.sc_calm_rows_law.proofs.Viewing.{view_others}
 use Rattle.sc_calm_scenes_law.specs.Scenes.{scene_at, left_after, errand_in, errand_taken, taken_errand}
-use Rattle.sc_calm_scenes_law.specs.Turns.{errands_sent, IsSceneKind, Bears, LeavesOrBears, IsOfGroup, RowsAreOfScenes}
-use Rattle.sc_calm_scenes_law.proofs.Left.{errands-append, Takes, left_by, left_row, TakesOne, takes_one}
+use Rattle.sc_calm_scenes_law.specs.Turns.{errands_sent, IsSceneKind, Bears, LeavesOrMakes, IsOfGroup, RowsAreOfScenes}
+use Rattle.sc_calm_scenes_law.proofs.Left.{errands-append, left_by, left_row, TakesOne, takes_one}
 use Rattle.sc_calm_scenes_law.proofs.Parts.{SamePart, same_part, stopped_part, running_part}
 use Rattle.sc_calm_scenes_law.proofs.Viewing.{seat_among, view_among}
 
@@ -141,7 +141,7 @@ module _ (words : ℕ → ℕ → ℕ × ℕ) (births : List (Seat Player)) (row
           ]
         ]
 
-    other_part : IsSeat births seat → LeavesOrBears births rows seat event name → SamePart one other (numbers_of births)
+    other_part : IsSeat births seat → LeavesOrMakes births rows seat event name → SamePart one other (numbers_of births)
     other_part born (inl same) = same_part one other (numbers_of births) (all_same same)
     other_part born (inr bears) = bears_part born bears
 

@@ -1,5 +1,5 @@
 -- What a scene says of a group by its replicas.
-use Rattle.std.proofs.Common.{◌≡◌, ℕ, eqb, Bool, true, false, true≢false, List, [], ◌∷◌, find, Option, Some, None, ◌⊎◌, inl, inr, refl, sym, ◌∙◌, ap, subst}
+use Rattle.std.proofs.Common.{◌≡◌, ℕ, eqb, true, false, List, [], ◌∷◌, find, Option, Some, None, inl, inr, refl, ◌∙◌, ap, subst}
 use Rattle.std.proofs.lemmas.Bool.{eqb-true}
 use Rattle.sc_base.specs.Among.{Among}
 use Rattle.sc_base.specs.declared.names.Draw.{Draw}
@@ -9,18 +9,16 @@ use Rattle.sc_node_table.specs.Replica.{ReplicaState}
 use Rattle.sc_paxos_words.proofs.ListLemmas.{find_found}
 use Rattle.sc_sound.specs.Players.{Player}
 use Rattle.sc_calm_law.specs.Totals.{Rows}
-use Rattle.sc_calm_orders_law.specs.Scenes.{Bond, Unbound}
-use Rattle.sc_calm_orders_law.specs.Parts.{bond_of, works}
 use Rattle.sc_calm_rows_law.specs.Groups.{replica_in, view_at}
 use Rattle.sc_calm_rows_law.specs.Turns.{IsSeat}
-use Rattle.sc_calm_scenes_law.specs.Scenes.{is_running, lead_of, newest_of, bond_in, works_of, bond_by, work_at, scene_at}
-use Rattle.sc_calm_scenes_law.specs.Turns.{LeadsAlone, NoneRuns, NewestAreBound, ScenesTell}
+use Rattle.sc_calm_scenes_law.specs.Scenes.{is_running, bond_there, works_of, bond_by, work_at, scene_at}
+use Rattle.sc_calm_scenes_law.specs.Turns.{LeadsAlone, NoneRuns, ScenesTell}
 use Rattle.sc_calm_scenes_law.proofs.Newest.{lead_found, lead_none}
 use Rattle.sc_calm_scenes_law.proofs.Parts.{AreAll, newest_bound, newest_some}
 
 number_among : (births : List (Seat Player)) (seat : Seat Player) → Among seat births → Among seat.who (numbers_of births)
 number_among [] seat is = absurd is
-number_among (first ∷ births) seat is = elim is [ | inl same ↦ inl (ap (λ (s : Seat Player). s.who) same) | inr more ↦ inr (number_among births seat more) ]
+number_among (first ∷ births) seat is = elim is [ inl same ↦ inl (ap (λ (s : Seat Player). s.who) same) | inr more ↦ inr (number_among births seat more) ]
 
 found_among : (births : List (Seat Player)) (who : ℕ) (seat : Seat Player) → find (λ other. eqb other.who who) births ≡ Some seat → Among who (numbers_of births)
 found_among births who seat e =
@@ -63,7 +61,7 @@ tell = record {
       (let at = view_at births rows name in
       let lead = lead_is births rows name node r leads in (
         lead,
-        (ap (bond_by at (numbers_of births)) lead ∙ ap bond_in leads.is_there, ap (work_at at) lead ∙ ap works_of leads.is_there),
+        (ap (bond_by at (numbers_of births)) lead ∙ ap bond_there leads.is_there, ap (work_at at) lead ∙ ap works_of leads.is_there),
       ));
   idle = λ births rows name bond node r none bound has.
       (let at = view_at births rows name in

@@ -1,5 +1,5 @@
 -- That an order stays under way where a leader counts votes for the one command that it has in flight, and where it is told an order.
-use Rattle.std.specs.Prelude.{◌≡◌, ℕ, Bool, true, false, List, [], ◌∷◌, if◌then◌else◌, Option, Some, None}
+use Rattle.std.specs.Prelude.{◌≡◌, ℕ, Bool, true, false, List, [], ◌∷◌, if◌then◌else◌, Some, None}
 use Rattle.sc_base.specs.declared.names.Ballot.{Ballot}
 use Rattle.sc_base.specs.declared.names.Draw.{Draw}
 use Rattle.sc_cmd.specs.declared.commands.Command.{Command}
@@ -12,13 +12,12 @@ use Rattle.sc_mail.specs.declared.bodies.MailBody.TheVariants.{Accepted}
 use Rattle.sc_mail.specs.declared.roles.Role.TheVariants.{Node}
 use Rattle.sc_member.specs.Roster.{is_member}
 use Rattle.sc_actor.specs.declared.actors.Seat.{Seat}
-use Rattle.sc_actor.specs.declared.rows.Event.{Event}
 use Rattle.sc_actor.specs.declared.rows.Event.TheVariants.{Deliver, Told}
 use Rattle.sc_actor.specs.Replay.{value}
 use Rattle.sc_orderly_law.specs.Timely.{AreInTime}
 use Rattle.sc_node_table.specs.Node.{NodeState, replica_of, group_of_order}
 use Rattle.sc_node_table.specs.Ordering.{ordered_row, untaken}
-use Rattle.sc_node_table.specs.Replica.{ReplicaState, Place}
+use Rattle.sc_node_table.specs.Replica.{ReplicaState}
 use Rattle.sc_node_table.specs.Rows.{mailed}
 use Rattle.sc_paxos_words.specs.declared.flights.Flight.{Flight}
 use Rattle.sc_sound.specs.Players.{Player, player_table}

@@ -1,5 +1,5 @@
 -- Rows that are nothing to any order: of clients, of nodes that are told to go, and of nodes that get what is for no group, or not theirs.
-use Rattle.std.specs.Prelude.{◌≡◌, ℕ, false, List, Option, Some, None}
+use Rattle.std.specs.Prelude.{◌≡◌, ℕ, false, List, Some, None}
 use Rattle.sc_cmd.specs.declared.orders.OrderLine.{OrderLine}
 use Rattle.sc_base.specs.declared.names.Draw.{Draw}
 use Rattle.sc_mail.specs.declared.bodies.Mail.{Mail}

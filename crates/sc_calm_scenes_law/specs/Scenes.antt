@@ -1,5 +1,5 @@
 -- The scene of an order after some rows of players: what each group is bound by, what of the order stands at its leader, which mail of a transaction is under way for it, and who leads.
-use Rattle.std.specs.Prelude.{◌≡◌, ℕ, ◌≤◌, nat_le, Bool, true, false, List, [], ◌∷◌, find, if◌then◌else◌, Option, Some, None}
+use Rattle.std.specs.Prelude.{ℕ, nat_le, Bool, true, false, List, [], ◌∷◌, find, if◌then◌else◌, Option, Some, None}
 use Rattle.std.specs.Option.{option_map}
 use Rattle.sc_base.specs.declared.names.Draw.{Draw}
 use Rattle.sc_cmd.specs.declared.orders.OrderLine.{OrderLine}
@@ -38,9 +38,9 @@ newest_of at [] = None
 newest_of at (node ∷ nodes) = later (at node) (newest_of at nodes)
 
 -- what a replica's group is bound by; where there is none, by nothing
-abbrev pub bond_in : Option ReplicaState → Bond
-bond_in None = Unbound
-bond_in (Some r) = bond_of r.group.core
+abbrev pub bond_there : Option ReplicaState → Bond
+bond_there None = Unbound
+bond_there (Some r) = bond_of r.group.core
 
 -- the work of a replica, if there is one
 abbrev pub works_of : Option ReplicaState → List Work
@@ -49,8 +49,8 @@ works_of (Some r) = works r
 
 -- the bond of a group: that of the replica that leads; where none runs, of one that has executed as much as any
 abbrev pub bond_by : (ℕ → Option ReplicaState) → List ℕ → Option ℕ → Bond
-bond_by at nodes None = bond_in (newest_of at nodes)
-bond_by at nodes (Some lead) = bond_in (at lead)
+bond_by at nodes None = bond_there (newest_of at nodes)
+bond_by at nodes (Some lead) = bond_there (at lead)
 
 -- the work at its leader
 abbrev pub work_at : (ℕ → Option ReplicaState) → Option ℕ → List Work

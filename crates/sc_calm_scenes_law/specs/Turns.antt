@@ -1,10 +1,9 @@
 -- What one row of players does to the scene: in the group of its mail or order, and in those of which it makes a replica.
-use Rattle.std.specs.Prelude.{◌≡◌, ℕ, ◌==◌, ◌≤◌, true, false, List, [], ◌∷◌, ◌++◌, Option, Some, None, ◌⊎◌}
+use Rattle.std.specs.Prelude.{◌≡◌, ℕ, ◌==◌, ◌≤◌, true, false, List, [], Some, None, ◌⊎◌}
 use Rattle.sc_base.specs.declared.names.Draw.{Draw}
 use Rattle.sc_cmd.specs.declared.cores.Base.{Base}
 use Rattle.sc_cmd.specs.declared.cores.Lock.TheVariants.{Free}
 use Rattle.sc_cmd.specs.declared.orders.OrderLine.{OrderLine}
-use Rattle.sc_mail.specs.declared.bodies.Mail.{Mail}
 use Rattle.sc_actor.specs.declared.actors.Seat.{Seat}
 use Rattle.sc_actor.specs.declared.rows.Event.{Event}
 use Rattle.sc_actor.specs.Mail.{mails}
@@ -15,7 +14,7 @@ use Rattle.sc_node_table.specs.Slots.{slots_ahead}
 use Rattle.sc_sound.specs.Players.{Player, player_table}
 use Rattle.sc_calm_law.specs.Charts.{players}
 use Rattle.sc_calm_law.specs.Totals.{Rows}
-use Rattle.sc_calm_orders_law.specs.Scenes.{Bond, Unbound, Errand, Scene}
+use Rattle.sc_calm_orders_law.specs.Scenes.{Bond, Unbound, Errand}
 use Rattle.sc_calm_orders_law.specs.Rows.{IsRow, Kind}
 use Rattle.sc_calm_orders_law.specs.Parts.{bond_of, works, errands_for}
 use Rattle.sc_calm_rows_law.specs.Groups.{view_at}
@@ -46,15 +45,15 @@ pub record Bears (births : List (Seat Player)) (rows : Rows) (seat : Seat Player
   pub first : ((base.core.first == seat.who) ≡ false) ⊎ ((scene_at births rows).lead name ≡ None)
 
 -- it leaves a group's replicas, or makes one so
-abbrev pub LeavesOrBears : List (Seat Player) → Rows → Seat Player → Event OrderLine → Draw → Type 0
-LeavesOrBears births rows seat event name = (view_at births (with_event rows seat event) name seat.who ≡ view_at births rows name seat.who) ⊎ Bears births rows seat event name
+abbrev pub LeavesOrMakes : List (Seat Player) → Rows → Seat Player → Event OrderLine → Draw → Type 0
+LeavesOrMakes births rows seat event name = (view_at births (with_event rows seat event) name seat.who ≡ view_at births rows name seat.who) ⊎ Bears births rows seat event name
 
 -- A row in time that is one of this group: the errand that it takes, if it takes one, is for it, and it leaves the replicas of all other groups, or makes one where they begin.
 pub record IsOfGroup (words : ℕ → ℕ → ℕ × ℕ) (births : List (Seat Player)) (rows : Rows) (seat : Seat Player) (event : Event OrderLine) (name : Draw) : Type 0 where
   pub seated : IsSeat births seat
   pub timely : AreInTime (players words births) (with_event rows seat event)
   pub own : (entry : Draw × Errand) → errand_taken (mails rows) event ≡ Some entry → entry.0 ≡ name
-  pub others : (other : Draw) → (other ≡ name → ⊥) → LeavesOrBears births rows seat event other
+  pub others : (other : Draw) → (other ≡ name → ⊥) → LeavesOrMakes births rows seat event other
 
 -- Such a row is a row of the scene.
 abbrev pub RowsAreOfScenes : Type 0
