@@ -1,6 +1,7 @@
 pub mod Counting
 pub mod Doing
 pub mod Fit
+pub mod Joining
 pub mod Keeping
 pub mod Left
 pub mod Newest

@@ -8,12 +8,21 @@ use Rattle.sc_cmd.specs.declared.commands.Command.{Command}
 use Rattle.sc_cmd.specs.declared.cores.Core.{Core}
 use Rattle.sc_cmd.specs.declared.cores.Lock.{Lock}
 use Rattle.sc_cmd.specs.declared.cores.Lock.TheVariants.{Free, Coordinating, Promised, Watching}
+use Rattle.sc_cmd.specs.declared.orders.OrderLine.{OrderLine}
+use Rattle.sc_orderly_law.specs.Timely.{AreInTime}
+use Rattle.sc_actor.specs.declared.rows.Row.{Row}
+use Rattle.sc_actor.specs.declared.rows.Event.TheVariants.{Told}
+use Rattle.sc_actor.specs.System.{row_of}
+use Rattle.sc_sound.specs.Players.{player_table}
+use Rattle.sc_node_table.specs.Node.{group_of_order}
+use Rattle.sc_calm_orders_law.specs.Stages.{IsUnderWay, Still}
+use Rattle.sc_calm_rows_law.specs.Turns.{with_event}
 use Rattle.sc_mail.specs.declared.bodies.Mail.{Mail}
 use Rattle.sc_actor.specs.declared.actors.Seat.{Seat}
 use Rattle.sc_actor.specs.Mail.{mails, copies}
 use Rattle.sc_actor.specs.System.{numbers_of}
 use Rattle.sc_orderly_law.specs.Orderly.{mail_with, is_born}
-use Rattle.sc_orderly_law.proofs.InTime.{in_time_tidy}
+use Rattle.sc_orderly_law.proofs.InTime.{in_time_before, in_time_tidy, by_time, last_in_time}
 use Rattle.sc_orderly_law.proofs.Resting.{quiet-empty}
 use Rattle.sc_node_table.specs.Replica.{ReplicaState, listed}
 use Rattle.sc_paxos_words.specs.declared.flights.Flight.{Flight}
@@ -25,7 +34,8 @@ use Rattle.sc_calm_orders_law.specs.Parts.{bond_in as bond_by_lock, works_in, wo
 use Rattle.sc_calm_orders_law.proofs.InQuiet.{quiet-still}
 use Rattle.sc_calm_rows_law.specs.Groups.{view_at}
 use Rattle.sc_calm_scenes_law.specs.Scenes.{is_running, lead_of, works_of, work_at, scene_at}
-use Rattle.sc_calm_scenes_law.specs.Quiet.{GoesToActor, HasNothing, QuietScenesAreOver, IsWork, WorksFlyLone}
+use Rattle.sc_calm_scenes_law.specs.Quiet.{GoesToActor, HasNothing, QuietScenesAreOver, IsWork, WorksFlyLone, OrdersBeginInQuiet, OrdersGoThrough}
+use Rattle.sc_calm_scenes_law.proofs.Counting.{orders_keep}
 use Rattle.sc_calm_scenes_law.proofs.Left.{errands-append}
 use Rattle.sc_calm_scenes_law.proofs.Newest.{lead_runs}
 use Rattle.sc_calm_scenes_law.proofs.Viewing.{tell}
@@ -145,3 +155,23 @@ fly_lone work flight r running unbound one flying readies among slot =
       acts = none_long acts (omega (arith, whole, a, b, c, f, g, some));
       calls = none_long calls (omega (arith, whole, a, b, c, f, g, some));
     }
+
+-- ---- through a journal
+
+pub begin_in_quiet : OrdersBeginInQuiet
+begin_in_quiet words births rows seat line node r o leads unbound goes rests under =
+    let before = in_time_before (players words births) rows (row_of player_table seat rows (Told line)) o.timely in
+    let comes = (last_in_time (players words births) rows (row_of player_table seat rows (Told line)) o.timely).1 in
+    let still = (quiet_over.over words births rows before comes goes rests under).0 in
+    orders_keep.led words births rows seat line node r o leads
+    (record { running = leads.running; unbound = unbound; idle = nothing_works r (rests (group_of_order line.order) seat.who r leads.is_there leads.running) }) still
+
+pub go_through : OrdersGoThrough
+go_through words births journal timely still keeps =
+    by_time (players words births) (λ rows. IsUnderWay (scene_at births rows)) (Still, still)
+    (λ rows row t under.
+    let calm = (last_in_time (players words births) rows row t).0 in
+    let is = calm.row_is in
+    let t' : AreInTime (players words births) (with_event rows calm.seat calm.event) = subst (λ (x : Row Mail OrderLine). AreInTime (players words births) (rows ++ x ∷ [])) is t in
+    subst (λ (x : Row Mail OrderLine). IsUnderWay (scene_at births (rows ++ x ∷ []))) (sym is) (keeps rows calm.seat calm.event calm.born t' under))
+    journal timely

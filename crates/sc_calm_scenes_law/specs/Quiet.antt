@@ -4,6 +4,13 @@ use Rattle.sc_base.specs.Among.{Among, Each}
 use Rattle.sc_base.specs.declared.names.Draw.{Draw}
 use Rattle.sc_cmd.specs.declared.commands.Command.{Command}
 use Rattle.sc_cmd.specs.declared.cores.Lock.TheVariants.{Free}
+use Rattle.sc_cmd.specs.declared.orders.OrderLine.{OrderLine}
+use Rattle.sc_actor.specs.declared.rows.Event.{Event}
+use Rattle.sc_actor.specs.declared.rows.Event.TheVariants.{Told}
+use Rattle.sc_node_table.specs.Node.{NodeState, group_of_order}
+use Rattle.sc_calm_rows_law.specs.Turns.{IsSeat, with_event}
+use Rattle.sc_calm_scenes_law.specs.Counted.{IsOrdered}
+use Rattle.sc_calm_scenes_law.specs.Kept.{KeepsStage}
 use Rattle.sc_mail.specs.declared.bodies.Mail.{Mail}
 use Rattle.sc_actor.specs.declared.actors.Seat.{Seat}
 use Rattle.sc_actor.specs.Mail.{mails}
@@ -50,3 +57,16 @@ abbrev pub WorksFlyLone : Type 0
 WorksFlyLone =
     (work : Work) (flight : Flight Command) (r : ReplicaState) → r.running ≡ true → IsUnbound r → works r ≡ work ∷ []
     → Each (λ flight. IsWork flight.value) r.leader.flights → Each (λ entry. IsWork entry.1) r.ready → Among flight r.leader.flights → flight.slot ≡ next r → FliesLone flight r
+
+-- An order that comes in time, where nothing is under way, to a leader that no report binds keeps the stages: it begins, or is refused.
+abbrev pub OrdersBeginInQuiet : Type 0
+OrdersBeginInQuiet =
+    (words : ℕ → ℕ → ℕ × ℕ) (births : List (Seat Player)) (rows : Rows) (seat : Seat Player) (line : OrderLine) (node : NodeState) (r : ReplicaState) → IsOrdered words births rows seat line node r
+    → LeadsAlone births rows (group_of_order line.order) seat.who r → IsUnbound r → Each (GoesToActor words births) (mails rows)
+    → ((name : Draw) (node : ℕ) (r : ReplicaState) → view_at births rows name node ≡ Some r → r.running ≡ true → HasNothing r) → KeepsStage births rows seat (Told line)
+
+-- And an order stays under way through a journal whose rows come in time, if none is at first, and each row keeps it so.
+abbrev pub OrdersGoThrough : Type 0
+OrdersGoThrough =
+    (words : ℕ → ℕ → ℕ × ℕ) (births : List (Seat Player)) (journal : Rows) → AreInTime (players words births) journal → IsAt Still (scene_at births [])
+    → ((rows : Rows) (seat : Seat Player) (event : Event OrderLine) → IsSeat births seat → AreInTime (players words births) (with_event rows seat event) → KeepsStage births rows seat event) → IsUnderWay (scene_at births journal)

@@ -6,7 +6,8 @@ ghost use Rattle.sc_calm_scenes_law.specs.Counted.{OrdersKeep, VotesKeep};
 ghost use Rattle.sc_calm_scenes_law.specs.Fitting.{EntriesFit};
 ghost use Rattle.sc_calm_scenes_law.specs.Kept.{AsidesKeep, LeadersKeep};
 ghost use Rattle.sc_calm_scenes_law.specs.Kinds.{AsidesAre, AsidesStay, EntriesAre, LeadersAre};
-ghost use Rattle.sc_calm_scenes_law.specs.Quiet.{QuietScenesAreOver, WorksFlyLone};
+ghost use Rattle.sc_calm_scenes_law.specs.Making.{StatesKeep};
+ghost use Rattle.sc_calm_scenes_law.specs.Quiet.{OrdersBeginInQuiet, OrdersGoThrough, QuietScenesAreOver, WorksFlyLone};
 ghost use Rattle.sc_calm_scenes_law.specs.Resting.{OthersKeep};
 ghost use Rattle.sc_calm_scenes_law.specs.Taken.{RowsAreTaken};
 ghost use Rattle.sc_calm_scenes_law.specs.Turns.{RowsAreOfScenes, ScenesTell};
@@ -99,4 +100,19 @@ pub fn entries_fit()
 /// replica of it, and make none, keep an order under way.
 pub fn others_keep()
     ensures { OthersKeep }
+{}
+
+/// An order that comes in time to a leader, where nothing is under way, begins or is refused.
+pub fn orders_begin_in_quiet()
+    ensures { OrdersBeginInQuiet }
+{}
+
+/// An order stays under way through a journal whose rows come in time, if each row keeps it so.
+pub fn orders_go_through()
+    ensures { OrdersGoThrough }
+{}
+
+/// An order stays under way where a node makes its replica of a whole state that a member sends.
+pub fn states_keep()
+    ensures { StatesKeep }
 {}
