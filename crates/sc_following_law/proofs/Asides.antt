@@ -1,7 +1,7 @@
 -- A promise, a request, an order and the mails of transactions queue a command or count a promise, and then the pump offers: such a row is a leader's.
-use Rattle.std.proofs.Common.{◌≡◌, ℕ, ◌&&◌, not, eqb, Bool, true, false, true≢false, cond, List, [], ◌∷◌, ◌++◌, Option, Some, None, refl, sym, ◌∙◌, ap, subst}
+use Rattle.std.proofs.Common.{◌≡◌, ℕ, ◌&&◌, not, eqb, Bool, true, false, true≢false, cond, List, [], ◌∷◌, ◌++◌, Option, Some, None, refl, sym, ◌∙◌, ap, subst, ◌||◌, ◌⊎◌, inl, inr}
 use Rattle.std.specs.Prelude.{nat_le}
-use Rattle.std.proofs.lemmas.Bool.{and_from, and_parts, eq-eqb, or_left, or_right}
+use Rattle.std.proofs.lemmas.Bool.{and_from, and_parts, eq-eqb, or_left, or_right, eqb-true, or_cases}
 use Rattle.std.proofs.lemmas.List.Folds.{list_any-append}
 use Rattle.sc_base.specs.Drawing.{Drawer, next_name}
 use Rattle.sc_base.specs.Limits.{client_actor}
@@ -9,7 +9,7 @@ use Rattle.sc_base.specs.Same.{same_ballot, same_draw}
 use Rattle.sc_base.specs.declared.names.Ballot.{Ballot}
 use Rattle.sc_base.specs.declared.names.Draw.{Draw}
 use Rattle.sc_base.specs.declared.ops.Op.{Op}
-use Rattle.sc_base.proofs.NameLemmas.{ballot_itself}
+use Rattle.sc_base.proofs.NameLemmas.{ballot_is, ballot_itself}
 use Rattle.sc_cmd.specs.declared.bodies.Offer.{Offer}
 use Rattle.sc_cmd.specs.declared.bodies.Watch.{Watch}
 use Rattle.sc_cmd.specs.declared.commands.Command.{Command}
@@ -77,8 +77,9 @@ module _ (at : Sets) (now : Progress) (from : ℕ) (ballot : Ballot) (reports : 
 
   -- these are the promisers then
   counts_with : (promisers : List ℕ) (reports : List (Report Command)) → ((who : ℕ) → is_member r.leader.promisers who ≡ true → is_member promisers who ≡ true) → (ballot ≡ now.course.ballot → is_member promisers from ≡ true)
+      → ((who : ℕ) → is_member promisers who ≡ true → (is_member r.leader.promisers who ≡ true) ⊎ (promise ≡ Some (Promises who now.course.ballot)))
       → Counts at now promise r (record r { leader = record r.leader { promisers = promisers; reports = reports } })
-  counts_with promisers reports known own = counts_beside at now promise r was (tt, tt) no_vote r.top promisers reports r.acts r.calls known (λ who e. own_is who e)
+  counts_with promisers reports known own new = counts_beside at now promise r was (tt, tt) no_vote r.top promisers reports r.acts r.calls known (λ who e. own_is who e) new
     where
       own_is : (who : ℕ) → promise ≡ Some (Promises who now.course.ballot) → is_member promisers who ≡ true
       own_is who e =
@@ -96,12 +97,25 @@ module _ (at : Sets) (now : Progress) (from : ℕ) (ballot : Ballot) (reports : 
       offers_lead at now promise r _ [] was
       (counts_with (r.leader.promisers ++ from ∷ []) (r.leader.reports ++ reports)
       (λ who m. list_any-append (λ x. eqb x who) r.leader.promisers (from ∷ []) ∙ or_left (is_member r.leader.promisers who) (is_member (from ∷ []) who) m)
-      (λ _. list_any-append (λ x. eqb x from) r.leader.promisers (from ∷ []) ∙ or_right (is_member r.leader.promisers from) (is_member (from ∷ []) from) (or_left (eqb from from) false (itself from))))
+      (λ _. list_any-append (λ x. eqb x from) r.leader.promisers (from ∷ []) ∙ or_right (is_member r.leader.promisers from) (is_member (from ∷ []) from) (or_left (eqb from from) false (itself from)))
+      (λ who m. new who (sym (list_any-append (λ x. eqb x who) r.leader.promisers (from ∷ [])) ∙ m)))
       (λ who. refl)
     where
+      ballot_same : ballot ≡ now.course.ballot
+      ballot_same = ballot_is ballot r.leader.ballot same ∙ was.led.may.ballot
+
+      new : (who : ℕ) → (is_member r.leader.promisers who || (eqb from who || false)) ≡ true → (is_member r.leader.promisers who ≡ true) ⊎ (promise ≡ Some (Promises who now.course.ballot))
+      new who m = elim (or_cases (is_member r.leader.promisers who) (eqb from who || false) m) [
+        | inl old ↦ inl old
+        | inr its ↦ elim (or_cases (eqb from who) false its) [
+          | inl is ↦ inr (ap (λ n. Some (Promises n ballot)) (eqb-true from who is) ∙ ap (λ b. Some (Promises who b)) ballot_same)
+          | inr bad ↦ absurd (true≢false (sym bad))
+        ]
+      ]
+
       itself : (n : ℕ) → eqb n n ≡ true
       itself n = eq-eqb n n refl
-  counted_row same false in_ = offers_lead at now promise r r [] was (counts_with r.leader.promisers r.leader.reports (λ who m. m) (λ _. inside (is_member r.leader.promisers from) in_)) (λ who. refl)
+  counted_row same false in_ = offers_lead at now promise r r [] was (counts_with r.leader.promisers r.leader.reports (λ who m. m) (λ _. inside (is_member r.leader.promisers from) in_) (λ who m. inl m)) (λ who. refl)
     where
       inside : (b : Bool) → not b ≡ false → b ≡ true
       inside true e = refl
@@ -116,7 +130,7 @@ module _ (at : Sets) (now : Progress) (from : ℕ) (ballot : Ballot) (reports : 
           let same = (and_parts r.running (same_ballot ballot r.leader.ballot) t).1 in
           subst (λ c. Row (pumped (record r { leader = (cond {A = Bool × LeaderState Command} (c && not (is_member r.leader.promisers from)) (true, record r.leader { promisers = r.leader.promisers ++ from ∷ []; reports = r.leader.reports ++ reports }) (false, r.leader)).1 }, []))) (sym same)
           (counted_row same (not (is_member r.leader.promisers from)) refl)
-      by false f = still_leads at now promise r r [] was (counts_with r.leader.promisers r.leader.reports (λ who m. m) other) (λ who. refl)
+      by false f = still_leads at now promise r r [] was (counts_with r.leader.promisers r.leader.reports (λ who m. m) other (λ who m. inl m)) (λ who. refl)
         where
           other : ballot ≡ now.course.ballot → is_member r.leader.promisers from ≡ true
           other same =
@@ -288,7 +302,7 @@ module _ (at : Sets) (now : Progress) (r : ReplicaState) (was : IsLeadOf at now 
   nobody who t = cc
 
   counts_aside : (top : Ballot) (acts calls : List Command) → Counts at now None r (record r { top = top; acts = acts; calls = calls })
-  counts_aside top acts calls = counts_beside at now None r was tt nothing top r.leader.promisers r.leader.reports acts calls (λ who m. m) nobody
+  counts_aside top acts calls = counts_beside at now None r was tt nothing top r.leader.promisers r.leader.reports acts calls (λ who m. m) nobody (λ who m. inl m)
 
   quiet_leads : (top : Ballot) (acts calls : List Command) (more : List Mail) → ((who : ℕ) → marks_for (name_of r) who more ≡ []) → LeadsInto at now None r (record r { top = top; acts = acts; calls = calls }, more)
   quiet_leads top acts calls more none = still_leads at now None r (record r { top = top; acts = acts; calls = calls }) more was (counts_aside top acts calls) none

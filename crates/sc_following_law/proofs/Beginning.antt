@@ -1,5 +1,5 @@
 -- The first leader of a group leads in its progress from its birth on.
-use Rattle.std.proofs.Common.{◌≡◌, ℕ, ◌||◌, not, eqb, ltb, Bool, true, false, true≢false, cond, List, Option, Some, None, refl, sym, arith}
+use Rattle.std.proofs.Common.{◌≡◌, ℕ, ◌||◌, not, eqb, ltb, Bool, true, false, true≢false, cond, List, Option, Some, None, inl, refl, sym, arith}
 use Rattle.std.proofs.lemmas.Bool.{cond-true, eq-eqb}
 use Rattle.sc_member.specs.Roster.{is_member}
 use Rattle.sc_node_table.specs.Replica.{ReplicaState, next, first_ballot, born_replica}
@@ -61,4 +61,5 @@ leaders_begin at me base same first member stands roster = (leads_first, orderly
       single = λ s from some. refl;
       alone = λ s other command from e act from_other some. absurd (true≢false (sym some));
       plain = refl;
+      asked = λ s from some. inl refl;
     }

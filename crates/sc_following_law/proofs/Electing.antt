@@ -176,7 +176,7 @@ module _ (at : Sets) (now : Progress) (command : Command) (r : ReplicaState) (of
       none_some o e f = cc
 
   orderly_then : IsOrderly place.0
-  orderly_then = record { apart = tt; single = λ s from some. refl; alone = λ s other c from e act from_other some. absurd (true≢false (sym some)); plain = refl }
+  orderly_then = record { apart = tt; single = λ s from some. refl; alone = λ s other c from e act from_other some. absurd (true≢false (sym some)); plain = refl; asked = λ s from some. absurd (true≢false (sym some)) }
 
   executed_into : ElectsInto at now slot r (executed false command (r, [])).0
   unfolding executed executed_ready

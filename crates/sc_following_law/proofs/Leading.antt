@@ -117,6 +117,7 @@ pub record Counts (at : Sets) (now : Progress) (taken : Option Mark) (r after : 
   pub polled : (slot : ℕ) (voters : List ℕ) → voters_of after slot ≡ Some voters → IsPolled (at slot) voters
   pub counted : (who : ℕ) → is_member r.leader.promisers who ≡ true → is_member after.leader.promisers who ≡ true
   pub counts : (who : ℕ) → taken ≡ Some (Promises who now.course.ballot) → is_member after.leader.promisers who ≡ true
+  pub takes_new : (who : ℕ) → is_member after.leader.promisers who ≡ true → (is_member r.leader.promisers who ≡ true) ⊎ (taken ≡ Some (Promises who now.course.ballot))
 
 -- ---- what follows from it
 
@@ -271,6 +272,7 @@ module _ (at : Sets) (now : Progress) (taken : Option Mark) (r mid : ReplicaStat
     bound = b.bound;
     stayed = λ slot least most. ap (is_member (members_at at (slot + 1))) (sym c.same_me) ∙ b.stayed slot (let same = c.same_next in omega (arith, least, same)) most;
     leads = leads_then;
+    promisers = λ on who m. c.takes_new who (ap (λ l. is_member l who) (sym (still_of on).promisers) ∙ m);
     goes_on = λ on. record {
       led = led_then (still_of on).led;
       newest = refl;

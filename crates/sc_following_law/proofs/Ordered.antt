@@ -1,11 +1,13 @@
 -- What a leader has in flight and ready stays one command at a slot, and acts alone, by each of its rows.
-use Rattle.std.proofs.Common.{◌≡◌, ℕ, ◌+◌, ◌<◌, ◌≤◌, Bool, true, false, true≢false, cond, List, [], ◌∷◌, ◌++◌, Option, Some, None, inl, inr, refl, sym, ◌∙◌, ap, subst, arith, append-nil}
+use Rattle.std.proofs.Common.{◌≡◌, ℕ, ◌+◌, ◌<◌, ◌≤◌, eqb, Bool, true, false, true≢false, cond, List, [], ◌∷◌, ◌++◌, Option, Some, None, inl, inr, refl, sym, ◌∙◌, ap, subst, arith, append-nil}
 use Rattle.std.specs.Prelude.{is_some}
 use Rattle.std.specs.Option.{option_map}
-use Rattle.std.proofs.lemmas.Bool.{cases_lt}
+use Rattle.std.proofs.lemmas.Bool.{cases_lt, or_left}
+use Rattle.std.proofs.lemmas.List.Folds.{list_any-append}
 use Rattle.sc_base.specs.declared.names.Ballot.{Ballot}
 use Rattle.sc_cmd.specs.declared.commands.Command.{Command}
 use Rattle.sc_mail.specs.declared.bodies.Mail.{Mail}
+use Rattle.sc_member.specs.Roster.{is_member}
 use Rattle.sc_paxos_words.specs.declared.flights.Flight.{Flight}
 use Rattle.sc_paxos_words.specs.Leaders.{LeaderState, flight_at, promise_counted}
 use Rattle.sc_node_table.specs.Execute.{executed_one, next_child, next_ready, ending, executed_ready, executed}
@@ -21,7 +23,7 @@ use Rattle.sc_following_law.specs.Counted.{IsLed, IsNext, IsOn, LeadsPast}
 use Rattle.sc_following_law.specs.Executed.{AreNext, LeadsBy}
 use Rattle.sc_following_law.specs.Leading.{IsLeadOf, ActsAlone}
 use Rattle.sc_following_law.specs.Offers.{MayOffer}
-use Rattle.sc_following_law.specs.Orderly.{AreApart, IsOrderly, OrderIsKept}
+use Rattle.sc_following_law.specs.Orderly.{AreApart, HasBallot, IsOrderly, OrderIsKept}
 use Rattle.sc_following_law.proofs.Asides.{aside_is, order_is}
 use Rattle.sc_following_law.proofs.Counted.{entries_lead}
 use Rattle.sc_following_law.proofs.Executed.{stays_led, ready_of, ready_leads}
@@ -69,6 +71,7 @@ module _ (at : Sets) (course : Course) (command : Command) (place : Place) (led 
     single = λ s from some. flights_same s (ne s from) ∙ o.single s (above s from) (ap is_some (sym (ready_same s (ne s from))) ∙ some);
     alone = λ s other c from e act from_other some. o.alone s other c (above s from) (sym (same s (ne s from)) ∙ e) act (above other from_other) (ap is_some (sym (same other (ne other from_other))) ∙ some);
     plain = ap (λ (q : ReplicaState). q.leader.reports) on.is ∙ o.plain;
+    asked = λ s from some. subst HasBallot (sym on.is) (o.asked s (above s from) (ap is_some (sym (same s (ne s from))) ∙ some));
   }
     where
       above : (s : ℕ) → next mid.0 ≤ s → next place.0 ≤ s
@@ -135,7 +138,7 @@ promise_orderly at now from ballot r was o = by (leads ballot r)
     m = was.led.may
 
     counted : (b : Bool) → IsOrderly (pumped (record r { leader = (cond {A = Bool × LeaderState Command} b (true, record r.leader { promisers = r.leader.promisers ++ from ∷ []; reports = r.leader.reports ++ [] }) (false, r.leader)).1 }, [])).0
-    counted true = pump_orderly _ [] (record { apart = o.apart; single = o.single; alone = o.alone; plain = append-nil r.leader.reports ∙ o.plain }) (led_bounded at now.course r m)
+    counted true = pump_orderly _ [] (record { apart = o.apart; single = o.single; alone = o.alone; plain = append-nil r.leader.reports ∙ o.plain; asked = λ s from_ some. elim (o.asked s from_ some) [ inl f ↦ inl f | inr w ↦ inr (w.0, list_any-append (λ x. eqb x w.0) r.leader.promisers (from ∷ []) ∙ or_left (is_member r.leader.promisers w.0) (is_member (from ∷ []) w.0) w.1) ] }) (led_bounded at now.course r m)
     counted false = pump_orderly r [] o (led_bounded at now.course r m)
 
     by : (b : Bool) → IsOrderly (cond b (pumped (record r { leader = (promise_counted from ballot [] r.leader).1 }, [])) (r, [])).0
@@ -147,10 +150,10 @@ module _ (at : Sets) (now : Progress) (r : ReplicaState) (was : IsLeadOf at now 
   Kept p = IsOrderly p.0
 
   quiet : (top : Ballot) (acts calls : List Command) (more : List Mail) → Kept (record r { top = top; acts = acts; calls = calls }, more)
-  quiet top acts calls more = record { apart = o.apart; single = o.single; alone = o.alone; plain = o.plain }
+  quiet top acts calls more = record { apart = o.apart; single = o.single; alone = o.alone; plain = o.plain; asked = o.asked }
 
   offers : (acts calls : List Command) → Kept (pumped (record r { acts = acts; calls = calls }, []))
-  offers acts calls = pump_orderly (record r { acts = acts; calls = calls }) [] (record { apart = o.apart; single = o.single; alone = o.alone; plain = o.plain }) (led_bounded at now.course r was.led.may)
+  offers acts calls = pump_orderly (record r { acts = acts; calls = calls }) [] (record { apart = o.apart; single = o.single; alone = o.alone; plain = o.plain; asked = o.asked }) (led_bounded at now.course r was.led.may)
 
 pub order_is_kept : OrderIsKept
 unfolding mailed

@@ -1,26 +1,30 @@
 -- A leader's pump offers one command at a slot, and anything but a call or a filler alone.
-use Rattle.std.proofs.Common.{◌≡◌, ℕ, zero, suc, ◌+◌, ◌<◌, ◌≤◌, ◌&&◌, ◌||◌, not, eqb, Bool, true, false, true≢false, cond, List, [], ◌∷◌, ◌++◌, length, Option, Some, None, inl, inr, refl, sym, ◌∙◌, ap, subst, arith}
+use Rattle.std.proofs.Common.{◌≡◌, ℕ, zero, suc, ◌+◌, ◌*◌, ◌<◌, ◌≤◌, ◌&&◌, ◌||◌, not, eqb, Bool, true, false, true≢false, cond, List, [], ◌∷◌, ◌++◌, length, Option, Some, None, inl, inr, refl, sym, ◌∙◌, ap, subst, arith}
 use Rattle.std.specs.Prelude.{is_some, nat_le}
 use Rattle.std.specs.List.{list_any}
 use Rattle.std.specs.Option.{option_map}
-use Rattle.std.proofs.lemmas.Bool.{cases_eq, cases_lt, eqb-true, eq-eqb, ne_eqb, or_left, or_right}
+use Rattle.std.proofs.lemmas.Bool.{and_parts, cases_Bool, cases_eq, cases_lt, eqb-true, eq-eqb, ltb-true, ne_eqb, or_cases, or_left, or_right}
 use Rattle.std.proofs.lemmas.List.Folds.{list_any-append}
+use Rattle.std.proofs.lemmas.List.Sums.{sum_by-cons}
 use Rattle.sc_cmd.specs.declared.commands.Command.{Command}
 use Rattle.sc_cmd.specs.declared.commands.Command.TheVariants.{Noop, Call, Join, Leave, Split, Begin, Prepared, RecordVote, GiveUp, Finish, Watched, RecordWatch}
 use Rattle.sc_cmd.specs.declared.cores.Core.{Core}
 use Rattle.sc_mail.specs.declared.bodies.AnswerBody.{AnswerBody}
 use Rattle.sc_mail.specs.declared.bodies.Mail.{Mail}
 use Rattle.sc_mail.specs.declared.bodies.MailBody.TheVariants.{Accept}
+use Rattle.sc_member.specs.Majority.{votes_of, is_majority}
+use Rattle.sc_member.specs.Roster.{is_member}
 use Rattle.sc_paxos_words.specs.declared.flights.Flight.{Flight}
 use Rattle.sc_paxos_words.specs.declared.reports.Report.{Report}
+use Rattle.sc_paxos_words.specs.Ballots.{below}
 use Rattle.sc_paxos_words.specs.Choice.{chosen_value, names_above}
 use Rattle.sc_paxos_words.specs.Leaders.{must_without, flight_at, without_flight}
 use Rattle.sc_paxos_words.specs.Votes.{with_voters}
 use Rattle.sc_node_table.specs.Mails.{answered, sent_all}
 use Rattle.sc_node_table.specs.Pump.{Found, is_act, waits, turned_down, next_call, from_calls, from_acts, from_queues, found_by, found_for, offered, pumped_from, pumped}
-use Rattle.sc_node_table.specs.Replica.{ReplicaState, Place, listed, name_of, next, settled, may_offer, either, taken_at, flying, taken_from, under_way, is_idle, last_slot}
+use Rattle.sc_node_table.specs.Replica.{ReplicaState, Place, listed, name_of, next, settled, may_offer, either, taken_at, flying, taken_from, under_way, is_idle, first_set, last_slot}
 use Rattle.sc_node_table.specs.Slots.{at_slot, with_slot, numbers_from}
-use Rattle.sc_following_law.specs.Orderly.{AreApart, IsOrderly}
+use Rattle.sc_following_law.specs.Orderly.{AreApart, HasBallot, IsOrderly}
 use Rattle.sc_following_law.proofs.InFlight.{flight_out, slot_in, slot_over, polled_here, polled_out}
 use Rattle.sc_following_law.proofs.Leading.{none_taken}
 use Rattle.sc_following_law.proofs.Offers.{offered_is}
@@ -197,7 +201,7 @@ module _ (P : Found → Type 0) (r : ReplicaState) (mails : List Mail) (plain : 
 abbrev pub IsBounded : ReplicaState → Type 0
 IsBounded r = (slot : ℕ) → next r + length r.sets ≤ slot → taken_at r slot ≡ None
 
-module _ (r : ReplicaState) (o : IsOrderly r) (bounded : IsBounded r) (slot : ℕ) (command : Command) (least : next r ≤ slot) (most : slot < next r + length r.sets) (free : taken_at r slot ≡ None) (may : MayBegin r command) (acts calls : List Command) where
+module _ (r : ReplicaState) (o : IsOrderly r) (bounded : IsBounded r) (slot : ℕ) (command : Command) (least : next r ≤ slot) (most : slot < next r + length r.sets) (free : taken_at r slot ≡ None) (may : MayBegin r command) (has : HasBallot r) (acts calls : List Command) where
   abbrev new : Flight Command
   new = record { slot = slot; value = command; voters = None }
 
@@ -241,6 +245,7 @@ module _ (r : ReplicaState) (o : IsOrderly r) (bounded : IsBounded r) (slot : �
     ];
     alone = alone_then;
     plain = o.plain;
+    asked = λ s from some. has;
   }
 
   pub begins_bounded : IsBounded begins
@@ -248,40 +253,59 @@ module _ (r : ReplicaState) (o : IsOrderly r) (bounded : IsBounded r) (slot : �
 
 -- ---- the pump
 
-orderly_from : (slot : ℕ) (sets : List (List ℕ)) (r : ReplicaState) (mails : List Mail) → IsOrderly r → IsBounded r → next r ≤ slot → slot + length sets ≡ next r + length r.sets → IsOrderly (pumped_from slot sets (r, mails)).0
+orderly_from : (slot : ℕ) (sets : List (List ℕ)) (r : ReplicaState) (mails : List Mail) → IsOrderly r → IsBounded r → HasBallot r → next r ≤ slot → slot + length sets ≡ next r + length r.sets → IsOrderly (pumped_from slot sets (r, mails)).0
 unfolding pumped_from
-orderly_from slot [] r mails o bounded least ends = o
-orderly_from slot (set ∷ sets) r mails o bounded least ends = by (is_some (taken_at r slot)) refl (λ q more oq bq from to. orderly_from (slot + 1) sets q more oq bq from to)
+orderly_from slot [] r mails o bounded has least ends = o
+orderly_from slot (set ∷ sets) r mails o bounded has least ends = by (is_some (taken_at r slot)) refl (λ q more oq bq hq from to. orderly_from (slot + 1) sets q more oq bq hq from to)
   where
     Rest : Type 0
-    Rest = (q : ReplicaState) (more : List Mail) → IsOrderly q → IsBounded q → next q ≤ slot + 1 → slot + 1 + length sets ≡ next q + length q.sets → IsOrderly (pumped_from (slot + 1) sets (q, more)).0
+    Rest = (q : ReplicaState) (more : List Mail) → IsOrderly q → IsBounded q → HasBallot q → next q ≤ slot + 1 → slot + 1 + length sets ≡ next q + length q.sets → IsOrderly (pumped_from (slot + 1) sets (q, more)).0
 
     goes : Found → Place
     goes f = elim (f.0) [ None ↦ f.1 | Some command ↦ pumped_from (slot + 1) sets (offered slot set command f.1) ]
 
     found : Rest → taken_at r slot ≡ None → (x : Option Command) (acts calls : List Command) (more : List Mail) → ((command : Command) → x ≡ Some command → MayBegin r command) → IsOrderly (goes (x, (record r { acts = acts; calls = calls }, more))).0
-    found rest free None acts calls more may = record { apart = o.apart; single = o.single; alone = o.alone; plain = o.plain }
+    found rest free None acts calls more may = record { apart = o.apart; single = o.single; alone = o.alone; plain = o.plain; asked = o.asked }
     found rest free (Some command) acts calls more may =
         let most : slot < next r + length r.sets = omega (arith, ends) in
         subst (λ (p : Place). IsOrderly (pumped_from (slot + 1) sets p).0) (sym (offered_is slot set command (record r { acts = acts; calls = calls }) more))
-        (rest (begins r o bounded slot command least most free (may command refl) acts calls) (sent_all r.me set (Accept (name_of r) r.leader.ballot slot command) more)
-        (begins_orderly r o bounded slot command least most free (may command refl) acts calls) (begins_bounded r o bounded slot command least most free (may command refl) acts calls) (omega (arith, least)) (omega (arith, ends)))
+        (rest (begins r o bounded slot command least most free (may command refl) has acts calls) (sent_all r.me set (Accept (name_of r) r.leader.ballot slot command) more)
+        (begins_orderly r o bounded slot command least most free (may command refl) has acts calls) (begins_bounded r o bounded slot command least most free (may command refl) has acts calls) has (omega (arith, least)) (omega (arith, ends)))
 
     offering : Rest → taken_at r slot ≡ None → (b : Bool) → IsOrderly (cond b (goes (found_for slot (r, mails))) (r, mails)).0
     offering rest free true = found_may (λ f. IsOrderly (goes f).0) r mails o.plain (found rest free) slot
     offering rest free false = o
 
     by : (b : Bool) → is_some (taken_at r slot) ≡ b → Rest → IsOrderly (cond b (pumped_from (slot + 1) sets (r, mails)) (cond (may_offer r set) (goes (found_for slot (r, mails))) (r, mails))).0
-    by true t rest = rest r mails o bounded (omega (arith, least)) (omega (arith, ends))
+    by true t rest = rest r mails o bounded has (omega (arith, least)) (omega (arith, ends))
     by false f rest = offering rest (none_is (taken_at r slot) f) (may_offer r set)
+
+-- more than none of some members have promised
+some_promised : (members promisers : List ℕ) → 1 ≤ votes_of members promisers → (who : ℕ) × (is_member promisers who ≡ true)
+some_promised [] promisers some = absurd (omega (arith, some))
+some_promised (x ∷ members) promisers some = elim (cases_Bool (is_member promisers x)) [
+  | inl t ↦ (x, t)
+  | inr f ↦ (let head = sum_by-cons (λ member. cond (is_member promisers member) 1 0) x members in
+      let none : ◌≡◌ {A = ℕ} (cond (is_member promisers x) 1 0) 0 = ap (λ b. cond {A = ℕ} b 1 0) f in
+      some_promised members promisers (omega (arith, some, head, none)))
+]
+
+settled_has : (r : ReplicaState) → settled r ≡ true → HasBallot r
+settled_has r t =
+    let may = (and_parts r.running (may_offer r (first_set r.sets)) t).1 in
+    let either_ = (and_parts (not (below r.leader.ballot r.acceptor.promised)) (r.leader.is_first || is_majority (first_set r.sets) r.leader.promisers) may).1 in
+    elim (or_cases r.leader.is_first (is_majority (first_set r.sets) r.leader.promisers) either_) [
+      | inl f ↦ inl f
+      | inr m ↦ inr (some_promised (first_set r.sets) r.leader.promisers (let lt = ltb-true (length (first_set r.sets)) (2 * votes_of (first_set r.sets) r.leader.promisers) m in omega (arith, lt)))
+    ]
 
 pub pump_orderly : (r : ReplicaState) (mails : List Mail) → IsOrderly r → IsBounded r → IsOrderly (pumped (r, mails)).0
 unfolding pumped
-pump_orderly r mails o bounded = by (settled r && nat_le (next r) last_slot)
+pump_orderly r mails o bounded = by (settled r && nat_le (next r) last_slot) refl
   where
-    by : (b : Bool) → IsOrderly (cond b (pumped_from (next r) r.sets (r, mails)) (r, mails)).0
-    by true = orderly_from (next r) r.sets r mails o bounded (omega arith) refl
-    by false = o
+    by : (b : Bool) → (settled r && nat_le (next r) last_slot) ≡ b → IsOrderly (cond b (pumped_from (next r) r.sets (r, mails)) (r, mails)).0
+    by true t = orderly_from (next r) r.sets r mails o bounded (settled_has r (and_parts (settled r) (nat_le (next r) last_slot) t).0) (omega arith) refl
+    by false f = o
 
 -- ---- other flights and other ready commands, where the same is taken at each slot
 
@@ -292,6 +316,7 @@ module _ (r : ReplicaState) (o : IsOrderly r) (slot : ℕ) (flight : Flight Comm
     single = λ s from some. none_still s (o.single s from some);
     alone = λ s other c from e act from_other some. o.alone s other c from (sym (same s) ∙ e) act from_other (ap is_some (sym (same other)) ∙ some);
     plain = o.plain;
+    asked = λ s from some. o.asked s from (ap is_some (sym (same s)) ∙ some);
   }
     where
       values : (x : Option (Flight Command)) → option_map (λ (f : Flight Command). f.value) (option_map (λ (f : Flight Command). record f { voters = voters }) x) ≡ option_map (λ (f : Flight Command). f.value) x
@@ -326,6 +351,7 @@ module _ (r : ReplicaState) (o : IsOrderly r) (slot : ℕ) (flight : Flight Comm
     ];
     alone = λ s other c from e act from_other some. o.alone s other c from (sym (same s) ∙ e) act from_other (ap is_some (sym (same other)) ∙ some);
     plain = o.plain;
+    asked = λ s from some. o.asked s from (ap is_some (sym (same s)) ∙ some);
   }
     where
       gone : flight_at slot (without_flight slot r.leader.flights) ≡ None

@@ -3,13 +3,13 @@ use Rattle.std.proofs.Common.{◌≡◌, ℕ, ◌<◌, ◌≤◌, ◌&&◌, eqb,
 use Rattle.std.proofs.lemmas.Bool.{cases_Bool, cases_eq, cond_both, eqb-true, and_parts}
 use Rattle.sc_base.specs.Among.{Each}
 use Rattle.sc_base.specs.declared.names.Ballot.{Ballot}
-use Rattle.sc_node_table.specs.Replica.{listed}
+use Rattle.sc_node_table.specs.Replica.{listed, next}
 use Rattle.sc_paxos_words.specs.Ballots.{below, IsAtLeast}
 use Rattle.sc_paxos_words.proofs.BallotLemmas.{at_least_below, at_least_from_below, not_both}
 use Rattle.sc_paxos_words.proofs.ListLemmas.{Each-append, Each-split, Each-weaker}
 use Rattle.sc_following_law.specs.Dated.{IsNoPrepare}
 use Rattle.sc_following_law.specs.Following.{Mark, Asks, Votes, Tells, Installs, Prepares, Promises, Progress, Sets, IsKnown, IsFollowing}
-use Rattle.sc_following_law.specs.Owning.{IsOtherPrepare, IsOwnPrepare, IsHome, ArePromisedLast, AreToldLast, IsOwnFirst, CountsOwn, CountsNone, OwnIsKept}
+use Rattle.sc_following_law.specs.Owning.{IsOtherPrepare, IsOwnPrepare, IsHome, ArePromisedLast, AreToldLast, IsOwnFirst, CountsOwn, CountsNone, OwnIsKept, LeadersCountOwn}
 use Rattle.sc_following_law.specs.Rows.{IsRow, IsIdle, IsCount, answered, Takes, told_from, Leads, Elects}
 use Rattle.sc_following_law.proofs.Keeps.{counts_of, each-row}
 use Rattle.sc_following_law.proofs.Marks.{offers-each, told-each, told-own}
@@ -225,4 +225,17 @@ own_is_kept = record {
   leads = λ at now after node taken sent marks marks_after row l was c o. leads_own at now after node taken sent marks marks_after row was o l c;
   elects = λ at now after node taken sent marks marks_after row e was c o. elects_own at now after node taken sent marks marks_after row was o e c;
   executes = λ at now after node taken sent marks l o some. executing at now after node taken sent marks l o some;
+}
+
+-- ---- tables
+
+pub leaders_count_own : LeadersCountOwn
+leaders_count_own at now taken r after was l orderly = record {
+  grown = λ on who m. elim (l.promisers on who m) [ inl old ↦ inl (was.counted who ∙ old) | inr takes ↦ inr takes ];
+  some = λ on later above.
+      (let led = (l.goes_on on).led in
+      elim ((orderly on).asked (next after.0) (omega arith) (led.may.taken (next after.0) (omega arith) above)) [
+        | inl first ↦ absurd (true≢false (sym first ∙ (led.first ∙ later)))
+        | inr w ↦ w
+      ]);
 }

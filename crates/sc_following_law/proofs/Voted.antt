@@ -36,7 +36,8 @@ use Rattle.sc_following_law.proofs.Polled.{HasVoted, vote_kept}
 
 module _ (at : Sets) (now : Progress) (taken : Option Mark) (r : ReplicaState) (was : IsLeadOf at now r) (takes : Each IsCount (listed taken))
     (ignored : (slot : ℕ) (voters : List ℕ) → voters_of r slot ≡ Some voters → (node : ℕ) → taken ≡ Some (Votes node now.course.ballot slot) → ⊥) (top : Ballot) (promisers : List ℕ) (reports : List (Report Command)) (acts calls : List Command)
-    (known : (who : ℕ) → is_member r.leader.promisers who ≡ true → is_member promisers who ≡ true) (counts : (who : ℕ) → taken ≡ Some (Promises who now.course.ballot) → is_member promisers who ≡ true) where
+    (known : (who : ℕ) → is_member r.leader.promisers who ≡ true → is_member promisers who ≡ true) (counts : (who : ℕ) → taken ≡ Some (Promises who now.course.ballot) → is_member promisers who ≡ true)
+    (new : (who : ℕ) → is_member promisers who ≡ true → (is_member r.leader.promisers who ≡ true) ⊎ (taken ≡ Some (Promises who now.course.ballot))) where
   -- another greatest ballot, others whose promises are counted, and other queues
   abbrev pub beside : ReplicaState
   beside = record r { top = top; leader = record r.leader { promisers = promisers; reports = reports }; acts = acts; calls = calls }
@@ -64,6 +65,7 @@ module _ (at : Sets) (now : Progress) (taken : Option Mark) (r : ReplicaState) (
     polled = was.polled;
     counted = known;
     counts = counts;
+    takes_new = new;
   }
 
 -- ---- the members of an open slot
@@ -123,7 +125,7 @@ module _ (at : Sets) (now : Progress) (from : ℕ) (ballot : Ballot) (slot : ℕ
 
   -- it is none for what is in flight
   stays : (ballot ≡ now.course.ballot → (voters : List ℕ) → voters_of r slot ≡ Some voters → ⊥) → P (childless (r, []))
-  stays none = plain r (counts_beside at now vote r was (tt, tt) (λ s voters e node t. other s voters e node t) r.top r.leader.promisers r.leader.reports r.acts r.calls (λ who m. m) no_promise) (λ o. o)
+  stays none = plain r (counts_beside at now vote r was (tt, tt) (λ s voters e node t. other s voters e node t) r.top r.leader.promisers r.leader.reports r.acts r.calls (λ who m. m) no_promise (λ who m. inl m)) (λ o. o)
     where
       other : (s : ℕ) (voters : List ℕ) → voters_of r s ≡ Some voters → (node : ℕ) → vote ≡ Some (Votes node now.course.ballot s) → ⊥
       other s voters e node t =
@@ -195,6 +197,7 @@ module _ (at : Sets) (now : Progress) (from : ℕ) (ballot : Ballot) (slot : ℕ
       ];
       counted = λ who m. m;
       counts = no_promise;
+      takes_new = λ who m. inl m;
     }
       where
         has_voted : (m : is_member (at slot) from ≡ true) → voters_of r slot ≡ Some (kept_voters flight.voters) → HasVoted (at slot) from flight.voters voters2
@@ -285,6 +288,7 @@ module _ (at : Sets) (now : Progress) (from : ℕ) (ballot : Ballot) (slot : ℕ
       polled = λ s voters e. was.polled s voters (sym (deciding_same s (away s voters e)) ∙ e);
       counted = λ who m. m;
       counts = no_promise;
+      takes_new = λ who m. inl m;
     }
 
     -- ---- either

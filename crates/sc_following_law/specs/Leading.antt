@@ -57,13 +57,14 @@ progress_by bound now r = record {
   course = record now.course { newest = next r; bound = bound; runs = r.running; gone = is_some r.group.core.gone; voters = voters_of r; counted = λ node. is_member r.leader.promisers node };
 }
 
--- A row of a replica that leads is a leader's row in the progress of its group; it is a member after each entry that it executes but the last, and if it leads on, it leads in the progress after it.
+-- A row of a replica that leads is a leader's row in the progress of its group; it is a member after each entry that it executes but the last, counts no promise but one that it takes, and if it leads on, it leads in the progress after it.
 pub record LeadsInto (at : Sets) (now : Progress) (taken : Option Mark) (r : ReplicaState) (after : Place) : Type 0 where
   pub me : after.0.me ≡ r.me
   pub named : name_of after.0 ≡ name_of r
   pub bound : ℕ
   pub stayed : (slot : ℕ) → next r ≤ slot → suc slot < next after.0 → is_member (members_at at (slot + 1)) r.me ≡ true
   pub leads : Leads at now (progress_by bound now after.0) r.me taken (λ who. marks_for (name_of r) who after.1)
+  pub promisers : after.0.running ≡ true → (who : ℕ) → is_member after.0.leader.promisers who ≡ true → (is_member r.leader.promisers who ≡ true) ⊎ (taken ≡ Some (Promises who now.course.ballot))
   pub goes_on : after.0.running ≡ true → IsLeadOf at (progress_by bound now after.0) after.0
 
 -- the entries from this one on that are ready are the next ones, one after another

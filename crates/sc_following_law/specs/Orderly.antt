@@ -1,12 +1,12 @@
 -- What a leader has in flight and ready: one command at a slot, and anything but a call or a filler alone.
-use Rattle.std.specs.Prelude.{◌≡◌, ℕ, ◌≤◌, Bool, true, List, [], ◌∷◌, Some, None, is_some}
+use Rattle.std.specs.Prelude.{◌≡◌, ℕ, ◌≤◌, Bool, true, List, [], ◌∷◌, Some, None, is_some, ◌⊎◌}
 use Rattle.sc_base.specs.Drawing.{Drawer}
 use Rattle.sc_base.specs.declared.names.Ballot.{Ballot}
 use Rattle.sc_cmd.specs.declared.commands.Command.{Command}
 use Rattle.sc_cmd.specs.declared.orders.OrderLine.{OrderLine}
 use Rattle.sc_mail.specs.declared.bodies.MailBody.{MailBody}
 use Rattle.sc_mail.specs.declared.bodies.MailBody.TheVariants.{Promise, Accepted}
-use Rattle.sc_member.specs.Roster.{IsRoster}
+use Rattle.sc_member.specs.Roster.{IsRoster, is_member}
 use Rattle.sc_paxos_words.specs.declared.flights.Flight.{Flight}
 use Rattle.sc_paxos_words.specs.Leaders.{flight_at}
 use Rattle.sc_node_table.specs.declared.ReplicaInput.TheVariants as Given
@@ -23,12 +23,17 @@ abbrev pub AreApart : List (Flight Command) → Type 0
 AreApart [] = Unit {0}
 AreApart (flight ∷ flights) = (flight_at flight.slot flights ≡ None) × AreApart flights
 
--- nor is one in flight where one is ready; where anything but a call or a filler is in flight or ready, nothing else is; and no promise that is counted had reports
+-- anything may be offered in the group's first ballot, and else once a promise is counted
+abbrev pub HasBallot : ReplicaState → Type 0
+HasBallot r = (r.leader.is_first ≡ true) ⊎ ((who : ℕ) × (is_member r.leader.promisers who ≡ true))
+
+-- nor is one in flight where one is ready; where anything but a call or a filler is in flight or ready, nothing else is; no promise that is counted had reports; and what is in flight or ready was offered in a ballot that may be
 pub record IsOrderly (r : ReplicaState) : Type 0 where
   pub apart : AreApart r.leader.flights
   pub single : (slot : ℕ) → next r ≤ slot → is_some (at_slot r.ready slot) ≡ true → flight_at slot r.leader.flights ≡ None
   pub alone : (slot other : ℕ) (command : Command) → next r ≤ slot → taken_at r slot ≡ Some command → is_act command ≡ true → next r ≤ other → is_some (taken_at r other) ≡ true → other ≡ slot
   pub plain : r.leader.reports ≡ []
+  pub asked : (slot : ℕ) → next r ≤ slot → is_some (taken_at r slot) ≡ true → HasBallot r
 
 -- so it is at one that leads in a course, and after each row of one that leads and leads on
 pub record OrderIsKept : Type 0 where

@@ -2,9 +2,12 @@
 use Rattle.std.specs.Prelude.{◌≡◌, ℕ, suc, ◌<◌, ◌≤◌, true, false, List, [], ◌∷◌, Option, Some, ◌⊎◌}
 use Rattle.sc_base.specs.Among.{Each}
 use Rattle.sc_base.specs.declared.names.Ballot.{Ballot}
+use Rattle.sc_node_table.specs.Replica.{ReplicaState, Place}
 use Rattle.sc_paxos_words.specs.Ballots.{IsAtLeast}
 use Rattle.sc_following_law.specs.Dated.{IsNoPrepare}
 use Rattle.sc_following_law.specs.Following.{Mark, Asks, Votes, Tells, Installs, Prepares, Promises, Course, Progress, Sets, members_at, IsFollowing}
+use Rattle.sc_following_law.specs.Leading.{IsLeadOf, progress_by, LeadsInto}
+use Rattle.sc_following_law.specs.Orderly.{IsOrderly}
 use Rattle.sc_following_law.specs.Rows.{IsRow, IsIdle, Takes, Leads, Elects, begun}
 
 -- nothing asks to promise this ballot
@@ -95,3 +98,8 @@ pub record OwnIsKept : Type 0 where
   pub leads : KeepsOwn Leads CountsOwn
   pub elects : KeepsOwn Elects CountsNone
   pub executes : (at : Sets) (now after : Progress) (node : ℕ) (taken : Option Mark) (sent marks : ℕ → List Mark) (l : Leads at now after node taken sent) → IsOwnFirst now marks → 1 ≤ l.executed → Each IsNoPrepare (marks node)
+
+-- a leader's row in the table, after which what it has in flight and ready is in order, is one of a leader that counts so
+abbrev pub LeadersCountOwn : Type 0
+LeadersCountOwn =
+    (at : Sets) (now : Progress) (taken : Option Mark) (r : ReplicaState) (after : Place) → IsLeadOf at now r → (l : LeadsInto at now taken r after) → (after.0.running ≡ true → IsOrderly after.0) → CountsOwn now (progress_by l.bound now after.0) taken

@@ -12,7 +12,7 @@ ghost use Rattle.sc_following_law.specs.Hints.{HintsAreKept, NodesHeed};
 ghost use Rattle.sc_following_law.specs.Leading.{ActsStopAlone, OwnRowsKeep, RowsLead};
 ghost use Rattle.sc_following_law.specs.Offers.{PumpsOffer};
 ghost use Rattle.sc_following_law.specs.Orderly.{OrderIsKept};
-ghost use Rattle.sc_following_law.specs.Owning.{OwnIsKept};
+ghost use Rattle.sc_following_law.specs.Owning.{LeadersCountOwn, OwnIsKept};
 ghost use Rattle.sc_following_law.specs.Rows.{GroupsBeginFollowing, IdleRowsKeep, LeadersKeep, ElectionsKeep, TakersKeep, QuietGroupsAreEven};
 ghost use Rattle.sc_following_law.specs.Tables.{EntriesTell, StatesMake, TablesElect, TablesFollow};
 
@@ -200,4 +200,9 @@ pub fn steps_take()
 /// executes an entry: each kind of row keeps it.
 pub fn own_is_kept()
     ensures { OwnIsKept }
+{}
+
+/// A leader's row in the table is one of a leader that counts so.
+pub fn leaders_count_own()
+    ensures { LeadersCountOwn }
 {}

@@ -7,3 +7,4 @@ mod Printed
 mod Rows
 mod Verdicts
 mod WholeLines
+mod Feeds

@@ -2,6 +2,7 @@
 ghost use Rattle.std.specs.Prelude.{◌≡◌, ◌≤◌, ◌==◌, ◌+◌, ◌<◌, ◌^◌, length, position, MatchOption, IfSome, None};
 ghost use Rattle.sc_journal_file.specs.Files.{front_of, has_empty_end, scenario_text, IsCut};
 
+use memchr::memchr;
 use sc_lines::is_text;
 
 /// What stands before the line `journal` and behind it.
@@ -16,10 +17,11 @@ pub struct StoredText<'a> {
 }
 
 /// The place of the first line feed.
+#[tactic(auto, using(crate::proofs::Feeds::first_is))]
 pub(crate) fn feed_at(text: &[u8]) -> Option<usize>
     ensures { result ≡ position (λ byte. byte == 10) text.now }
 {
-    text.iter().position(|byte| *byte == b'\n')
+    memchr(b'\n', text)
 }
 
 // How many bytes and lines stand before the line `journal`, if there is one.
