@@ -1,0 +1,172 @@
+-- That an order stays under way: by the laws of tables, and the kinds of rows.
+use Rattle.std.proofs.Common.{◌≡◌, ℕ, Bool, true, false, List, [], ◌∷◌, Some, None, refl, sym, ◌∙◌, ap, subst}
+use Rattle.std.specs.Option.{option_map}
+use Rattle.sc_base.specs.declared.names.Draw.{Draw}
+use Rattle.sc_cmd.specs.declared.orders.OrderLine.{OrderLine}
+use Rattle.sc_mail.specs.declared.bodies.Mail.{Mail}
+use Rattle.sc_mail.specs.declared.bodies.MailBody.{MailBody}
+use Rattle.sc_mail.specs.declared.bodies.MailBody.TheVariants.{Accept, Prepare, Promise, Nack, Learn, Install, TxPrepare, TxVote, TxOutcome, TxElsewhere, TxWatch, TxWatched}
+use Rattle.sc_actor.specs.declared.actors.Seat.{Seat}
+use Rattle.sc_actor.specs.declared.rows.Event.{Event}
+use Rattle.sc_actor.specs.declared.rows.Event.TheVariants.{Deliver}
+use Rattle.sc_actor.specs.Mail.{mails}
+use Rattle.sc_node_table.specs.Node.{absent}
+use Rattle.sc_node_table.specs.Replica.{ReplicaState, Place, name_of}
+use Rattle.sc_node_table.specs.Rows.{mailed}
+use Rattle.sc_sound.specs.Players.{Player}
+use Rattle.sc_calm_law.specs.Totals.{Rows}
+use Rattle.sc_calm_orders_law.specs.Scenes.{Asking, is_watch, Turn, Errand, Question, Elsewhere, Reply, Result, Work, Answers, Records, Ends, IsOnly}
+use Rattle.sc_calm_orders_law.specs.Rows.{Kind, Keeps, Rests, PassesOn, AsksOn, Files, work_for}
+use Rattle.sc_calm_orders_law.specs.Parts.{bond_of, is_yes, is_cast_yes, works, errand_by, errands_for}
+use Rattle.sc_calm_orders_law.specs.Tables.{Works}
+use Rattle.sc_calm_orders_law.proofs.Filing.{tables-file, tables-pass, tables-ask-on}
+use Rattle.sc_calm_orders_law.proofs.Questions.{passes-keep, asks-keep, files-keep}
+use Rattle.sc_calm_orders_law.proofs.Resting.{tables-rest, promises-keep}
+use Rattle.sc_calm_orders_law.proofs.Told.{rests-keep}
+use Rattle.sc_calm_rows_law.specs.Turns.{with_event}
+use Rattle.sc_calm_rows_law.proofs.Turning.{found_name}
+use Rattle.sc_calm_scenes_law.specs.Scenes.{scene_at, errand_in, taken_errand}
+use Rattle.sc_calm_scenes_law.specs.Turns.{errands_sent, IsSceneKind, IsOfGroup, IsTablesRow}
+use Rattle.sc_calm_scenes_law.specs.Kinds.{Stays, IsLeadsRow}
+use Rattle.sc_calm_scenes_law.specs.Kept.{KeepsStage, ComesTo, ComesToLeader, LeadersKeep, IsBeside, Led, Unled, ComesBeside, ComesToNone, AsidesKeep}
+use Rattle.sc_calm_scenes_law.proofs.Doing.{only_as, asides_stay, asides_are, leaders_are}
+use Rattle.sc_calm_scenes_law.proofs.Taking.{takes, misses}
+use Rattle.sc_calm_scenes_law.proofs.Turning.{rows_are}
+
+-- a row of such a kind keeps the stage
+pub keeps_by : (Does : Kind) → Keeps Does → (words : ℕ → ℕ → ℕ × ℕ) (births : List (Seat Player)) (rows : Rows) (seat : Seat Player) (event : Event OrderLine) (group : Draw)
+    → IsOfGroup words births rows seat event group → IsSceneKind Does births rows seat event group → KeepsStage births rows seat event
+keeps_by Does keeps words births rows seat event group of does =
+    keeps (scene_at births rows) (scene_at births (with_event rows seat event)) group (taken_errand (mails rows) event) (errands_sent rows seat event) (rows_are words births rows seat event group of) does
+
+module _ (words : ℕ → ℕ → ℕ × ℕ) (births : List (Seat Player)) (rows : Rows) (seat : Seat Player) (number : ℕ) (mail : Mail) (group : Draw) where
+  abbrev event : Event OrderLine
+  event = Deliver number
+
+  module _ (r : ReplicaState) where
+    -- the row of the replica
+    abbrev pub after : Place
+    after = (mailed mail.from mail.body (r, [])).0
+
+    pub row_of_comes : ComesTo words births rows seat number mail group r → IsOfGroup words births rows seat event group × IsTablesRow births rows seat event group r after
+    row_of_comes c = takes words births rows seat number mail group c.node c.taking r c.here c.children
+
+    pub errand_is : ComesTo words births rows seat number mail group r → (body : MailBody) → mail.body ≡ body → taken_errand (mails rows) event ≡ option_map (λ entry. entry.1) (errand_by mail.from mail.to body)
+    errand_is c body e = ap (λ o. option_map (λ entry. entry.1) (errand_in o)) c.taking.sent ∙ ap (λ b. option_map (λ entry. entry.1) (errand_by mail.from mail.to b)) e
+
+    leads_row : ComesToLeader words births rows seat number mail group r → (done : List Work) (sent : List (Draw × List Errand)) (body : MailBody) → mail.body ≡ body → Works done sent r (mailed mail.from body (r, [])).0
+        → IsLeadsRow births rows seat event group done sent r after
+    leads_row c done sent body e works_so = record {
+      leads = c.leads;
+      table = (row_of_comes c.comes).1;
+      works_so = subst (λ b. Works done sent r (mailed mail.from b (r, [])).0) (sym e) works_so;
+    }
+
+    pub lead_rests : ComesToLeader words births rows seat number mail group r → (body : MailBody) → mail.body ≡ body → option_map (λ entry. entry.1) (errand_by mail.from mail.to body) ≡ None
+        → Works (works r) [] r (mailed mail.from body (r, [])).0 → KeepsStage births rows seat event
+    lead_rests c body e none works_so =
+        keeps_by Rests rests-keep words births rows seat event group (row_of_comes c.comes).0
+        (leaders_are.rests births rows seat event group r after (leads_row c (works r) [] body e works_so) (errand_is c.comes body e ∙ none))
+
+    lead_files : ComesToLeader words births rows seat number mail group r → (body : MailBody) → mail.body ≡ body → (errand : Errand) (filed : Work) → option_map (λ entry. entry.1) (errand_by mail.from mail.to body) ≡ Some errand
+        → work_for errand ≡ Some filed → works r ≡ [] → Works (filed ∷ []) [] r (mailed mail.from body (r, [])).0 → KeepsStage births rows seat event
+    lead_files c body e errand filed takes_it files idle works_so =
+        keeps_by Files files-keep words births rows seat event group (row_of_comes c.comes).0
+        (leaders_are.files births rows seat event group errand filed r after (leads_row c (filed ∷ []) [] body e works_so) idle (errand_is c.comes body e ∙ takes_it) files)
+
+    lead_asks : ComesToLeader words births rows seat number mail group r → (tx coord asked : Draw) (turn : Turn) (to : ℕ) → mail.body ≡ TxElsewhere tx coord (Some to) → r.me ≡ seat.who → bond_of r.group.core ≡ Asking tx asked turn
+        → Works (works r) ((asked, Question tx (name_of r) (is_watch turn) r.me to ∷ []) ∷ []) r (mailed mail.from (TxElsewhere tx coord (Some to)) (r, [])).0 → KeepsStage births rows seat event
+    lead_asks c tx coord asked turn to e me asking works_so =
+        let own : name_of r ≡ group = found_name group c.comes.node.replicas r c.comes.here in
+        let named = subst (λ n. Works (works r) ((asked, Question tx n (is_watch turn) r.me to ∷ []) ∷ []) r (mailed mail.from (TxElsewhere tx coord (Some to)) (r, [])).0) own works_so in
+        let whole = subst (λ n. Works (works r) ((asked, Question tx group (is_watch turn) n to ∷ []) ∷ []) r (mailed mail.from (TxElsewhere tx coord (Some to)) (r, [])).0) me named in
+        keeps_by AsksOn asks-keep words births rows seat event group (row_of_comes c.comes).0
+        (leaders_are.asks births rows seat event group tx asked turn to mail.to r after (leads_row c (works r) ((asked, Question tx group (is_watch turn) seat.who to ∷ []) ∷ []) (TxElsewhere tx coord (Some to)) e whole) asking
+        (errand_is c.comes (TxElsewhere tx coord (Some to)) e))
+
+    -- ---- beside the leader
+
+    stays_by : ComesBeside words births rows seat number mail group r → IsBeside births rows seat event group after → Stays births rows seat event group
+    stays_by c (Led node lead leads ne stops) = asides_stay.aside births rows seat event group node lead r after leads ne (row_of_comes c.comes).1 stops
+    stays_by c (Unled u) = asides_stay.unled births rows seat event group r after (row_of_comes c.comes).1 u
+
+    sends_by : ComesBeside words births rows seat number mail group r → (body : MailBody) → mail.body ≡ body → (sent : List (Draw × List Errand)) → IsOnly [] sent (λ n. errands_for n (mailed mail.from body (r, [])).0.1)
+        → IsOnly [] sent (errands_sent rows seat event)
+    sends_by c body e sent only =
+        only_as sent (λ n. errands_for n after.1) (errands_sent rows seat event) (λ n. ap (errands_for n) (row_of_comes c.comes).1.sends)
+        (subst (λ b. IsOnly [] sent (λ n. errands_for n (mailed mail.from b (r, [])).0.1)) (sym e) only)
+
+    aside_rests : ComesBeside words births rows seat number mail group r → (body : MailBody) → mail.body ≡ body → option_map (λ entry. entry.1) (errand_by mail.from mail.to body) ≡ None
+        → IsOnly [] [] (λ n. errands_for n (mailed mail.from body (r, [])).0.1) → KeepsStage births rows seat event
+    aside_rests c body e none only =
+        keeps_by Rests rests-keep words births rows seat event group (row_of_comes c.comes).0
+        (asides_are.rests births rows seat event group (stays_by c c.beside) (errand_is c.comes body e ∙ none) (sends_by c body e [] only))
+
+    aside_passes : ComesBeside words births rows seat number mail group r → (body : MailBody) → mail.body ≡ body → (tx coord : Draw) (watch : Bool) (by : ℕ)
+        → option_map (λ entry. entry.1) (errand_by mail.from mail.to body) ≡ Some (Question tx coord watch by mail.to) → by ≡ mail.from
+        → IsOnly [] ((coord, Elsewhere tx mail.from ∷ []) ∷ []) (λ n. errands_for n (mailed mail.from body (r, [])).0.1) → KeepsStage births rows seat event
+    aside_passes c body e tx coord watch by takes_it from only =
+        keeps_by PassesOn passes-keep words births rows seat event group (row_of_comes c.comes).0
+        (asides_are.passes births rows seat event group tx coord watch by mail.to (stays_by c c.beside) (errand_is c.comes body e ∙ takes_it)
+        (subst (λ n. IsOnly [] ((coord, Elsewhere tx n ∷ []) ∷ []) (errands_sent rows seat event)) (sym from) (sends_by c body e ((coord, Elsewhere tx mail.from ∷ []) ∷ []) only)))
+
+  -- ---- where there is no replica
+
+  none_passes : ComesToNone words births rows seat number mail group → (body : MailBody) → mail.body ≡ body → (entry : Draw × Errand) → errand_by mail.from mail.to body ≡ Some entry → (tx coord : Draw) (watch : Bool) (by : ℕ)
+      → entry.1 ≡ Question tx coord watch by mail.to → by ≡ mail.from → ((me : ℕ) → IsOnly [] ((coord, Elsewhere tx mail.from ∷ []) ∷ []) (λ n. errands_for n (absent me mail.from body))) → KeepsStage births rows seat event
+  none_passes c body e entry errand tx coord watch by is from only =
+      let has : errand_by mail.from mail.to mail.body ≡ Some entry = ap (errand_by mail.from mail.to) e ∙ errand in
+      let row = misses words births rows seat number mail group c.node c.taking entry c.none has in
+      let sends : (n : Draw) → errands_sent rows seat event n ≡ errands_for n (absent c.node.me mail.from body) = λ n. ap (errands_for n) (row.2 ∙ ap (absent c.node.me mail.from) e) in
+      let sent = only_as ((coord, Elsewhere tx mail.from ∷ []) ∷ []) (λ n. errands_for n (absent c.node.me mail.from body)) (errands_sent rows seat event) sends (only c.node.me) in
+      keeps_by PassesOn passes-keep words births rows seat event group row.0
+      (asides_are.passes births rows seat event group tx coord watch by mail.to (asides_stay.missed births rows seat event group row.1)
+      (ap (λ o. option_map (λ x. x.1) (errand_in o)) c.taking.sent ∙ (ap (option_map (λ x. x.1)) has ∙ ap Some is))
+      (subst (λ n. IsOnly [] ((coord, Elsewhere tx n ∷ []) ∷ []) (errands_sent rows seat event)) (sym from) sent))
+
+pub leaders_keep : LeadersKeep
+leaders_keep = record {
+  offer = λ words births rows seat number mail group r tx offer c e may none.
+      lead_files words births rows seat number mail group r c (TxPrepare tx offer) e (Question tx offer.coord false offer.by mail.to) (Answers tx offer.coord false offer.by) refl refl may.idle (tables-file.offer mail.from tx offer r may none);
+  watch = λ words births rows seat number mail group r tx watch c e may none.
+      lead_files words births rows seat number mail group r c (TxWatch tx watch) e (Question tx watch.coord true watch.by mail.to) (Answers tx watch.coord true watch.by) refl refl may.idle (tables-file.watch mail.from tx watch r may none);
+  vote = λ words births rows seat number mail group r tx coord part vote asked turn c e may asking first none.
+      lead_files words births rows seat number mail group r c (TxVote tx coord part vote) e (Reply tx false (is_yes vote) mail.from mail.to) (Records tx false (is_yes vote) mail.from) refl refl may.idle
+      (tables-file.vote mail.from tx coord part vote asked turn r may asking first none);
+  watched = λ words births rows seat number mail group r tx coord part vote asked turn c e may asking later none.
+      lead_files words births rows seat number mail group r c (TxWatched tx coord part vote) e (Reply tx true (is_cast_yes vote) mail.from mail.to) (Records tx true (is_cast_yes vote) mail.from) refl refl may.idle
+      (tables-file.watched mail.from tx coord part vote asked turn r may asking later none);
+  outcome = λ words births rows seat number mail group r tx part outcome c e may bound.
+      lead_files words births rows seat number mail group r c (TxOutcome tx part outcome) e (Result tx mail.to) (Ends tx) refl refl may.idle (tables-file.outcome mail.from tx part outcome r may bound);
+  elsewhere = λ words births rows seat number mail group r tx coord asked turn to c e me settles asking.
+      lead_asks words births rows seat number mail group r c tx coord asked turn to e me asking (tables-ask-on mail.from to tx coord asked turn r settles asking);
+  accept = λ words births rows seat number mail group r named ballot slot command c e goes.
+      lead_rests words births rows seat number mail group r c (Accept named ballot slot command) e refl (tables-rest.accept mail.from named ballot slot command r goes);
+  prepare = λ words births rows seat number mail group r named ballot from_slot c e goes.
+      lead_rests words births rows seat number mail group r c (Prepare named ballot from_slot) e refl (tables-rest.prepare mail.from named ballot from_slot r goes);
+  nack = λ words births rows seat number mail group r named ballot c e goes.
+      lead_rests words births rows seat number mail group r c (Nack named ballot) e refl (tables-rest.nack mail.from named ballot r goes);
+  promise = λ words births rows seat number mail group r named ballot work c e unbound one.
+      lead_rests words births rows seat number mail group r c (Promise named ballot []) e refl
+      (subst (λ w. Works w [] r (mailed mail.from (Promise named ballot []) (r, [])).0) (sym one) (promises-keep mail.from named ballot work r unbound one));
+}
+
+pub asides_keep : AsidesKeep
+asides_keep = record {
+  offer = λ words births rows seat number mail group r tx offer c e by stopped none.
+      aside_passes words births rows seat number mail group r c (TxPrepare tx offer) e tx offer.coord false offer.by refl by (tables-pass.offer mail.from tx offer r stopped none).sends;
+  watch = λ words births rows seat number mail group r tx watch c e by stopped none.
+      aside_passes words births rows seat number mail group r c (TxWatch tx watch) e tx watch.coord true watch.by refl by (tables-pass.watch mail.from tx watch r stopped none).sends;
+  offer_missed = λ words births rows seat number mail group tx offer c e by.
+      none_passes words births rows seat number mail group c (TxPrepare tx offer) e (offer.part, Question tx offer.coord false offer.by mail.to) refl tx offer.coord false offer.by refl by (λ me. tables-pass.offer_missed me mail.from tx offer);
+  watch_missed = λ words births rows seat number mail group tx watch c e by.
+      none_passes words births rows seat number mail group c (TxWatch tx watch) e (watch.part, Question tx watch.coord true watch.by mail.to) refl tx watch.coord true watch.by refl by (λ me. tables-pass.watch_missed me mail.from tx watch);
+  accept = λ words births rows seat number mail group r named ballot slot command c e goes.
+      aside_rests words births rows seat number mail group r c (Accept named ballot slot command) e refl (tables-rest.accept mail.from named ballot slot command r goes).sends;
+  prepare = λ words births rows seat number mail group r named ballot from_slot c e goes.
+      aside_rests words births rows seat number mail group r c (Prepare named ballot from_slot) e refl (tables-rest.prepare mail.from named ballot from_slot r goes).sends;
+  learn = λ words births rows seat number mail group r named slot command c e idle.
+      aside_rests words births rows seat number mail group r c (Learn named slot command) e refl (tables-rest.learn mail.from named slot command r idle).sends;
+  install = λ words births rows seat number mail group r named slot base sets c e idle.
+      aside_rests words births rows seat number mail group r c (Install named slot base sets) e refl (tables-rest.install mail.from named slot base sets r idle).sends;
+}

@@ -1,0 +1,13 @@
+pub mod Counting
+pub mod Doing
+pub mod Fit
+pub mod Joining
+pub mod Keeping
+pub mod Left
+pub mod Newest
+pub mod Others
+pub mod Over
+pub mod Parts
+pub mod Taking
+pub mod Turning
+pub mod Viewing

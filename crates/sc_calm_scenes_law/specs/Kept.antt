@@ -1,0 +1,109 @@
+-- That an order stays under way, row by row: which mail its leader takes, and which comes to one that does not lead.
+use Rattle.std.specs.Prelude.{◌≡◌, ℕ, true, false, List, [], Option, Some, None}
+use Rattle.sc_base.specs.Among.{Each}
+use Rattle.sc_base.specs.declared.names.Ballot.{Ballot}
+use Rattle.sc_base.specs.declared.names.Draw.{Draw}
+use Rattle.sc_cmd.specs.declared.bodies.Offer.{Offer}
+use Rattle.sc_cmd.specs.declared.bodies.Watch.{Watch}
+use Rattle.sc_cmd.specs.declared.commands.Command.{Command}
+use Rattle.sc_cmd.specs.declared.cores.Base.{Base}
+use Rattle.sc_cmd.specs.declared.orders.OrderLine.{OrderLine}
+use Rattle.sc_cmd.specs.declared.votes.Outcome.{Outcome}
+use Rattle.sc_cmd.specs.declared.votes.Past.{Past}
+use Rattle.sc_cmd.specs.declared.votes.Vote.{Vote}
+use Rattle.sc_law_lemmas.specs.Steps.{GoesOn}
+use Rattle.sc_mail.specs.declared.bodies.Mail.{Mail}
+use Rattle.sc_mail.specs.declared.bodies.MailBody.TheVariants.{Accept, Prepare, Promise, Nack, Learn, Install, TxPrepare, TxVote, TxOutcome, TxElsewhere, TxWatch, TxWatched}
+use Rattle.sc_actor.specs.declared.actors.Seat.{Seat}
+use Rattle.sc_actor.specs.declared.rows.Event.{Event}
+use Rattle.sc_actor.specs.declared.rows.Event.TheVariants.{Deliver}
+use Rattle.sc_node_table.specs.Node.{NodeState, replica_of}
+use Rattle.sc_node_table.specs.Replica.{ReplicaState, Place, settled, listed}
+use Rattle.sc_node_table.specs.Rows.{mailed}
+use Rattle.sc_node_table.specs.Transactions.{standing_vote, noted_outcome}
+use Rattle.sc_sound.specs.Players.{Player}
+use Rattle.sc_calm_law.specs.Totals.{Rows}
+use Rattle.sc_calm_orders_law.specs.Scenes.{Turn, is_watch, Asking, Bound, Work}
+use Rattle.sc_calm_orders_law.specs.Stages.{IsUnderWay}
+use Rattle.sc_calm_orders_law.specs.Parts.{bond_of, works}
+use Rattle.sc_calm_orders_law.specs.Running.{IsIdle}
+use Rattle.sc_calm_orders_law.specs.Tables.{IsUnbound, MayFile}
+use Rattle.sc_calm_rows_law.specs.Turns.{with_event}
+use Rattle.sc_calm_scenes_law.specs.Scenes.{scene_at}
+use Rattle.sc_calm_scenes_law.specs.Turns.{LeadsAlone}
+use Rattle.sc_calm_scenes_law.specs.Kinds.{IsUnled}
+use Rattle.sc_calm_scenes_law.specs.Taken.{MayBear, IsTaking}
+
+-- an order that is under way before a row is so after it
+abbrev pub KeepsStage : List (Seat Player) → Rows → Seat Player → Event OrderLine → Type 0
+KeepsStage births rows seat event = IsUnderWay (scene_at births rows) → IsUnderWay (scene_at births (with_event rows seat event))
+
+-- a mail comes to a node with a replica of its group, and the children that the row makes may be made
+pub record ComesTo (words : ℕ → ℕ → ℕ × ℕ) (births : List (Seat Player)) (rows : Rows) (seat : Seat Player) (number : ℕ) (mail : Mail) (group : Draw) (r : ReplicaState) : Type 0 where
+  pub node : NodeState
+  pub taking : IsTaking words births rows seat number mail group node
+  pub here : replica_of group node.replicas ≡ Some r
+  pub children : Each (MayBear births rows seat) (mailed mail.from mail.body (r, [])).1
+
+-- .. that leads it alone
+pub record ComesToLeader (words : ℕ → ℕ → ℕ × ℕ) (births : List (Seat Player)) (rows : Rows) (seat : Seat Player) (number : ℕ) (mail : Mail) (group : Draw) (r : ReplicaState) : Type 0 where
+  pub comes : ComesTo words births rows seat number mail group r
+  pub leads : LeadsAlone births rows group seat.who r
+
+-- What comes to the leader keeps an order under way: a question on which no vote stands, a vote for which it waits, the outcome of the transaction that binds it, and that it is to ask elsewhere; and what is asked for or promised.
+pub record LeadersKeep : Type 0 where
+  pub offer : (words : ℕ → ℕ → ℕ × ℕ) (births : List (Seat Player)) (rows : Rows) (seat : Seat Player) (number : ℕ) (mail : Mail) (group : Draw) (r : ReplicaState) (tx : Draw) (offer : Offer)
+      → ComesToLeader words births rows seat number mail group r → mail.body ≡ TxPrepare tx offer → MayFile r → standing_vote r.group.core tx ≡ None → KeepsStage births rows seat (Deliver number)
+  pub watch : (words : ℕ → ℕ → ℕ × ℕ) (births : List (Seat Player)) (rows : Rows) (seat : Seat Player) (number : ℕ) (mail : Mail) (group : Draw) (r : ReplicaState) (tx : Draw) (watch : Watch)
+      → ComesToLeader words births rows seat number mail group r → mail.body ≡ TxWatch tx watch → MayFile r → standing_vote r.group.core tx ≡ None → KeepsStage births rows seat (Deliver number)
+  pub vote : (words : ℕ → ℕ → ℕ × ℕ) (births : List (Seat Player)) (rows : Rows) (seat : Seat Player) (number : ℕ) (mail : Mail) (group : Draw) (r : ReplicaState) (tx coord part : Draw) (vote : Vote) (asked : Draw) (turn : Turn)
+      → ComesToLeader words births rows seat number mail group r → mail.body ≡ TxVote tx coord part vote → MayFile r → bond_of r.group.core ≡ Asking tx asked turn → is_watch turn ≡ false → noted_outcome r.group.core tx ≡ None → KeepsStage births rows seat (Deliver number)
+  pub watched : (words : ℕ → ℕ → ℕ × ℕ) (births : List (Seat Player)) (rows : Rows) (seat : Seat Player) (number : ℕ) (mail : Mail) (group : Draw) (r : ReplicaState) (tx coord part : Draw) (vote : Past) (asked : Draw) (turn : Turn)
+      → ComesToLeader words births rows seat number mail group r → mail.body ≡ TxWatched tx coord part vote → MayFile r → bond_of r.group.core ≡ Asking tx asked turn → is_watch turn ≡ true → noted_outcome r.group.core tx ≡ None → KeepsStage births rows seat (Deliver number)
+  pub outcome : (words : ℕ → ℕ → ℕ × ℕ) (births : List (Seat Player)) (rows : Rows) (seat : Seat Player) (number : ℕ) (mail : Mail) (group : Draw) (r : ReplicaState) (tx part : Draw) (outcome : Outcome)
+      → ComesToLeader words births rows seat number mail group r → mail.body ≡ TxOutcome tx part outcome → MayFile r → bond_of r.group.core ≡ Bound tx → KeepsStage births rows seat (Deliver number)
+  pub elsewhere : (words : ℕ → ℕ → ℕ × ℕ) (births : List (Seat Player)) (rows : Rows) (seat : Seat Player) (number : ℕ) (mail : Mail) (group : Draw) (r : ReplicaState) (tx coord asked : Draw) (turn : Turn) (to : ℕ)
+      → ComesToLeader words births rows seat number mail group r → mail.body ≡ TxElsewhere tx coord (Some to) → r.me ≡ seat.who → settled r ≡ true → bond_of r.group.core ≡ Asking tx asked turn → KeepsStage births rows seat (Deliver number)
+  pub accept : (words : ℕ → ℕ → ℕ × ℕ) (births : List (Seat Player)) (rows : Rows) (seat : Seat Player) (number : ℕ) (mail : Mail) (group : Draw) (r : ReplicaState) (named : Draw) (ballot : Ballot) (slot : ℕ) (command : Command)
+      → ComesToLeader words births rows seat number mail group r → mail.body ≡ Accept named ballot slot command → GoesOn ballot r → KeepsStage births rows seat (Deliver number)
+  pub prepare : (words : ℕ → ℕ → ℕ × ℕ) (births : List (Seat Player)) (rows : Rows) (seat : Seat Player) (number : ℕ) (mail : Mail) (group : Draw) (r : ReplicaState) (named : Draw) (ballot : Ballot) (from_slot : ℕ)
+      → ComesToLeader words births rows seat number mail group r → mail.body ≡ Prepare named ballot from_slot → GoesOn ballot r → KeepsStage births rows seat (Deliver number)
+  pub nack : (words : ℕ → ℕ → ℕ × ℕ) (births : List (Seat Player)) (rows : Rows) (seat : Seat Player) (number : ℕ) (mail : Mail) (group : Draw) (r : ReplicaState) (named : Draw) (ballot : Ballot)
+      → ComesToLeader words births rows seat number mail group r → mail.body ≡ Nack named ballot → GoesOn ballot r → KeepsStage births rows seat (Deliver number)
+  pub promise : (words : ℕ → ℕ → ℕ × ℕ) (births : List (Seat Player)) (rows : Rows) (seat : Seat Player) (number : ℕ) (mail : Mail) (group : Draw) (r : ReplicaState) (named : Draw) (ballot : Ballot) (work : Option Work)
+      → ComesToLeader words births rows seat number mail group r → mail.body ≡ Promise named ballot [] → IsUnbound r → works r ≡ listed work → KeepsStage births rows seat (Deliver number)
+
+-- another replica leads alone, and this one does not run by its row; or none runs, and the newest state stays
+pub data IsBeside (births : List (Seat Player)) (rows : Rows) (seat : Seat Player) (event : Event OrderLine) (group : Draw) (after : Place) : Type 0 where
+  Led : (node : ℕ) (lead : ReplicaState) → LeadsAlone births rows group node lead → (node ≡ seat.who → ⊥) → after.0.running ≡ false → IsBeside births rows seat event group after
+  Unled : IsUnled births rows seat event group after.0 → IsBeside births rows seat event group after
+
+-- a mail comes to a replica that does not lead
+pub record ComesBeside (words : ℕ → ℕ → ℕ × ℕ) (births : List (Seat Player)) (rows : Rows) (seat : Seat Player) (number : ℕ) (mail : Mail) (group : Draw) (r : ReplicaState) : Type 0 where
+  pub comes : ComesTo words births rows seat number mail group r
+  pub beside : IsBeside births rows seat (Deliver number) group (mailed mail.from mail.body (r, [])).0
+
+-- a mail comes to a node without a replica of its group
+pub record ComesToNone (words : ℕ → ℕ → ℕ × ℕ) (births : List (Seat Player)) (rows : Rows) (seat : Seat Player) (number : ℕ) (mail : Mail) (group : Draw) : Type 0 where
+  pub node : NodeState
+  pub taking : IsTaking words births rows seat number mail group node
+  pub none : replica_of group node.replicas ≡ None
+
+-- What comes to another keeps it: a question of its sender, which is sent on, also where there is no replica; what is asked for; an entry that is learnt, and a state that is taken over.
+pub record AsidesKeep : Type 0 where
+  pub offer : (words : ℕ → ℕ → ℕ × ℕ) (births : List (Seat Player)) (rows : Rows) (seat : Seat Player) (number : ℕ) (mail : Mail) (group : Draw) (r : ReplicaState) (tx : Draw) (offer : Offer)
+      → ComesBeside words births rows seat number mail group r → mail.body ≡ TxPrepare tx offer → offer.by ≡ mail.from → r.running ≡ false → standing_vote r.group.core tx ≡ None → KeepsStage births rows seat (Deliver number)
+  pub watch : (words : ℕ → ℕ → ℕ × ℕ) (births : List (Seat Player)) (rows : Rows) (seat : Seat Player) (number : ℕ) (mail : Mail) (group : Draw) (r : ReplicaState) (tx : Draw) (watch : Watch)
+      → ComesBeside words births rows seat number mail group r → mail.body ≡ TxWatch tx watch → watch.by ≡ mail.from → r.running ≡ false → standing_vote r.group.core tx ≡ None → KeepsStage births rows seat (Deliver number)
+  pub offer_missed : (words : ℕ → ℕ → ℕ × ℕ) (births : List (Seat Player)) (rows : Rows) (seat : Seat Player) (number : ℕ) (mail : Mail) (group : Draw) (tx : Draw) (offer : Offer)
+      → ComesToNone words births rows seat number mail group → mail.body ≡ TxPrepare tx offer → offer.by ≡ mail.from → KeepsStage births rows seat (Deliver number)
+  pub watch_missed : (words : ℕ → ℕ → ℕ × ℕ) (births : List (Seat Player)) (rows : Rows) (seat : Seat Player) (number : ℕ) (mail : Mail) (group : Draw) (tx : Draw) (watch : Watch)
+      → ComesToNone words births rows seat number mail group → mail.body ≡ TxWatch tx watch → watch.by ≡ mail.from → KeepsStage births rows seat (Deliver number)
+  pub accept : (words : ℕ → ℕ → ℕ × ℕ) (births : List (Seat Player)) (rows : Rows) (seat : Seat Player) (number : ℕ) (mail : Mail) (group : Draw) (r : ReplicaState) (named : Draw) (ballot : Ballot) (slot : ℕ) (command : Command)
+      → ComesBeside words births rows seat number mail group r → mail.body ≡ Accept named ballot slot command → GoesOn ballot r → KeepsStage births rows seat (Deliver number)
+  pub prepare : (words : ℕ → ℕ → ℕ × ℕ) (births : List (Seat Player)) (rows : Rows) (seat : Seat Player) (number : ℕ) (mail : Mail) (group : Draw) (r : ReplicaState) (named : Draw) (ballot : Ballot) (from_slot : ℕ)
+      → ComesBeside words births rows seat number mail group r → mail.body ≡ Prepare named ballot from_slot → GoesOn ballot r → KeepsStage births rows seat (Deliver number)
+  pub learn : (words : ℕ → ℕ → ℕ × ℕ) (births : List (Seat Player)) (rows : Rows) (seat : Seat Player) (number : ℕ) (mail : Mail) (group : Draw) (r : ReplicaState) (named : Draw) (slot : ℕ) (command : Command)
+      → ComesBeside words births rows seat number mail group r → mail.body ≡ Learn named slot command → IsIdle r → KeepsStage births rows seat (Deliver number)
+  pub install : (words : ℕ → ℕ → ℕ × ℕ) (births : List (Seat Player)) (rows : Rows) (seat : Seat Player) (number : ℕ) (mail : Mail) (group : Draw) (r : ReplicaState) (named : Draw) (slot : ℕ) (base : Base) (sets : List (List ℕ))
+      → ComesBeside words births rows seat number mail group r → mail.body ≡ Install named slot base sets → IsIdle r → KeepsStage births rows seat (Deliver number)

@@ -1,0 +1,10 @@
+pub mod Counted
+pub mod Fitting
+pub mod Kept
+pub mod Kinds
+pub mod Making
+pub mod Quiet
+pub mod Resting
+pub mod Scenes
+pub mod Taken
+pub mod Turns

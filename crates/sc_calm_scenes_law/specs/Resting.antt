@@ -1,0 +1,36 @@
+-- Rows that are nothing to any order: of clients, of nodes that are told to go, and of nodes that get what is for no group, or not theirs.
+use Rattle.std.specs.Prelude.{◌≡◌, ℕ, false, List, Some, None}
+use Rattle.sc_cmd.specs.declared.orders.OrderLine.{OrderLine}
+use Rattle.sc_base.specs.declared.names.Draw.{Draw}
+use Rattle.sc_mail.specs.declared.bodies.Mail.{Mail}
+use Rattle.sc_mail.specs.declared.roles.Role.TheVariants.{Node, Client}
+use Rattle.sc_actor.specs.declared.actors.Seat.{Seat}
+use Rattle.sc_actor.specs.declared.rows.Event.{Event}
+use Rattle.sc_actor.specs.declared.rows.Event.TheVariants.{Deliver, Go, Told}
+use Rattle.sc_actor.specs.Mail.{mails, numbered}
+use Rattle.sc_actor.specs.Replay.{value}
+use Rattle.sc_client_table.specs.Client.{Client as ClientState}
+use Rattle.sc_orderly_law.specs.Timely.{AreInTime}
+use Rattle.sc_node_table.specs.Node.{NodeState, replica_of, group_of_mail, may_come, absent, unknown, group_of_order}
+use Rattle.sc_sound.specs.Players.{Player, player_table}
+use Rattle.sc_calm_law.specs.Charts.{players}
+use Rattle.sc_calm_law.specs.Totals.{Rows}
+use Rattle.sc_calm_orders_law.specs.Parts.{errand_by}
+use Rattle.sc_calm_rows_law.specs.Turns.{IsSeat, with_event}
+use Rattle.sc_calm_scenes_law.specs.Scenes.{errand_taken}
+use Rattle.sc_calm_scenes_law.specs.Kept.{KeepsStage, ComesToNone}
+
+-- Such a row keeps an order under way: where a client takes what is no errand, or goes; a node goes; it gets mail of no group, mail that may not come from its sender, or, without replica, mail of a group that is no errand and of which it makes none; or it is told an order of a group of which it has no replica.
+pub record OthersKeep : Type 0 where
+  pub client : (words : ℕ → ℕ → ℕ × ℕ) (births : List (Seat Player)) (rows : Rows) (seat : Seat Player) (event : Event OrderLine) (client : ClientState) → IsSeat births seat → AreInTime (players words births) (with_event rows seat event)
+      → value player_table seat rows ≡ Client client → errand_taken (mails rows) event ≡ None → KeepsStage births rows seat event
+  pub go : (words : ℕ → ℕ → ℕ × ℕ) (births : List (Seat Player)) (rows : Rows) (seat : Seat Player) (node : NodeState) → IsSeat births seat → AreInTime (players words births) (with_event rows seat Go)
+      → value player_table seat rows ≡ Node node → KeepsStage births rows seat Go
+  pub stray : (words : ℕ → ℕ → ℕ × ℕ) (births : List (Seat Player)) (rows : Rows) (seat : Seat Player) (number : ℕ) (mail : Mail) (node : NodeState) → IsSeat births seat → AreInTime (players words births) (with_event rows seat (Deliver number))
+      → value player_table seat rows ≡ Node node → numbered (mails rows) number ≡ Some mail → group_of_mail mail.body ≡ None → KeepsStage births rows seat (Deliver number)
+  pub barred : (words : ℕ → ℕ → ℕ × ℕ) (births : List (Seat Player)) (rows : Rows) (seat : Seat Player) (number : ℕ) (mail : Mail) (node : NodeState) → IsSeat births seat → AreInTime (players words births) (with_event rows seat (Deliver number))
+      → value player_table seat rows ≡ Node node → numbered (mails rows) number ≡ Some mail → may_come mail.from mail.body ≡ false → errand_by mail.from mail.to mail.body ≡ None → KeepsStage births rows seat (Deliver number)
+  pub missed : (words : ℕ → ℕ → ℕ × ℕ) (births : List (Seat Player)) (rows : Rows) (seat : Seat Player) (number : ℕ) (mail : Mail) (group : Draw) (c : ComesToNone words births rows seat number mail group)
+      → errand_by mail.from mail.to mail.body ≡ None → unknown mail.from mail.body c.node ≡ (c.node, absent c.node.me mail.from mail.body) → KeepsStage births rows seat (Deliver number)
+  pub refused : (words : ℕ → ℕ → ℕ × ℕ) (births : List (Seat Player)) (rows : Rows) (seat : Seat Player) (line : OrderLine) (node : NodeState) → IsSeat births seat → AreInTime (players words births) (with_event rows seat (Told line))
+      → value player_table seat rows ≡ Node node → replica_of (group_of_order line.order) node.replicas ≡ None → KeepsStage births rows seat (Told line)

@@ -1,0 +1,58 @@
+-- Who takes a mail or an order: its row is one of its group, and the replica there does what its table says.
+use Rattle.std.specs.Prelude.{◌≡◌, ℕ, ◌==◌, true, false, List, [], Some, None, ◌⊎◌}
+use Rattle.sc_base.specs.Among.{Each}
+use Rattle.sc_base.specs.declared.names.Draw.{Draw}
+use Rattle.sc_cmd.specs.declared.cores.Base.{Base}
+use Rattle.sc_cmd.specs.declared.cores.Lock.TheVariants.{Free}
+use Rattle.sc_cmd.specs.declared.orders.OrderLine.{OrderLine}
+use Rattle.sc_mail.specs.declared.bodies.Mail.{Mail}
+use Rattle.sc_mail.specs.declared.roles.Role.TheVariants.{Node}
+use Rattle.sc_actor.specs.declared.actors.Seat.{Seat}
+use Rattle.sc_actor.specs.declared.rows.Event.TheVariants.{Deliver, Told}
+use Rattle.sc_actor.specs.Mail.{mails, numbered}
+use Rattle.sc_actor.specs.Replay.{value}
+use Rattle.sc_actor.specs.System.{row_of}
+use Rattle.sc_orderly_law.specs.Timely.{AreInTime}
+use Rattle.sc_node_table.specs.Node.{NodeState, replica_of, group_of_mail, may_come, absent, group_of_order}
+use Rattle.sc_node_table.specs.Ordering.{ordered_row}
+use Rattle.sc_node_table.specs.Replica.{ReplicaState}
+use Rattle.sc_node_table.specs.Rows.{mailed}
+use Rattle.sc_sound.specs.Players.{Player, player_table}
+use Rattle.sc_calm_law.specs.Charts.{players}
+use Rattle.sc_calm_law.specs.Totals.{Rows}
+use Rattle.sc_calm_orders_law.specs.Scenes.{Unbound, Errand}
+use Rattle.sc_calm_orders_law.specs.Parts.{errand_by}
+use Rattle.sc_calm_rows_law.specs.Groups.{view_at}
+use Rattle.sc_calm_rows_law.specs.Turns.{IsSeat, with_event}
+use Rattle.sc_calm_scenes_law.specs.Scenes.{scene_at}
+use Rattle.sc_calm_scenes_law.specs.Turns.{NewestAreBound, IsOfGroup, IsTablesRow}
+
+-- a child that may be made at a seat: it is free, its newest replicas are, and its own replica there does not run, or none does yet
+pub record MayBear (births : List (Seat Player)) (rows : Rows) (seat : Seat Player) (child : Base) : Type 0 where
+  pub free : child.core.lock ≡ Free
+  pub newest : NewestAreBound births rows child.core.id Unbound
+  pub first : ((child.core.first == seat.who) ≡ false) ⊎ ((scene_at births rows).lead child.core.id ≡ None)
+
+-- a node at a seat takes a mail in time
+pub record IsTaking (words : ℕ → ℕ → ℕ × ℕ) (births : List (Seat Player)) (rows : Rows) (seat : Seat Player) (number : ℕ) (mail : Mail) (group : Draw) (node : NodeState) : Type 0 where
+  pub seated : IsSeat births seat
+  pub timely : AreInTime (players words births) (with_event rows seat (Deliver number))
+  pub is_node : value player_table seat rows ≡ Node node
+  pub me_is : node.me ≡ seat.who
+  pub sent : numbered (mails rows) number ≡ Some mail
+  pub comes : may_come mail.from mail.body ≡ true
+  pub named : group_of_mail mail.body ≡ Some group
+
+-- Its row is one of the mail's group, and what it does there is what the table of the replica does; where it has none, and the mail is an errand, it answers as one without.
+pub record RowsAreTaken : Type 0 where
+  pub taken : (words : ℕ → ℕ → ℕ × ℕ) (births : List (Seat Player)) (rows : Rows) (seat : Seat Player) (number : ℕ) (mail : Mail) (group : Draw) (node : NodeState) (r : ReplicaState)
+      → IsTaking words births rows seat number mail group node → replica_of group node.replicas ≡ Some r → Each (MayBear births rows seat) (mailed mail.from mail.body (r, [])).1
+      → IsOfGroup words births rows seat (Deliver number) group × IsTablesRow births rows seat (Deliver number) group r (mailed mail.from mail.body (r, [])).0
+  pub missed : (words : ℕ → ℕ → ℕ × ℕ) (births : List (Seat Player)) (rows : Rows) (seat : Seat Player) (number : ℕ) (mail : Mail) (group : Draw) (node : NodeState) (entry : Draw × Errand)
+      → IsTaking words births rows seat number mail group node → replica_of group node.replicas ≡ None → errand_by mail.from mail.to mail.body ≡ Some entry
+      → IsOfGroup words births rows seat (Deliver number) group
+      × (view_at births (with_event rows seat (Deliver number)) group seat.who ≡ view_at births rows group seat.who)
+      × ((row_of player_table seat rows (Deliver number)).sent ≡ absent node.me mail.from mail.body)
+  pub ordered : (words : ℕ → ℕ → ℕ × ℕ) (births : List (Seat Player)) (rows : Rows) (seat : Seat Player) (line : OrderLine) (node : NodeState) (r : ReplicaState)
+      → IsSeat births seat → AreInTime (players words births) (with_event rows seat (Told line)) → value player_table seat rows ≡ Node node → replica_of (group_of_order line.order) node.replicas ≡ Some r
+      → IsOfGroup words births rows seat (Told line) (group_of_order line.order) × IsTablesRow births rows seat (Told line) (group_of_order line.order) r (ordered_row node.draws line (r, []))
