@@ -12,3 +12,4 @@ mod LinesKeep
 mod QuietEnd
 mod OneLog
 mod LawfulLines
+mod Heard

@@ -1,3 +1,4 @@
 pub mod Finding
 pub mod QuietLines
 pub mod OneLog
+pub mod Hearing

@@ -3,6 +3,7 @@
 #![tactic(auto)]
 
 ghost use Rattle.sc_calm_requests_law.specs.Finding.{RequestsAreTakenCalmly};
+ghost use Rattle.sc_calm_requests_law.specs.Hearing.{AnswersAreHeardCalmly, ClientsGoCalmly};
 ghost use Rattle.sc_calm_requests_law.specs.OneLog.{
   LawfulJournalsHaveOneLog,
   LawfulLinesLeaveQuiet,
@@ -63,3 +64,13 @@ pub fn lawful_lines_leave_quiet()
     lines_leave_replicas_quiet();
     lines_leave_quiet();
 }
+
+/// A client that asks leaders finds what it needs in the answer that it waits for.
+pub fn answers_are_heard_calmly()
+    ensures { AnswersAreHeardCalmly }
+{}
+
+/// One that was not told to go may go, where it is not sent on more often than any.
+pub fn clients_go_calmly()
+    ensures { ClientsGoCalmly }
+{}

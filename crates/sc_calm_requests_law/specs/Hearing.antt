@@ -1,0 +1,60 @@
+-- What clients find in answers, and where they go, while they ask, between two orders of a calm journal.
+use Rattle.std.specs.Prelude.{◌≡◌, ℕ, ◌-◌, ◌≤◌, false, Bool, List, slice_get, Some, ◌⊎◌}
+use Rattle.sc_base.specs.Among.{Among}
+use Rattle.sc_base.specs.Limits.{client_actor}
+use Rattle.sc_base.specs.declared.names.Draw.{Draw}
+use Rattle.sc_base.specs.declared.ops.Op.{Op}
+use Rattle.sc_cmd.specs.declared.orders.OrderLine.{OrderLine}
+use Rattle.sc_lookup.specs.Known.{target_in}
+use Rattle.sc_mail.specs.declared.bodies.AnswerBody.{AnswerBody}
+use Rattle.sc_mail.specs.declared.bodies.Mail.{Mail}
+use Rattle.sc_mail.specs.declared.bodies.MailBody.TheVariants.{Answer}
+use Rattle.sc_mail.specs.declared.roles.Role.TheVariants.{Client}
+use Rattle.sc_actor.specs.declared.rows.Row.{Row}
+use Rattle.sc_client_table.specs.Client.{Client as ClientState}
+use Rattle.sc_scenario.specs.declared.scenarios.Asks.{Asks}
+use Rattle.sc_scenario.specs.declared.scenarios.Scenario.{Scenario}
+use Rattle.sc_calm_law.specs.Charts.{Chart}
+use Rattle.sc_calm_law.specs.Keeping.{IsCalmFor, MayGoNow}
+use Rattle.sc_calm_law.specs.Parties.{Elsewhere}
+use Rattle.sc_calm_law.specs.Reach.{sent_on}
+use Rattle.sc_budget_law.specs.CalmAsking.{IsLinkedSetting, IsCalmClient}
+use Rattle.sc_budget_law.specs.CalmNode.{Setting, IsSetting, IsCalmMail}
+use Rattle.sc_budget_law.specs.Frames.{Frame}
+use Rattle.sc_budget_law.specs.PlainClient.{IsWaiting, IsBegun}
+use Rattle.sc_calm_requests_law.specs.Finding.{CountsAs}
+
+-- a node leads a group that stands
+pub record IsLedAt (set : Setting) (group : Draw) (node : ℕ) : Type 0 where
+  pub frame : Frame
+  pub is_frame : Among frame set.frames
+  pub name : frame.core.id ≡ group
+  pub lead : frame.lead ≡ node
+
+-- one that leads is reached by no hint
+abbrev pub AreReached : Setting → Type 0
+AreReached set = (frame : Frame) → Among frame set.frames → set.ways.far frame.core.id frame.lead ≡ 0
+
+-- of each group that a client knows, but for that which it asked last, it would ask the node that leads
+abbrev pub AsksLeaders : Setting → ClientState → Type 0
+AsksLeaders set client = (w : IsWaiting client) (group : Draw) (node : ℕ) → target_in group client.known ≡ Some node → IsLedAt set group node ⊎ (group ≡ w.group)
+
+-- an answer to the request that waits, of the node and the group that were asked
+pub record IsAnswerTo (client : ClientState) (mail : Mail) : Type 0 where
+  pub waits : IsWaiting client
+  pub answer : AnswerBody
+  pub from_is : mail.from ≡ waits.target
+  pub body_is : mail.body ≡ Answer waits.group waits.seq answer
+
+-- A client that asks leaders finds what it needs in the answer that it waits for.
+abbrev pub AnswersAreHeardCalmly : Type 0
+AnswersAreHeardCalmly =
+    (scenario : Scenario) (rows : List (Row Mail OrderLine)) (set : Setting) (chart : Chart) (elsewhere : Elsewhere) (asks : Asks) (gone : Bool) (client : ClientState) (mail : Mail)
+    → IsSetting set → IsLinkedSetting set → AreReached set → CountsAs set chart → IsCalmClient set asks gone client → IsCalmMail (IsBegun scenario rows) set mail → mail.to ≡ client_actor client.me
+    → ((seq : ℕ) (op : Op) → IsBegun scenario rows client.me seq op → slice_get client.requests (seq - 1) ≡ Some op)
+    → AsksLeaders set client → IsAnswerTo client mail → IsCalmFor chart elsewhere mail (Client client)
+
+-- One that was not told to go may go, where it is not sent on more often than any.
+abbrev pub ClientsGoCalmly : Type 0
+ClientsGoCalmly =
+    (set : Setting) (chart : Chart) (asks : Asks) (client : ClientState) → IsCalmClient set asks false client → sent_on chart.reach client.known ≤ chart.reach.most → MayGoNow chart (Client client)
