@@ -53,6 +53,7 @@ pub record Behind (set : Setting) (frame : Frame) : Type 0 where
 pub record RingKnown (set : Setting) (frame : Frame) (known : KnownGroups) : Type 0 where
   pub ring : List Frame
   pub round : AreRoundRing ring
+  pub within : (other : Frame) → Among other ring → Among other set.frames
   pub among : Among frame ring
   pub reached : ℕ
   pub first : KnowsFirst ring reached known
@@ -83,13 +84,13 @@ module _ (begun : Requests) (set : Setting) (is : IsSetting set) (linked : IsLin
             let same : one.0 ≡ frame.core.id = elim among [ inl e ↦ e | inr none ↦ absurd none ] in
             let known_is : client.known ≡ (frame.core.id, one.1) ∷ [] = one.2 ∙ ap (λ d. (d, one.1) ∷ []) same in
             let ring = linked.rings frame a in
-            record { ring = frame ∷ ring.0; round = ring.1.round; among = inl refl; reached = 1; first = subst (KnowsFirst (frame ∷ ring.0) 1) (sym known_is) (learn_in_turn.gone ring.0 frame one.1) }
+            record { ring = frame ∷ ring.0; round = ring.1.round; within = ring.1.within; among = inl refl; reached = 1; first = subst (KnowsFirst (frame ∷ ring.0) 1) (sym known_is) (learn_in_turn.gone ring.0 frame one.1) }
         by (inr r) =
             let among = subst (Among frame.core.id) r.first.names (chosen_known (pos_of (key_of w.op)) client.known frame.core.id chosen_here) in
             let f = from_map id_of (take r.reached r.ring) frame.core.id among in
             let in_ring : Among f.0 r.ring = subst (Among f.0) (take-append-drop r.reached r.ring) (Among-left f.0 (take r.reached r.ring) (drop r.reached r.ring) f.1) in
             let same : f.0 ≡ frame = is.apart f.0 frame (r.is_ring.within f.0 in_ring) a f.2 in
-            record { ring = r.ring; round = r.is_ring.round; among = subst (λ (x : Frame). Among x r.ring) same in_ring; reached = r.reached; first = r.first }
+            record { ring = r.ring; round = r.is_ring.round; within = r.is_ring.within; among = subst (λ (x : Frame). Among x r.ring) same in_ring; reached = r.reached; first = r.first }
 
     -- where a group that is gone was asked, it is known alone
     pub alone : (into : Route) → HasGoneTo set w.group into → (way : Way) × (client.known ≡ (w.group, way) ∷ [])

@@ -13,3 +13,4 @@ mod QuietEnd
 mod OneLog
 mod LawfulLines
 mod Heard
+mod LeadersAsked

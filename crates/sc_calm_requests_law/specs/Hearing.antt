@@ -1,17 +1,20 @@
 -- What clients find in answers, and where they go, while they ask, between two orders of a calm journal.
-use Rattle.std.specs.Prelude.{◌≡◌, ℕ, ◌-◌, ◌≤◌, false, Bool, List, slice_get, Some, ◌⊎◌}
+use Rattle.std.specs.Prelude.{◌≡◌, ℕ, ◌-◌, ◌≤◌, false, Bool, List, [], ◌∷◌, slice_get, Some, ◌⊎◌}
 use Rattle.sc_base.specs.Among.{Among}
 use Rattle.sc_base.specs.Limits.{client_actor}
 use Rattle.sc_base.specs.declared.names.Draw.{Draw}
 use Rattle.sc_base.specs.declared.ops.Op.{Op}
 use Rattle.sc_cmd.specs.declared.orders.OrderLine.{OrderLine}
 use Rattle.sc_lookup.specs.Known.{target_in}
+use Rattle.sc_lookup.specs.declared.ways.Way.{Way}
 use Rattle.sc_mail.specs.declared.bodies.AnswerBody.{AnswerBody}
 use Rattle.sc_mail.specs.declared.bodies.Mail.{Mail}
 use Rattle.sc_mail.specs.declared.bodies.MailBody.TheVariants.{Answer}
 use Rattle.sc_mail.specs.declared.roles.Role.TheVariants.{Client}
+use Rattle.sc_actor.specs.declared.rows.Input.TheVariants.{Got, Go}
 use Rattle.sc_actor.specs.declared.rows.Row.{Row}
 use Rattle.sc_client_table.specs.Client.{Client as ClientState}
+use Rattle.sc_client_table.specs.Table.{table}
 use Rattle.sc_scenario.specs.declared.scenarios.Asks.{Asks}
 use Rattle.sc_scenario.specs.declared.scenarios.Scenario.{Scenario}
 use Rattle.sc_calm_law.specs.Charts.{Chart}
@@ -58,3 +61,11 @@ AnswersAreHeardCalmly =
 abbrev pub ClientsGoCalmly : Type 0
 ClientsGoCalmly =
     (set : Setting) (chart : Chart) (asks : Asks) (client : ClientState) → IsCalmClient set asks false client → sent_on chart.reach client.known ≤ chart.reach.most → MayGoNow chart (Client client)
+
+-- Clients go on to ask leaders: one that goes and knows one group alone, and one that takes the answer that it waits for.
+pub record ClientsAskLeaders : Type 0 where
+  pub go : (set : Setting) (asks : Asks) (client : ClientState) (entry : Draw × Way) → IsCalmClient set asks false client → client.known ≡ entry ∷ [] → AsksLeaders set (table client Go).0
+  pub takes : (scenario : Scenario) (rows : List (Row Mail OrderLine)) (set : Setting) (asks : Asks) (gone : Bool) (client : ClientState) (mail : Mail)
+      → IsSetting set → IsLinkedSetting set → IsCalmClient set asks gone client → IsCalmMail (IsBegun scenario rows) set mail → mail.to ≡ client_actor client.me
+      → ((seq : ℕ) (op : Op) → IsBegun scenario rows client.me seq op → slice_get client.requests (seq - 1) ≡ Some op)
+      → AsksLeaders set client → IsAnswerTo client mail → AsksLeaders set (table client (Got mail)).0

@@ -3,7 +3,11 @@
 #![tactic(auto)]
 
 ghost use Rattle.sc_calm_requests_law.specs.Finding.{RequestsAreTakenCalmly};
-ghost use Rattle.sc_calm_requests_law.specs.Hearing.{AnswersAreHeardCalmly, ClientsGoCalmly};
+ghost use Rattle.sc_calm_requests_law.specs.Hearing.{
+  AnswersAreHeardCalmly,
+  ClientsAskLeaders,
+  ClientsGoCalmly,
+};
 ghost use Rattle.sc_calm_requests_law.specs.OneLog.{
   LawfulJournalsHaveOneLog,
   LawfulLinesLeaveQuiet,
@@ -73,4 +77,10 @@ pub fn answers_are_heard_calmly()
 /// One that was not told to go may go, where it is not sent on more often than any.
 pub fn clients_go_calmly()
     ensures { ClientsGoCalmly }
+{}
+
+/// Clients go on to ask leaders: of each group that one knows, but for that which it asked last, it
+/// would ask the node that leads, once it goes and by each answer that it waits for.
+pub fn clients_ask_leaders()
+    ensures { ClientsAskLeaders }
 {}
