@@ -14,3 +14,5 @@ mod OneLog
 mod LawfulLines
 mod Heard
 mod LeadersAsked
+mod TokensPump
+mod TokensRows

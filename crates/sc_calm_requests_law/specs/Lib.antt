@@ -2,3 +2,4 @@ pub mod Finding
 pub mod QuietLines
 pub mod OneLog
 pub mod Hearing
+pub mod Tokens

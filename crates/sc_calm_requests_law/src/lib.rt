@@ -13,6 +13,7 @@ ghost use Rattle.sc_calm_requests_law.specs.OneLog.{
   LawfulLinesLeaveQuiet,
 };
 ghost use Rattle.sc_calm_requests_law.specs.QuietLines.{LinesLeaveQuiet, LinesLeaveReplicasQuiet};
+ghost use Rattle.sc_calm_requests_law.specs.Tokens.{TokensStay};
 
 use sc_log_law::groups_are_born_under_new_names;
 use sc_names_law::{names_have_one_owner, orders_are_allowed};
@@ -83,4 +84,10 @@ pub fn clients_go_calmly()
 /// would ask the node that leads, once it goes and by each answer that it waits for.
 pub fn clients_ask_leaders()
     ensures { ClientsAskLeaders }
+{}
+
+/// While clients ask, no row of a replica raises how often a client's request is under way: as a
+/// request or an answer in mail, or as a call at the replica.
+pub fn tokens_stay()
+    ensures { TokensStay }
 {}
