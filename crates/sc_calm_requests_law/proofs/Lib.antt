@@ -16,3 +16,5 @@ mod Heard
 mod LeadersAsked
 mod TokensPump
 mod TokensRows
+mod TokensClients
+mod TokensJournal

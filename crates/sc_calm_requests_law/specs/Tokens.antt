@@ -1,13 +1,23 @@
 -- How often a client's request is under way: as a request or an answer in mail, and as a call at replicas.
-use Rattle.std.specs.Prelude.{◌≡◌, ℕ, ◌+◌, ◌≤◌, ◌==◌, List, [], sum_by, if◌then◌else◌}
+use Rattle.std.specs.Prelude.{◌≡◌, ℕ, ◌+◌, ◌-◌, ◌≤◌, ◌==◌, List, [], ◌∷◌, ◌++◌, sum_by, if◌then◌else◌}
 use Rattle.sc_base.specs.Limits.{client_actor}
 use Rattle.sc_base.specs.declared.ops.Op.{Op}
 use Rattle.sc_cmd.specs.declared.commands.Command.{Command}
 use Rattle.sc_cmd.specs.declared.commands.Command.TheVariants.{Noop, Call, Join, Leave, Split, Begin, Prepared, RecordVote, GiveUp, Finish, Watched, RecordWatch}
+use Rattle.sc_cmd.specs.declared.cores.Base.{Base}
 use Rattle.sc_cmd.specs.declared.orders.OrderLine.{OrderLine}
 use Rattle.sc_mail.specs.declared.bodies.Mail.{Mail}
+use Rattle.sc_mail.specs.declared.roles.Role.TheVariants.{Node, Client}
 use Rattle.sc_actor.specs.declared.rows.Row.{Row}
 use Rattle.sc_scenario.specs.declared.scenarios.Scenario.{Scenario}
+use Rattle.sc_scenario.specs.Valid.{IsValid}
+use Rattle.sc_sound.specs.Players.{Player, system_of, as_nodes}
+use Rattle.sc_orderly_law.specs.Orderly.{IsTidy, IsOrderly}
+use Rattle.sc_orderly_law.specs.Owing.{Owing, owed}
+use Rattle.sc_calm_law.specs.Clients.{waiting_one}
+use Rattle.sc_budget_law.specs.Asking.{IsAsking, AreFarFromLast}
+use Rattle.sc_budget_law.specs.CalmAsking.{IsLinkedSetting}
+use Rattle.sc_budget_law.specs.CalmNode.{Setting, IsSetting}
 use Rattle.sc_mail.specs.declared.bodies.MailBody.{MailBody}
 use Rattle.sc_mail.specs.declared.bodies.MailBody.TheVariants.{Request, Answer, Prepare, Promise, Accept, Accepted, Nack, Learn, Ask, Install, TxPrepare, TxVote, TxOutcome, TxElsewhere, TxWatch, TxWatched, Told}
 use Rattle.sc_paxos_words.specs.declared.flights.Flight.{Flight}
@@ -80,3 +90,19 @@ TokensStay =
     (scenario : Scenario) (rows : List (Row Mail OrderLine)) (frame : Frame) (c me from : ℕ) (body : MailBody) (r : ReplicaState) → IsFrame frame → next r + slots_ahead ≤ last_slot → IsPlainAt (IsBegun scenario rows) frame me r → IsPlainBody (IsBegun scenario rows) frame from me body → IsDue r body
     → ((client seq : ℕ) (op : Op) → IsBegun scenario rows client seq op → me ≡ client_actor client → ⊥)
     → place_tokens c (mailed from body (r, [])).0 ≤ replica_tokens c r + body_token c me body
+
+-- the clients' calls at a node; and of the client itself one more where no request waits
+abbrev pub player_token : ℕ → Player → ℕ
+player_token c (Node node) = sum_by (replica_tokens c) node.replicas
+player_token c (Client client) = if client.me == c then 1 - waiting_one client.waiting else 0
+
+-- .. by players and by mail
+abbrev pub token_owing : ℕ → Owing Player Mail
+token_owing c = record { actor = player_token c; mail = mail_token c }
+
+-- While clients ask, no row raises how often a client's request is under way, one more where none waits.
+abbrev pub TokensNeverRise : Type 0
+TokensNeverRise =
+    (words : ℕ → ℕ → ℕ × ℕ) (scenario : Scenario) (set : Setting) (first : Base) (others : List Base) (rows : List (Row Mail OrderLine)) (row : Row Mail OrderLine) (c : ℕ)
+    → IsValid scenario → scenario.groups ≡ first ∷ others → IsSetting set → IsLinkedSetting set → IsTidy rows → AreFarFromLast scenario set rows → IsAsking words scenario set first rows → IsOrderly (system_of as_nodes words scenario) rows row
+    → owed (system_of as_nodes words scenario) (token_owing c) (rows ++ row ∷ []) ≤ owed (system_of as_nodes words scenario) (token_owing c) rows

@@ -13,7 +13,7 @@ ghost use Rattle.sc_calm_requests_law.specs.OneLog.{
   LawfulLinesLeaveQuiet,
 };
 ghost use Rattle.sc_calm_requests_law.specs.QuietLines.{LinesLeaveQuiet, LinesLeaveReplicasQuiet};
-ghost use Rattle.sc_calm_requests_law.specs.Tokens.{TokensStay};
+ghost use Rattle.sc_calm_requests_law.specs.Tokens.{TokensNeverRise, TokensStay};
 
 use sc_log_law::groups_are_born_under_new_names;
 use sc_names_law::{names_have_one_owner, orders_are_allowed};
@@ -91,3 +91,10 @@ pub fn clients_ask_leaders()
 pub fn tokens_stay()
     ensures { TokensStay }
 {}
+
+/// .. and so no row of a journal does, where a client that waits for none counts one.
+pub fn tokens_never_rise()
+    ensures { TokensNeverRise }
+{
+    valid_scenarios_are_bounded();
+}
