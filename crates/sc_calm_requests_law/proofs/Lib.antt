@@ -18,3 +18,4 @@ mod TokensPump
 mod TokensRows
 mod TokensClients
 mod TokensJournal
+mod TokensOne

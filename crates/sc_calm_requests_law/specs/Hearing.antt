@@ -1,9 +1,10 @@
 -- What clients find in answers, and where they go, while they ask, between two orders of a calm journal.
-use Rattle.std.specs.Prelude.{◌≡◌, ℕ, ◌-◌, ◌≤◌, false, Bool, List, [], ◌∷◌, slice_get, Some, ◌⊎◌}
+use Rattle.std.specs.Prelude.{◌≡◌, ℕ, ◌-◌, ◌≤◌, false, Bool, List, [], ◌∷◌, ◌++◌, slice_get, Some, ◌⊎◌}
 use Rattle.sc_base.specs.Among.{Among}
 use Rattle.sc_base.specs.Limits.{client_actor}
 use Rattle.sc_base.specs.declared.names.Draw.{Draw}
 use Rattle.sc_base.specs.declared.ops.Op.{Op}
+use Rattle.sc_cmd.specs.declared.cores.Base.{Base}
 use Rattle.sc_cmd.specs.declared.orders.OrderLine.{OrderLine}
 use Rattle.sc_lookup.specs.Known.{target_in}
 use Rattle.sc_lookup.specs.declared.ways.Way.{Way}
@@ -13,19 +14,29 @@ use Rattle.sc_mail.specs.declared.bodies.MailBody.TheVariants.{Answer}
 use Rattle.sc_mail.specs.declared.roles.Role.TheVariants.{Client}
 use Rattle.sc_actor.specs.declared.rows.Input.TheVariants.{Got, Go}
 use Rattle.sc_actor.specs.declared.rows.Row.{Row}
+use Rattle.sc_actor.specs.Mail.{mails, numbered}
+use Rattle.sc_actor.specs.Replay.{value}
+use Rattle.sc_actor.specs.System.{waiting, kth}
 use Rattle.sc_client_table.specs.Client.{Client as ClientState}
 use Rattle.sc_client_table.specs.Table.{table}
 use Rattle.sc_scenario.specs.declared.scenarios.Asks.{Asks}
 use Rattle.sc_scenario.specs.declared.scenarios.Scenario.{Scenario}
+use Rattle.sc_scenario.specs.Valid.{IsValid}
+use Rattle.sc_sound.specs.Players.{player_table, client_seat, route_of, system_of, as_nodes}
+use Rattle.sc_orderly_law.specs.Orderly.{IsTidy}
+use Rattle.sc_orderly_law.specs.Owing.{owed}
 use Rattle.sc_calm_law.specs.Charts.{Chart}
 use Rattle.sc_calm_law.specs.Keeping.{IsCalmFor, MayGoNow}
 use Rattle.sc_calm_law.specs.Parties.{Elsewhere}
 use Rattle.sc_calm_law.specs.Reach.{sent_on}
+use Rattle.sc_budget_law.specs.Asking.{IsAsking}
+use Rattle.sc_budget_law.specs.AskingLines.{AreRequests, AreSeated, NobodyWaits}
 use Rattle.sc_budget_law.specs.CalmAsking.{IsLinkedSetting, IsCalmClient}
 use Rattle.sc_budget_law.specs.CalmNode.{Setting, IsSetting, IsCalmMail}
 use Rattle.sc_budget_law.specs.Frames.{Frame}
 use Rattle.sc_budget_law.specs.PlainClient.{IsWaiting, IsBegun}
 use Rattle.sc_calm_requests_law.specs.Finding.{CountsAs}
+use Rattle.sc_calm_requests_law.specs.Tokens.{token_owing}
 
 -- a node leads a group that stands
 pub record IsLedAt (set : Setting) (group : Draw) (node : ℕ) : Type 0 where
@@ -69,3 +80,11 @@ pub record ClientsAskLeaders : Type 0 where
       → IsSetting set → IsLinkedSetting set → IsCalmClient set asks gone client → IsCalmMail (IsBegun scenario rows) set mail → mail.to ≡ client_actor client.me
       → ((seq : ℕ) (op : Op) → IsBegun scenario rows client.me seq op → slice_get client.requests (seq - 1) ≡ Some op)
       → AsksLeaders set client → IsAnswerTo client mail → AsksLeaders set (table client (Got mail)).0
+
+-- In a line of requests from a journal in which no request waits, and in which each client's request is under way once at most, counting one where none waits, the first mail to a client is the answer that it waits for.
+abbrev pub AnswersAreExpected : Type 0
+AnswersAreExpected =
+    (words : ℕ → ℕ → ℕ × ℕ) (scenario : Scenario) (set : Setting) (first : Base) (others : List Base) (before after : List (Row Mail OrderLine)) (asks : Asks) (client : ClientState) (number : ℕ) (mail : Mail)
+    → IsValid scenario → scenario.groups ≡ first ∷ others → IsSetting set → IsLinkedSetting set → AreSeated scenario set → IsAsking words scenario set first before → NobodyWaits scenario first before → AreRequests words scenario set before after
+    → owed (system_of as_nodes words scenario) (token_owing asks.client) before ≤ 1 → Among asks scenario.clients → IsTidy (before ++ after) → value player_table (client_seat (route_of first) asks) (before ++ after) ≡ Client client
+    → kth (waiting (system_of as_nodes words scenario) (before ++ after) (Some (client_actor asks.client))) 1 ≡ Some number → numbered (mails (before ++ after)) number ≡ Some mail → IsAnswerTo client mail

@@ -4,6 +4,7 @@
 
 ghost use Rattle.sc_calm_requests_law.specs.Finding.{RequestsAreTakenCalmly};
 ghost use Rattle.sc_calm_requests_law.specs.Hearing.{
+  AnswersAreExpected,
   AnswersAreHeardCalmly,
   ClientsAskLeaders,
   ClientsGoCalmly,
@@ -95,6 +96,14 @@ pub fn tokens_stay()
 /// .. and so no row of a journal does, where a client that waits for none counts one.
 pub fn tokens_never_rise()
     ensures { TokensNeverRise }
+{
+    valid_scenarios_are_bounded();
+}
+
+/// In a line of requests the first mail to a client is the answer that it waits for, of the node and
+/// the group that it asked.
+pub fn answers_are_expected()
+    ensures { AnswersAreExpected }
 {
     valid_scenarios_are_bounded();
 }
