@@ -19,3 +19,4 @@ mod TokensRows
 mod TokensClients
 mod TokensJournal
 mod TokensOne
+mod LinesAsk

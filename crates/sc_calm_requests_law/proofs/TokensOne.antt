@@ -125,14 +125,17 @@ module _ (words : ℕ → ℕ → ℕ × ℕ) (scenario : Scenario) (begins : Is
   abbrev Keeps : ℕ → Journal → Type 0
   Keeps who rows = AreSought words scenario begins set is linked rows × (owed (system_of as_nodes words scenario) (token_owing who) rows ≤ 1)
 
+  pub sought_on : (rows : Journal) (t : IsTidy rows) (j : IsAsking words scenario set begins.first rows) (room : AreFarFromLast scenario set rows) (row : Row Mail OrderLine) → IsOrderly (system_of as_nodes words scenario) rows row
+      → AreSought words scenario begins set is linked rows → AreSought words scenario begins set is linked (rows ++ row ∷ [])
+  sought_on rows t j room row o h =
+      let then_ = clients_of.asking_row words scenario begins set is linked rows t j room row o in
+      sought_row words scenario begins set is linked rows t j h room row o (λ asks client a v w. (let n = asked_node (rows ++ row ∷ []) then_ asks client a v w in node_number words scenario begins w.target n.0 n.1))
+
   keeps : (who : ℕ) (rows : Journal) (t : IsTidy rows) (j : IsAsking words scenario set begins.first rows) (room : AreFarFromLast scenario set rows) (row : Row Mail OrderLine) → IsOrderly (system_of as_nodes words scenario) rows row → Keeps who rows → Keeps who (rows ++ row ∷ [])
   keeps who rows t j room row o h =
-      let then_ = clients_of.asking_row words scenario begins set is linked rows t j room row o in
       let le = h.1 in
-      let fall = falls who words scenario begins set is linked rows t j room row o in (
-        sought_row words scenario begins set is linked rows t j h.0 room row o (λ asks client a v w. (let n = asked_node (rows ++ row ∷ []) then_ asks client a v w in node_number words scenario begins w.target n.0 n.1)),
-        omega (arith, le, fall),
-      )
+      let fall = falls who words scenario begins set is linked rows t j room row o in
+      (sought_on rows t j room row o h.0, omega (arith, le, fall))
 
   module _ (rows : Journal) (t : IsTidy rows) (j : IsAsking words scenario set begins.first rows) (sought : AreSought words scenario begins set is linked rows) (asks : Asks) (a : Among asks scenario.clients)
       (few : owed (system_of as_nodes words scenario) (token_owing asks.client) rows ≤ 1) (number : ℕ) (fine : kth (waiting (system_of as_nodes words scenario) rows (Some (client_actor asks.client))) 1 ≡ Some number) where

@@ -16,7 +16,7 @@ use Rattle.sc_actor.specs.declared.rows.Input.TheVariants.{Got, Go}
 use Rattle.sc_actor.specs.declared.rows.Row.{Row}
 use Rattle.sc_actor.specs.Mail.{mails, numbered}
 use Rattle.sc_actor.specs.Replay.{value}
-use Rattle.sc_actor.specs.System.{waiting, kth}
+use Rattle.sc_actor.specs.System.{waiting, kth, has_gone}
 use Rattle.sc_client_table.specs.Client.{Client as ClientState}
 use Rattle.sc_client_table.specs.Table.{table}
 use Rattle.sc_scenario.specs.declared.scenarios.Asks.{Asks}
@@ -88,3 +88,19 @@ AnswersAreExpected =
     → IsValid scenario → scenario.groups ≡ first ∷ others → IsSetting set → IsLinkedSetting set → AreSeated scenario set → IsAsking words scenario set first before → NobodyWaits scenario first before → AreRequests words scenario set before after
     → owed (system_of as_nodes words scenario) (token_owing asks.client) before ≤ 1 → Among asks scenario.clients → IsTidy (before ++ after) → value player_table (client_seat (route_of first) asks) (before ++ after) ≡ Client client
     → kth (waiting (system_of as_nodes words scenario) (before ++ after) (Some (client_actor asks.client))) 1 ≡ Some number → numbered (mails (before ++ after)) number ≡ Some mail → IsAnswerTo client mail
+
+-- each client would ask leaders
+abbrev pub AllAskLeaders : Scenario → Setting → Base → List (Row Mail OrderLine) → Type 0
+AllAskLeaders scenario set first rows = (asks : Asks) (client : ClientState) → Among asks scenario.clients → value player_table (client_seat (route_of first) asks) rows ≡ Client client → AsksLeaders set client
+
+-- one that was not told to go knows one group alone
+abbrev pub KnowOne : Scenario → Base → List (Row Mail OrderLine) → Type 0
+KnowOne scenario first rows =
+    (asks : Asks) (client : ClientState) → Among asks scenario.clients → has_gone rows (client_actor asks.client) ≡ false → value player_table (client_seat (route_of first) asks) rows ≡ Client client → (entry : Draw × Way) × (client.known ≡ entry ∷ [])
+
+-- So in such a line clients ask leaders.
+abbrev pub LinesAskLeaders : Type 0
+LinesAskLeaders =
+    (words : ℕ → ℕ → ℕ × ℕ) (scenario : Scenario) (set : Setting) (first : Base) (others : List Base) (before after : List (Row Mail OrderLine))
+    → IsValid scenario → scenario.groups ≡ first ∷ others → IsSetting set → IsLinkedSetting set → AreSeated scenario set → IsAsking words scenario set first before → NobodyWaits scenario first before → KnowOne scenario first before → AreRequests words scenario set before after
+    → ((asks : Asks) → Among asks scenario.clients → owed (system_of as_nodes words scenario) (token_owing asks.client) before ≤ 1) → AllAskLeaders scenario set first (before ++ after)

@@ -8,6 +8,7 @@ ghost use Rattle.sc_calm_requests_law.specs.Hearing.{
   AnswersAreHeardCalmly,
   ClientsAskLeaders,
   ClientsGoCalmly,
+  LinesAskLeaders,
 };
 ghost use Rattle.sc_calm_requests_law.specs.OneLog.{
   LawfulJournalsHaveOneLog,
@@ -104,6 +105,14 @@ pub fn tokens_never_rise()
 /// the group that it asked.
 pub fn answers_are_expected()
     ensures { AnswersAreExpected }
+{
+    valid_scenarios_are_bounded();
+}
+
+/// .. and each client would ask the node that leads, of each group that it knows but for that which
+/// it asked last.
+pub fn lines_ask_leaders()
+    ensures { LinesAskLeaders }
 {
     valid_scenarios_are_bounded();
 }
