@@ -101,8 +101,8 @@ pub fn tokens_never_rise()
     valid_scenarios_are_bounded();
 }
 
-/// In a line of requests the first mail to a client is the answer that it waits for, of the node and
-/// the group that it asked.
+/// In a line of requests the first mail to a client is the answer that it waits for, of the node
+/// and the group that it asked.
 pub fn answers_are_expected()
     ensures { AnswersAreExpected }
 {
