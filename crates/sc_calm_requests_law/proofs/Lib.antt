@@ -20,3 +20,4 @@ mod TokensClients
 mod TokensJournal
 mod TokensOne
 mod LinesAsk
+mod TokensIdle

@@ -9,11 +9,12 @@ use Rattle.sc_cmd.specs.declared.orders.OrderLine.{OrderLine}
 use Rattle.sc_mail.specs.declared.bodies.Mail.{Mail}
 use Rattle.sc_mail.specs.declared.roles.Role.TheVariants.{Node, Client}
 use Rattle.sc_actor.specs.declared.rows.Row.{Row}
+use Rattle.sc_actor.specs.Replay.{value}
 use Rattle.sc_scenario.specs.declared.scenarios.Scenario.{Scenario}
 use Rattle.sc_scenario.specs.Valid.{IsValid}
-use Rattle.sc_sound.specs.Players.{Player, system_of, as_nodes}
+use Rattle.sc_sound.specs.Players.{Player, player_table, node_seat, system_of, as_nodes}
 use Rattle.sc_orderly_law.specs.Orderly.{IsTidy, IsOrderly}
-use Rattle.sc_orderly_law.specs.Owing.{Owing, owed}
+use Rattle.sc_orderly_law.specs.Owing.{Owing, under_way, owed}
 use Rattle.sc_calm_law.specs.Clients.{waiting_one}
 use Rattle.sc_budget_law.specs.Asking.{IsAsking, AreFarFromLast}
 use Rattle.sc_budget_law.specs.CalmAsking.{IsLinkedSetting}
@@ -21,6 +22,7 @@ use Rattle.sc_budget_law.specs.CalmNode.{Setting, IsSetting}
 use Rattle.sc_mail.specs.declared.bodies.MailBody.{MailBody}
 use Rattle.sc_mail.specs.declared.bodies.MailBody.TheVariants.{Request, Answer, Prepare, Promise, Accept, Accepted, Nack, Learn, Ask, Install, TxPrepare, TxVote, TxOutcome, TxElsewhere, TxWatch, TxWatched, Told}
 use Rattle.sc_paxos_words.specs.declared.flights.Flight.{Flight}
+use Rattle.sc_node_table.specs.Node.{NodeState}
 use Rattle.sc_node_table.specs.Replica.{ReplicaState, Place, next, last_slot}
 use Rattle.sc_node_table.specs.Rows.{mailed}
 use Rattle.sc_node_table.specs.Slots.{slots_ahead}
@@ -106,3 +108,10 @@ TokensNeverRise =
     (words : ℕ → ℕ → ℕ × ℕ) (scenario : Scenario) (set : Setting) (first : Base) (others : List Base) (rows : List (Row Mail OrderLine)) (row : Row Mail OrderLine) (c : ℕ)
     → IsValid scenario → scenario.groups ≡ first ∷ others → IsSetting set → IsLinkedSetting set → IsTidy rows → AreFarFromLast scenario set rows → IsAsking words scenario set first rows → IsOrderly (system_of as_nodes words scenario) rows row
     → owed (system_of as_nodes words scenario) (token_owing c) (rows ++ row ∷ []) ≤ owed (system_of as_nodes words scenario) (token_owing c) rows
+
+-- Where no replica holds a call and no mail is under way, each client counts one at most.
+abbrev pub IdleCountsOnce : Type 0
+IdleCountsOnce =
+    (words : ℕ → ℕ → ℕ × ℕ) (scenario : Scenario) (set : Setting) (first : Base) (others : List Base) (rows : List (Row Mail OrderLine)) (c : ℕ) → IsValid scenario → scenario.groups ≡ first ∷ others → IsAsking words scenario set first rows
+    → ((me : ℕ) (node : NodeState) → 1 ≤ me → me ≤ scenario.nodes → value player_table (node_seat as_nodes scenario.groups scenario.policy me) rows ≡ Node node → sum_by (replica_tokens c) node.replicas ≡ 0)
+    → under_way (system_of as_nodes words scenario) rows ≡ [] → owed (system_of as_nodes words scenario) (token_owing c) rows ≤ 1

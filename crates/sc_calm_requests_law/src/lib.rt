@@ -15,7 +15,7 @@ ghost use Rattle.sc_calm_requests_law.specs.OneLog.{
   LawfulLinesLeaveQuiet,
 };
 ghost use Rattle.sc_calm_requests_law.specs.QuietLines.{LinesLeaveQuiet, LinesLeaveReplicasQuiet};
-ghost use Rattle.sc_calm_requests_law.specs.Tokens.{TokensNeverRise, TokensStay};
+ghost use Rattle.sc_calm_requests_law.specs.Tokens.{IdleCountsOnce, TokensNeverRise, TokensStay};
 
 use sc_log_law::groups_are_born_under_new_names;
 use sc_names_law::{names_have_one_owner, orders_are_allowed};
@@ -113,6 +113,13 @@ pub fn answers_are_expected()
 /// it asked last.
 pub fn lines_ask_leaders()
     ensures { LinesAskLeaders }
+{
+    valid_scenarios_are_bounded();
+}
+
+/// Where no replica holds a call and no mail is under way, each client counts one at most.
+pub fn idle_counts_once()
+    ensures { IdleCountsOnce }
 {
     valid_scenarios_are_bounded();
 }
