@@ -166,7 +166,7 @@ module _ (begun : Requests) (frame : Frame) (is : IsFrame frame) (first : Replic
   unbared : (r : ReplicaState) → Goes (bare r) → Goes r
   unbared r g = record { group = g.group; me_is = g.me_is; running = g.running; ready = g.ready; leaves = record { top = g.leaves.top; promised = g.leaves.promised; leader = g.leaves.leader; accepted = g.leaves.accepted } }
 
-  pumps : (place : Place) → F place → F (pumped place)
+  pub pumps : (place : Place) → F place → F (pumped place)
   pumps place g = unbared (pumped place).0 (subst Goes (sym (pump_kept place)) (bared place.0 g))
 
   next_is_call : (place : Place) → F place → O (next_ready place.0)
@@ -174,7 +174,7 @@ module _ (begun : Requests) (frame : Frame) (is : IsFrame frame) (first : Replic
       either_way O (r.running && has_room r) (at_slot r.ready (next r)) None
       (λ command e. Each-among (λ (entry : ℕ × Command). IsPlainCommand begun frame entry.1) r.ready (next r, command) g.ready (at_found r.ready (next r) command e).1) (λ command e. cc)
 
-  entry_goes : (r : ReplicaState) (mails : List Mail) (client seq : ℕ) (op : Op) → IsPlainCall begun frame client seq op → Goes r → F (executed_one true (Call client seq op) (r, mails))
+  pub entry_goes : (r : ReplicaState) (mails : List Mail) (client seq : ℕ) (op : Op) → IsPlainCall begun frame client seq op → Goes r → F (executed_one true (Call client seq op) (r, mails))
   unfolding entered forgotten
   entry_goes r mails client seq op call g =
       let serves = call_plain begun frame is client seq op r.group call g.group in

@@ -12,3 +12,12 @@ mod LinesKeep
 mod QuietEnd
 mod OneLog
 mod LawfulLines
+mod Heard
+mod LeadersAsked
+mod TokensPump
+mod TokensRows
+mod TokensClients
+mod TokensJournal
+mod TokensOne
+mod LinesAsk
+mod TokensIdle

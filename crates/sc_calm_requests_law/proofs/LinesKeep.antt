@@ -273,3 +273,21 @@ module _ (words : ℕ → ℕ → ℕ × ℕ) (scenario : Scenario) (begins : Is
             ],
           ))
     ]
+
+    -- .. and of clients alone
+    pub fresh_row : (Born : Asks → ClientState → Type 0) (row : Row Mail OrderLine) → IsOrderly (system_of as_nodes words scenario) rows row → AreFresh Born rows → AreFresh Born (rows ++ row ∷ [])
+    fresh_row Born row o h = elim (of_player words scenario begins rows row o) [
+      | inl n ↦ (
+          let row_is : row ≡ row_of player_table (node_seat as_nodes scenario.groups scenario.policy n.me) rows o.event = o.row_is ∙ ap (λ (seat : Seat Player). row_of player_table seat rows o.event) n.seat_is in
+          λ asks client a not_gone v. other_fresh Born row h asks client a (λ e. both_ways (is_node (client_actor asks.client)) (client_number words scenario begins asks a)
+          (ap is_node (e ∙ ap (λ (r : Row Mail OrderLine). r.who) row_is) ∙ node_number words scenario begins n.me n.one n.most)) not_gone v)
+      | inr d ↦ (
+          let row_is : row ≡ row_of player_table (cseat d.asks) rows o.event = o.row_is ∙ ap (λ (seat : Seat Player). row_of player_table seat rows o.event) d.seat_is in
+          let born = subst (λ (seat : Seat Player). find (λ (other : Seat Player). eqb other.who seat.who) (births as_nodes scenario) ≡ Some seat) d.seat_is o.born in
+          let fine = subst (λ (seat : Seat Player). IsInOrder sys rows seat.who o.event) d.seat_is o.in_order in
+          λ asks client a not_gone v. elim (cases_eq (client_actor asks.client) (client_actor d.asks.client)) [
+            | inl here ↦ own_fresh d.asks d.is_asks born o.event fine
+                (ap (λ (r : Row Mail OrderLine). has_gone (rows ++ r ∷ []) (client_actor d.asks.client)) (sym row_is) ∙ (ap (has_gone (rows ++ row ∷ [])) (sym here) ∙ not_gone))
+            | inr ne ↦ other_fresh Born row h asks client a (λ e. ne (e ∙ ap (λ (r : Row Mail OrderLine). r.who) row_is)) not_gone v
+          ])
+    ]

@@ -1,3 +1,5 @@
 pub mod Finding
 pub mod QuietLines
 pub mod OneLog
+pub mod Hearing
+pub mod Tokens

@@ -3,11 +3,19 @@
 #![tactic(auto)]
 
 ghost use Rattle.sc_calm_requests_law.specs.Finding.{RequestsAreTakenCalmly};
+ghost use Rattle.sc_calm_requests_law.specs.Hearing.{
+  AnswersAreExpected,
+  AnswersAreHeardCalmly,
+  ClientsAskLeaders,
+  ClientsGoCalmly,
+  LinesAskLeaders,
+};
 ghost use Rattle.sc_calm_requests_law.specs.OneLog.{
   LawfulJournalsHaveOneLog,
   LawfulLinesLeaveQuiet,
 };
 ghost use Rattle.sc_calm_requests_law.specs.QuietLines.{LinesLeaveQuiet, LinesLeaveReplicasQuiet};
+ghost use Rattle.sc_calm_requests_law.specs.Tokens.{IdleCountsOnce, TokensNeverRise, TokensStay};
 
 use sc_log_law::groups_are_born_under_new_names;
 use sc_names_law::{names_have_one_owner, orders_are_allowed};
@@ -62,4 +70,56 @@ pub fn lawful_lines_leave_quiet()
     lawful_journals_have_one_log();
     lines_leave_replicas_quiet();
     lines_leave_quiet();
+}
+
+/// A client that asks leaders finds what it needs in the answer that it waits for.
+pub fn answers_are_heard_calmly()
+    ensures { AnswersAreHeardCalmly }
+{}
+
+/// One that was not told to go may go, where it is not sent on more often than any.
+pub fn clients_go_calmly()
+    ensures { ClientsGoCalmly }
+{}
+
+/// Clients go on to ask leaders: of each group that one knows, but for that which it asked last, it
+/// would ask the node that leads, once it goes and by each answer that it waits for.
+pub fn clients_ask_leaders()
+    ensures { ClientsAskLeaders }
+{}
+
+/// While clients ask, no row of a replica raises how often a client's request is under way: as a
+/// request or an answer in mail, or as a call at the replica.
+pub fn tokens_stay()
+    ensures { TokensStay }
+{}
+
+/// .. and so no row of a journal does, where a client that waits for none counts one.
+pub fn tokens_never_rise()
+    ensures { TokensNeverRise }
+{
+    valid_scenarios_are_bounded();
+}
+
+/// In a line of requests the first mail to a client is the answer that it waits for, of the node
+/// and the group that it asked.
+pub fn answers_are_expected()
+    ensures { AnswersAreExpected }
+{
+    valid_scenarios_are_bounded();
+}
+
+/// .. and each client would ask the node that leads, of each group that it knows but for that which
+/// it asked last.
+pub fn lines_ask_leaders()
+    ensures { LinesAskLeaders }
+{
+    valid_scenarios_are_bounded();
+}
+
+/// Where no replica holds a call and no mail is under way, each client counts one at most.
+pub fn idle_counts_once()
+    ensures { IdleCountsOnce }
+{
+    valid_scenarios_are_bounded();
 }

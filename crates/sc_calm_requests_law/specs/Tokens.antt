@@ -1,0 +1,117 @@
+-- How often a client's request is under way: as a request or an answer in mail, and as a call at replicas.
+use Rattle.std.specs.Prelude.{◌≡◌, ℕ, ◌+◌, ◌-◌, ◌≤◌, ◌==◌, List, [], ◌∷◌, ◌++◌, sum_by, if◌then◌else◌}
+use Rattle.sc_base.specs.Limits.{client_actor}
+use Rattle.sc_base.specs.declared.ops.Op.{Op}
+use Rattle.sc_cmd.specs.declared.commands.Command.{Command}
+use Rattle.sc_cmd.specs.declared.commands.Command.TheVariants.{Noop, Call, Join, Leave, Split, Begin, Prepared, RecordVote, GiveUp, Finish, Watched, RecordWatch}
+use Rattle.sc_cmd.specs.declared.cores.Base.{Base}
+use Rattle.sc_cmd.specs.declared.orders.OrderLine.{OrderLine}
+use Rattle.sc_mail.specs.declared.bodies.Mail.{Mail}
+use Rattle.sc_mail.specs.declared.roles.Role.TheVariants.{Node, Client}
+use Rattle.sc_actor.specs.declared.rows.Row.{Row}
+use Rattle.sc_actor.specs.Replay.{value}
+use Rattle.sc_scenario.specs.declared.scenarios.Scenario.{Scenario}
+use Rattle.sc_scenario.specs.Valid.{IsValid}
+use Rattle.sc_sound.specs.Players.{Player, player_table, node_seat, system_of, as_nodes}
+use Rattle.sc_orderly_law.specs.Orderly.{IsTidy, IsOrderly}
+use Rattle.sc_orderly_law.specs.Owing.{Owing, under_way, owed}
+use Rattle.sc_calm_law.specs.Clients.{waiting_one}
+use Rattle.sc_budget_law.specs.Asking.{IsAsking, AreFarFromLast}
+use Rattle.sc_budget_law.specs.CalmAsking.{IsLinkedSetting}
+use Rattle.sc_budget_law.specs.CalmNode.{Setting, IsSetting}
+use Rattle.sc_mail.specs.declared.bodies.MailBody.{MailBody}
+use Rattle.sc_mail.specs.declared.bodies.MailBody.TheVariants.{Request, Answer, Prepare, Promise, Accept, Accepted, Nack, Learn, Ask, Install, TxPrepare, TxVote, TxOutcome, TxElsewhere, TxWatch, TxWatched, Told}
+use Rattle.sc_paxos_words.specs.declared.flights.Flight.{Flight}
+use Rattle.sc_node_table.specs.Node.{NodeState}
+use Rattle.sc_node_table.specs.Replica.{ReplicaState, Place, next, last_slot}
+use Rattle.sc_node_table.specs.Rows.{mailed}
+use Rattle.sc_node_table.specs.Slots.{slots_ahead}
+use Rattle.sc_budget_law.specs.Frames.{Frame, IsFrame}
+use Rattle.sc_budget_law.specs.PlainClient.{IsBegun}
+use Rattle.sc_budget_law.specs.PlainMail.{IsPlainBody}
+use Rattle.sc_budget_law.specs.PlainNode.{IsPlainAt, IsDue}
+
+-- a call of the client
+abbrev pub command_token : ℕ → Command → ℕ
+command_token c (Call client seq op) = if client == c then 1 else 0
+command_token c Noop = 0
+command_token c (Join node order) = 0
+command_token c (Leave node order) = 0
+command_token c (Split at child order) = 0
+command_token c (Begin tx body order) = 0
+command_token c (Prepared tx offer) = 0
+command_token c (RecordVote tx vote by) = 0
+command_token c (GiveUp tx) = 0
+command_token c (Finish tx outcome) = 0
+command_token c (Watched tx watch) = 0
+command_token c (RecordWatch tx vote by) = 0
+
+-- its request, or an answer to it
+abbrev pub body_token : ℕ → ℕ → MailBody → ℕ
+body_token c to (Request group client seq op) = if client == c then 1 else 0
+body_token c to (Answer group seq answer) = if to == client_actor c then 1 else 0
+body_token c to (Prepare group ballot from_slot) = 0
+body_token c to (Promise group ballot reports) = 0
+body_token c to (Accept group ballot slot command) = 0
+body_token c to (Accepted group ballot slot) = 0
+body_token c to (Nack group promised) = 0
+body_token c to (Learn group slot command) = 0
+body_token c to (Ask group from_slot) = 0
+body_token c to (Install group slot base sets) = 0
+body_token c to (TxPrepare tx offer) = 0
+body_token c to (TxVote tx coord part vote) = 0
+body_token c to (TxOutcome tx part outcome) = 0
+body_token c to (TxElsewhere tx coord hint) = 0
+body_token c to (TxWatch tx watch) = 0
+body_token c to (TxWatched tx coord part vote) = 0
+body_token c to (Told order result) = 0
+
+-- .. of a mail
+abbrev pub mail_token : ℕ → Mail → ℕ
+mail_token c mail = body_token c mail.to mail.body
+
+-- what is in flight
+abbrev pub flight_tokens : ℕ → List (Flight Command) → ℕ
+flight_tokens c flights = sum_by (λ flight. command_token c flight.value) flights
+
+-- .. and ready
+abbrev pub ready_tokens : ℕ → List (ℕ × Command) → ℕ
+ready_tokens c ready = sum_by (λ entry. command_token c entry.1) ready
+
+-- the client's calls at a replica
+abbrev pub replica_tokens : ℕ → ReplicaState → ℕ
+replica_tokens c r = sum_by (command_token c) r.acts + sum_by (command_token c) r.calls + flight_tokens c r.leader.flights + ready_tokens c r.ready
+
+-- .. and what its row has sent
+abbrev pub place_tokens : ℕ → Place → ℕ
+place_tokens c place = replica_tokens c place.0 + sum_by (mail_token c) place.1
+
+-- While clients ask, no row of a replica raises how often a client's request is under way.
+abbrev pub TokensStay : Type 0
+TokensStay =
+    (scenario : Scenario) (rows : List (Row Mail OrderLine)) (frame : Frame) (c me from : ℕ) (body : MailBody) (r : ReplicaState) → IsFrame frame → next r + slots_ahead ≤ last_slot → IsPlainAt (IsBegun scenario rows) frame me r → IsPlainBody (IsBegun scenario rows) frame from me body → IsDue r body
+    → ((client seq : ℕ) (op : Op) → IsBegun scenario rows client seq op → me ≡ client_actor client → ⊥)
+    → place_tokens c (mailed from body (r, [])).0 ≤ replica_tokens c r + body_token c me body
+
+-- the clients' calls at a node; and of the client itself one more where no request waits
+abbrev pub player_token : ℕ → Player → ℕ
+player_token c (Node node) = sum_by (replica_tokens c) node.replicas
+player_token c (Client client) = if client.me == c then 1 - waiting_one client.waiting else 0
+
+-- .. by players and by mail
+abbrev pub token_owing : ℕ → Owing Player Mail
+token_owing c = record { actor = player_token c; mail = mail_token c }
+
+-- While clients ask, no row raises how often a client's request is under way, one more where none waits.
+abbrev pub TokensNeverRise : Type 0
+TokensNeverRise =
+    (words : ℕ → ℕ → ℕ × ℕ) (scenario : Scenario) (set : Setting) (first : Base) (others : List Base) (rows : List (Row Mail OrderLine)) (row : Row Mail OrderLine) (c : ℕ)
+    → IsValid scenario → scenario.groups ≡ first ∷ others → IsSetting set → IsLinkedSetting set → IsTidy rows → AreFarFromLast scenario set rows → IsAsking words scenario set first rows → IsOrderly (system_of as_nodes words scenario) rows row
+    → owed (system_of as_nodes words scenario) (token_owing c) (rows ++ row ∷ []) ≤ owed (system_of as_nodes words scenario) (token_owing c) rows
+
+-- Where no replica holds a call and no mail is under way, each client counts one at most.
+abbrev pub IdleCountsOnce : Type 0
+IdleCountsOnce =
+    (words : ℕ → ℕ → ℕ × ℕ) (scenario : Scenario) (set : Setting) (first : Base) (others : List Base) (rows : List (Row Mail OrderLine)) (c : ℕ) → IsValid scenario → scenario.groups ≡ first ∷ others → IsAsking words scenario set first rows
+    → ((me : ℕ) (node : NodeState) → 1 ≤ me → me ≤ scenario.nodes → value player_table (node_seat as_nodes scenario.groups scenario.policy me) rows ≡ Node node → sum_by (replica_tokens c) node.replicas ≡ 0)
+    → under_way (system_of as_nodes words scenario) rows ≡ [] → owed (system_of as_nodes words scenario) (token_owing c) rows ≤ 1
