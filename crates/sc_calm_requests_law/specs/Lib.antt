@@ -1,5 +1,6 @@
 pub mod Finding
-pub mod QuietLines
-pub mod OneLog
 pub mod Hearing
+pub mod OneLog
+pub mod QuietLines
+pub mod Rows
 pub mod Tokens

@@ -15,6 +15,7 @@ ghost use Rattle.sc_calm_requests_law.specs.OneLog.{
   LawfulLinesLeaveQuiet,
 };
 ghost use Rattle.sc_calm_requests_law.specs.QuietLines.{LinesLeaveQuiet, LinesLeaveReplicasQuiet};
+ghost use Rattle.sc_calm_requests_law.specs.Rows.{RequestRowsFindCalm};
 ghost use Rattle.sc_calm_requests_law.specs.Tokens.{IdleCountsOnce, TokensNeverRise, TokensStay};
 
 use sc_log_law::groups_are_born_under_new_names;
@@ -122,4 +123,16 @@ pub fn idle_counts_once()
     ensures { IdleCountsOnce }
 {
     valid_scenarios_are_bounded();
+}
+
+/// In a line of requests whatever comes next, in order, finds what it needs: a client that goes, an
+/// answer that it takes, and each mail of a node, by a chart that counts as the setting does.
+pub fn request_rows_find_calm()
+    ensures { RequestRowsFindCalm }
+{
+    valid_scenarios_are_bounded();
+    answers_are_heard_calmly();
+    clients_go_calmly();
+    answers_are_expected();
+    lines_ask_leaders();
 }
