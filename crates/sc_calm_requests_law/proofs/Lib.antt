@@ -21,3 +21,4 @@ mod TokensJournal
 mod TokensOne
 mod LinesAsk
 mod TokensIdle
+mod Starts

@@ -3,3 +3,4 @@ pub mod QuietLines
 pub mod OneLog
 pub mod Hearing
 pub mod Tokens
+pub mod Starts

@@ -15,6 +15,12 @@ ghost use Rattle.sc_calm_requests_law.specs.OneLog.{
   LawfulLinesLeaveQuiet,
 };
 ghost use Rattle.sc_calm_requests_law.specs.QuietLines.{LinesLeaveQuiet, LinesLeaveReplicasQuiet};
+ghost use Rattle.sc_calm_requests_law.specs.Starts.{
+  QuietJournalsCountOnce,
+  QuietJournalsHaveNoMail,
+  QuietJournalsKnowOne,
+  QuietLeadersAreReached,
+};
 ghost use Rattle.sc_calm_requests_law.specs.Tokens.{IdleCountsOnce, TokensNeverRise, TokensStay};
 
 use sc_log_law::groups_are_born_under_new_names;
@@ -123,3 +129,26 @@ pub fn idle_counts_once()
 {
     valid_scenarios_are_bounded();
 }
+
+/// In a quiet journal a client that was not told to go knows one group alone.
+pub fn quiet_journals_know_one()
+    ensures { QuietJournalsKnowOne }
+{}
+
+/// .. and no mail is under way.
+pub fn quiet_journals_have_no_mail()
+    ensures { QuietJournalsHaveNoMail }
+{}
+
+/// .. and each client's request is under way once at most, counting one where none waits. That no
+/// node has two replicas of one group is a premise.
+pub fn quiet_journals_count_once()
+    ensures { QuietJournalsCountOnce }
+{
+    valid_scenarios_are_bounded();
+}
+
+/// .. and each node that leads is reached, by the ways of the latest rounds.
+pub fn quiet_leaders_are_reached()
+    ensures { QuietLeadersAreReached }
+{}
