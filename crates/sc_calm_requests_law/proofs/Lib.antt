@@ -22,3 +22,4 @@ mod TokensOne
 mod LinesAsk
 mod TokensIdle
 mod Starts
+mod NamedOnce

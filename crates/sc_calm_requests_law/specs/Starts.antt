@@ -12,7 +12,7 @@ use Rattle.sc_node_table.specs.Node.{NodeState}
 use Rattle.sc_node_table.specs.Replica.{ReplicaState, name_of}
 use Rattle.sc_scenario.specs.declared.scenarios.Scenario.{Scenario}
 use Rattle.sc_scenario.specs.Valid.{IsValid}
-use Rattle.sc_sound.specs.Players.{player_table, node_seat, system_of, as_nodes}
+use Rattle.sc_sound.specs.Players.{Lawful, player_table, node_seat, system_of, as_nodes}
 use Rattle.sc_orderly_law.specs.Owing.{under_way, owed}
 use Rattle.sc_budget_law.specs.Asking.{IsAsking}
 use Rattle.sc_budget_law.specs.AskingQuiet.{replicas_after, setting_at, AreFramesOf, ways_at, IsQuietJournal}
@@ -49,3 +49,16 @@ QuietLeadersAreReached =
     (words : ℕ → ℕ → ℕ × ℕ) (scenario : Scenario) (first : Base) (rows : List (Row Mail OrderLine)) (frames : List Frame) (latest : Draw → ℕ) (most : ℕ) (asks : Draw → Option (Draw × Bool))
     → IsQuietJournal words scenario first rows → AreFramesOf (replicas_after scenario rows) frames
     → AreReached (setting_at (replicas_after scenario rows) frames (ways_at (replicas_after scenario rows) latest most asks))
+
+-- In a lawful journal of a valid scenario no node has two replicas of one group.
+abbrev pub LawfulReplicasAreNamedOnce : Type 0
+LawfulReplicasAreNamedOnce =
+    (words : ℕ → ℕ → ℕ × ℕ) (scenario : Scenario) (rows : List (Row Mail OrderLine)) (me : ℕ) (node : NodeState) → IsValid scenario → Lawful as_nodes words scenario rows
+    → 1 ≤ me → me ≤ scenario.nodes → value player_table (node_seat as_nodes scenario.groups scenario.policy me) rows ≡ Node node → AreNamedOnce node.replicas
+
+-- .. and so each client's request is under way once at most, where such a journal is quiet.
+abbrev pub LawfulQuietJournalsCountOnce : Type 0
+LawfulQuietJournalsCountOnce =
+    (words : ℕ → ℕ → ℕ × ℕ) (scenario : Scenario) (set : Setting) (first : Base) (others : List Base) (rows : List (Row Mail OrderLine)) (c : ℕ)
+    → IsValid scenario → scenario.groups ≡ first ∷ others → IsAsking words scenario set first rows → IsQuietJournal words scenario first rows → Lawful as_nodes words scenario rows
+    → owed (system_of as_nodes words scenario) (token_owing c) rows ≤ 1

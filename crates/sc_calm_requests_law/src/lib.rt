@@ -16,6 +16,8 @@ ghost use Rattle.sc_calm_requests_law.specs.OneLog.{
 };
 ghost use Rattle.sc_calm_requests_law.specs.QuietLines.{LinesLeaveQuiet, LinesLeaveReplicasQuiet};
 ghost use Rattle.sc_calm_requests_law.specs.Starts.{
+  LawfulQuietJournalsCountOnce,
+  LawfulReplicasAreNamedOnce,
   QuietJournalsCountOnce,
   QuietJournalsHaveNoMail,
   QuietJournalsKnowOne,
@@ -152,3 +154,21 @@ pub fn quiet_journals_count_once()
 pub fn quiet_leaders_are_reached()
     ensures { QuietLeadersAreReached }
 {}
+
+/// In a lawful journal of a valid scenario no node has two replicas of one group.
+pub fn lawful_replicas_are_named_once()
+    ensures { LawfulReplicasAreNamedOnce }
+{
+    valid_scenarios_are_bounded();
+    valid_scenarios_begin_well();
+    orders_are_allowed();
+    names_have_one_owner();
+}
+
+/// .. and so, where it is quiet, each client's request is under way once at most.
+pub fn lawful_quiet_journals_count_once()
+    ensures { LawfulQuietJournalsCountOnce }
+{
+    quiet_journals_count_once();
+    lawful_replicas_are_named_once();
+}
