@@ -22,3 +22,5 @@ mod TokensOne
 mod LinesAsk
 mod TokensIdle
 mod FindsRows
+mod Starts
+mod NamedOnce

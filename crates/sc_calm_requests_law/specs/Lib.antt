@@ -4,3 +4,4 @@ pub mod OneLog
 pub mod QuietLines
 pub mod Rows
 pub mod Tokens
+pub mod Starts

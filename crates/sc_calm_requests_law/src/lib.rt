@@ -16,6 +16,14 @@ ghost use Rattle.sc_calm_requests_law.specs.OneLog.{
 };
 ghost use Rattle.sc_calm_requests_law.specs.QuietLines.{LinesLeaveQuiet, LinesLeaveReplicasQuiet};
 ghost use Rattle.sc_calm_requests_law.specs.Rows.{RequestRowsFindCalm};
+ghost use Rattle.sc_calm_requests_law.specs.Starts.{
+  LawfulQuietJournalsCountOnce,
+  LawfulReplicasAreNamedOnce,
+  QuietJournalsCountOnce,
+  QuietJournalsHaveNoMail,
+  QuietJournalsKnowOne,
+  QuietLeadersAreReached,
+};
 ghost use Rattle.sc_calm_requests_law.specs.Tokens.{IdleCountsOnce, TokensNeverRise, TokensStay};
 
 use sc_log_law::groups_are_born_under_new_names;
@@ -135,4 +143,45 @@ pub fn request_rows_find_calm()
     clients_go_calmly();
     answers_are_expected();
     lines_ask_leaders();
+}
+
+/// In a quiet journal a client that was not told to go knows one group alone.
+pub fn quiet_journals_know_one()
+    ensures { QuietJournalsKnowOne }
+{}
+
+/// .. and no mail is under way.
+pub fn quiet_journals_have_no_mail()
+    ensures { QuietJournalsHaveNoMail }
+{}
+
+/// .. and each client's request is under way once at most, counting one where none waits. That no
+/// node has two replicas of one group is a premise.
+pub fn quiet_journals_count_once()
+    ensures { QuietJournalsCountOnce }
+{
+    valid_scenarios_are_bounded();
+}
+
+/// .. and each node that leads is reached, by the ways of the latest rounds.
+pub fn quiet_leaders_are_reached()
+    ensures { QuietLeadersAreReached }
+{}
+
+/// In a lawful journal of a valid scenario no node has two replicas of one group.
+pub fn lawful_replicas_are_named_once()
+    ensures { LawfulReplicasAreNamedOnce }
+{
+    valid_scenarios_are_bounded();
+    valid_scenarios_begin_well();
+    orders_are_allowed();
+    names_have_one_owner();
+}
+
+/// .. and so, where it is quiet, each client's request is under way once at most.
+pub fn lawful_quiet_journals_count_once()
+    ensures { LawfulQuietJournalsCountOnce }
+{
+    quiet_journals_count_once();
+    lawful_replicas_are_named_once();
 }
