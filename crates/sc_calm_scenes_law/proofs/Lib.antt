@@ -1,3 +1,4 @@
+pub mod Begun
 pub mod Counting
 pub mod Doing
 pub mod Fit

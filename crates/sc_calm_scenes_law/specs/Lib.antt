@@ -1,3 +1,4 @@
+pub mod Begun
 pub mod Counted
 pub mod Fitting
 pub mod Kept

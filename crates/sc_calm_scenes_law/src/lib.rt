@@ -2,6 +2,7 @@
 //! are. Definitions and laws, no logic.
 #![tactic(auto)]
 
+ghost use Rattle.sc_calm_scenes_law.specs.Begun.{ScenariosBeginStill};
 ghost use Rattle.sc_calm_scenes_law.specs.Counted.{OrdersKeep, VotesKeep};
 ghost use Rattle.sc_calm_scenes_law.specs.Fitting.{EntriesFit};
 ghost use Rattle.sc_calm_scenes_law.specs.Kept.{AsidesKeep, LeadersKeep};
@@ -115,4 +116,10 @@ pub fn orders_go_through()
 /// An order stays under way where a node makes its replica of a whole state that a member sends.
 pub fn states_keep()
     ensures { StatesKeep }
+{}
+
+/// Before the first row of a bounded scenario nothing is under way: all groups are free, no leader
+/// has work, and no mail is under way.
+pub fn scenarios_begin_still()
+    ensures { ScenariosBeginStill }
 {}
