@@ -1,7 +1,7 @@
 -- Before the first row of a scenario nothing is under way.
-use Rattle.std.proofs.Common.{◌≡◌, ℕ, zero, suc, eqb, Bool, List, [], ◌∷◌, ◌++◌, length, map, filter, find, Option, Some, None, inl, inr, refl, sym, ◌∙◌, ap, subst}
+use Rattle.std.proofs.Common.{◌≡◌, ℕ, zero, suc, eqb, Bool, List, [], ◌∷◌, ◌++◌, length, map, filter, find, Option, Some, None, refl, sym, ◌∙◌, ap, subst}
 use Rattle.std.proofs.lemmas.Bool.{cond_both}
-use Rattle.sc_base.specs.Among.{Among, Each}
+use Rattle.sc_base.specs.Among.{Each}
 use Rattle.sc_base.specs.Same.{same_draw}
 use Rattle.sc_base.specs.declared.names.Draw.{Draw}
 use Rattle.sc_cmd.specs.declared.cores.Base.{Base}
@@ -19,8 +19,7 @@ use Rattle.sc_scenario.specs.declared.drafts.GroupLine.{GroupLine}
 use Rattle.sc_scenario.specs.declared.scenarios.Asks.{Asks}
 use Rattle.sc_scenario.specs.declared.scenarios.Scenario.{Scenario}
 use Rattle.sc_sound.specs.Players.{Player, node_seat, client_seat, client_seats, route_of, births, as_nodes}
-use Rattle.sc_calm_orders_law.specs.Scenes.{Bond, Unbound, Errand, Work, Here, free}
-use Rattle.sc_calm_orders_law.specs.Stages.{IsAt, Still}
+use Rattle.sc_calm_orders_law.specs.Scenes.{Bond, Unbound, Work, Here, free}
 use Rattle.sc_calm_orders_law.specs.Parts.{bond_in, bond_of, works}
 use Rattle.sc_calm_rows_law.specs.Groups.{replicas_of, replica_in, view_at}
 use Rattle.sc_calm_scenes_law.specs.Begun.{ScenariosBeginStill}

@@ -1,3 +1,4 @@
+pub mod Asked
 pub mod Begun
 pub mod Counting
 pub mod Doing
@@ -9,6 +10,7 @@ pub mod Newest
 pub mod Others
 pub mod Over
 pub mod Parts
+pub mod Reaching
 pub mod Taking
 pub mod Turning
 pub mod Viewing

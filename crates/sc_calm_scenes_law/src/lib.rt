@@ -2,6 +2,7 @@
 //! are. Definitions and laws, no logic.
 #![tactic(auto)]
 
+ghost use Rattle.sc_calm_scenes_law.specs.Asked.{AnswersReachLeaders, AskedKeep};
 ghost use Rattle.sc_calm_scenes_law.specs.Begun.{ScenariosBeginStill};
 ghost use Rattle.sc_calm_scenes_law.specs.Counted.{OrdersKeep, VotesKeep};
 ghost use Rattle.sc_calm_scenes_law.specs.Fitting.{EntriesFit};
@@ -122,4 +123,16 @@ pub fn states_keep()
 /// has work, and no mail is under way.
 pub fn scenarios_begin_still()
     ensures { ScenariosBeginStill }
+{}
+
+/// An order stays under way where a replica is asked for entries, where a vote, a promise or a
+/// refusal comes that its replica does not count, and where the leader is sent what it has.
+pub fn asked_keep()
+    ensures { AskedKeep }
+{}
+
+/// In each stage a vote, an outcome, and that its coordinator is to ask elsewhere go to the node
+/// that leads; so none of them comes beside it.
+pub fn answers_reach_leaders()
+    ensures { AnswersReachLeaders }
 {}
