@@ -3,6 +3,7 @@ pub mod Begun
 pub mod Counting
 pub mod Doing
 pub mod Fit
+pub mod Found
 pub mod Joining
 pub mod Keeping
 pub mod Left

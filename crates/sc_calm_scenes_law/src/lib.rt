@@ -6,6 +6,7 @@ ghost use Rattle.sc_calm_scenes_law.specs.Asked.{AnswersReachLeaders, AskedKeep}
 ghost use Rattle.sc_calm_scenes_law.specs.Begun.{ScenariosBeginStill};
 ghost use Rattle.sc_calm_scenes_law.specs.Counted.{OrdersKeep, VotesKeep};
 ghost use Rattle.sc_calm_scenes_law.specs.Fitting.{EntriesFit};
+ghost use Rattle.sc_calm_scenes_law.specs.Found.{FoundOrdersGoThrough, FoundOrdersKeep};
 ghost use Rattle.sc_calm_scenes_law.specs.Kept.{AsidesKeep, LeadersKeep};
 ghost use Rattle.sc_calm_scenes_law.specs.Kinds.{AsidesAre, AsidesStay, EntriesAre, LeadersAre};
 ghost use Rattle.sc_calm_scenes_law.specs.Making.{StatesKeep};
@@ -135,4 +136,16 @@ pub fn asked_keep()
 /// that leads; so none of them comes beside it.
 pub fn answers_reach_leaders()
     ensures { AnswersReachLeaders }
+{}
+
+/// A row that finds what `FindsOrder` says, by the mail that it takes or the order that it tells,
+/// keeps an order under way.
+pub fn found_orders_keep()
+    ensures { FoundOrdersKeep }
+{}
+
+/// So an order stays under way through a journal of a bounded scenario that comes in time, if each
+/// of its rows finds that.
+pub fn found_orders_go_through()
+    ensures { FoundOrdersGoThrough }
 {}
