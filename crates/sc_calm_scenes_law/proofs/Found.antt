@@ -26,24 +26,29 @@ use Rattle.sc_node_table.specs.Rows.{mailed, request_row, requested, call_refusa
 use Rattle.sc_sound.specs.Players.{Player, player_table, births, as_nodes}
 use Rattle.sc_calm_law.specs.Charts.{players}
 use Rattle.sc_calm_law.specs.Totals.{Rows}
-use Rattle.sc_calm_orders_law.specs.Scenes.{IsOnly, Errand, Elsewhere, Reply, Result}
-use Rattle.sc_calm_orders_law.specs.Parts.{errand_by, errands_for, is_yes, is_cast_yes}
+use Rattle.sc_calm_orders_law.specs.Scenes.{Unbound, Bound, Errand, Question, Elsewhere, Reply, Result, Here, IsOnly}
+use Rattle.sc_calm_orders_law.specs.Stages.{IsUnderWay}
+use Rattle.sc_calm_orders_law.specs.Tables.{IsUnbound, MayFile}
+use Rattle.sc_calm_orders_law.specs.Parts.{bond_of, errand_by, errands_for, is_yes, is_cast_yes}
 use Rattle.sc_calm_orders_law.proofs.Errands.{errands-none}
 use Rattle.sc_calm_rows_law.specs.Turns.{IsSeat, with_event}
+use Rattle.sc_calm_scenes_law.specs.Asked.{IsAsking, IsWaiting, Expects}
 use Rattle.sc_calm_scenes_law.specs.Counted.{IsOrdered}
 use Rattle.sc_calm_scenes_law.specs.Found.{LeaderFinds, BesideFinds, FindsReplica, AtLeader, AtAnother, NodeFinds, FindsFlight, Late, Leaves, Changed, Opened, Voted, Aborted, Decided, Heard, Ended, FindsQuiet, ByLeader, ByAnother, FindsOrder, FoundOrdersKeep, FoundOrdersGoThrough}
 use Rattle.sc_calm_scenes_law.specs.Kept.{KeepsStage, ComesTo, ComesToLeader, ComesBeside, ComesToNone}
+use Rattle.sc_calm_scenes_law.specs.Scenes.{scene_at}
 use Rattle.sc_calm_scenes_law.specs.Taken.{IsTaking}
 use Rattle.sc_calm_scenes_law.proofs.Asked.{asked_keep}
 use Rattle.sc_calm_scenes_law.proofs.Begun.{scenarios_still}
 use Rattle.sc_calm_scenes_law.proofs.Counting.{votes_keep, orders_keep}
 use Rattle.sc_calm_scenes_law.proofs.Joining.{states_keep}
-use Rattle.sc_calm_scenes_law.proofs.Keeping.{leaders_keep, asides_keep, lead_rests, aside_rests}
+use Rattle.sc_calm_scenes_law.proofs.Keeping.{row_of_comes, leaders_keep, asides_keep, lead_rests, aside_rests}
 use Rattle.sc_calm_scenes_law.proofs.Left.{takes_one}
 use Rattle.sc_calm_scenes_law.proofs.Others.{others_keep}
 use Rattle.sc_calm_scenes_law.proofs.Over.{begin_in_quiet, go_through}
-use Rattle.sc_calm_scenes_law.proofs.Reaching.{answers_reach}
+use Rattle.sc_calm_scenes_law.proofs.Reaching.{errand_among, answers_reach}
 use Rattle.sc_calm_scenes_law.proofs.Turning.{calm_is}
+use Rattle.sc_calm_scenes_law.proofs.Viewing.{tell}
 
 none_some : {X : Type 0} {x : X} → None ≡ Some x → ⊥
 none_some e = cc
@@ -86,25 +91,51 @@ module _ (words : ℕ → ℕ → ℕ × ℕ) (births : List (Seat Player)) (row
     flight_found named ballot slot e (Ended flight tx flies me entry) =
         votes_keep.ended words births rows seat number mail group flight r tx (record { comes = c; named = named; ballot = ballot; slot = slot; body = e; flies = flies; me_is = me }) entry
 
+    abbrev waiting : Here
+    waiting = (scene_at births rows).at group
+
+    -- the errand that it takes is one for which the group waits
+    expected : (entry : Draw × Errand) → errand_by mail.from mail.to mail.body ≡ Some entry → IsUnderWay (scene_at births rows) → Expects entry.1 waiting
+    expected entry errand under =
+        answers_reach.waits (scene_at births rows) group entry.1 under
+        (errand_among words births rows seat number mail group entry errand c.comes.node c.comes.taking (row_of_comes words births rows seat number mail group r c.comes).0)
+
+    bond_here : waiting.bond ≡ bond_of r.group.core
+    bond_here = (tell.led births rows group seat.who r c.leads).1.0
+
+    may : IsUnbound r → waiting.work ≡ [] → MayFile r
+    may unbound none = record { running = c.leads.running; unbound = unbound; idle = sym (tell.led births rows group seat.who r c.leads).1.1 ∙ none }
+
     leader_found : (body : MailBody) → mail.body ≡ body → LeaderFinds births rows seat number mail group r body → KeepsStage births rows seat (Deliver number)
-    leader_found (TxPrepare tx offer) e f = leaders_keep.offer words births rows seat number mail group r tx offer c e f.0 f.1
-    leader_found (TxWatch tx watch) e f = leaders_keep.watch words births rows seat number mail group r tx watch c e f.0 f.1
-    leader_found (TxVote tx coord part vote) e f = leaders_keep.vote words births rows seat number mail group r tx coord part vote f.asked f.turn c e f.may f.asking f.turn_is f.none
-    leader_found (TxWatched tx coord part vote) e f = leaders_keep.watched words births rows seat number mail group r tx coord part vote f.asked f.turn c e f.may f.asking f.turn_is f.none
-    leader_found (TxOutcome tx part outcome) e f = leaders_keep.outcome words births rows seat number mail group r tx part outcome c e f.0 f.1
-    leader_found (TxElsewhere tx coord hint) e f =
-        leaders_keep.elsewhere words births rows seat number mail group r tx coord f.asked f.turn f.to c (e ∙ ap (TxElsewhere tx coord) f.hint_is) f.me_is f.settles f.asking
-    leader_found (Accept named ballot slot command) e f = leaders_keep.accept words births rows seat number mail group r named ballot slot command c e f
-    leader_found (Prepare named ballot from_slot) e f = leaders_keep.prepare words births rows seat number mail group r named ballot from_slot c e f
-    leader_found (Nack named ballot) e f = leaders_keep.nack words births rows seat number mail group r named ballot c e f
-    leader_found (Promise named ballot reports) e f = leaders_keep.promise words births rows seat number mail group r named ballot f.work c (e ∙ ap (Promise named ballot) f.bare) f.unbound f.works_are
-    leader_found (Accepted named ballot slot) e f = flight_found named ballot slot e f
-    leader_found (Learn named slot command) e f = asked_keep.learn_late words births rows seat number mail group r named slot command c e f
-    leader_found (Install named slot base sets) e f = asked_keep.install_late words births rows seat number mail group r named slot base sets c e f
-    leader_found (Ask named slot) e f = asked_keep.ask words births rows seat number mail group r named slot c e
-    leader_found (Request named client seq op) e f = lead_rests words births rows seat number mail group r c (Request named client seq op) e refl f
-    leader_found (Answer named seq answer) e f = absurd (strays (Answer named seq answer) e refl c.comes.node c.comes.taking)
-    leader_found (ToldMail order result) e f = absurd (strays (ToldMail order result) e refl c.comes.node c.comes.taking)
+    leader_found (TxPrepare tx offer) e f under =
+        (let w : IsWaiting Unbound waiting = expected (offer.part, Question tx offer.coord false offer.by mail.to) (ap (errand_by mail.from mail.to) e) under in
+        leaders_keep.offer words births rows seat number mail group r tx offer c e (may f.0 w.work) f.1 under)
+    leader_found (TxWatch tx watch) e f under =
+        (let w : IsWaiting Unbound waiting = expected (watch.part, Question tx watch.coord true watch.by mail.to) (ap (errand_by mail.from mail.to) e) under in
+        leaders_keep.watch words births rows seat number mail group r tx watch c e (may f.0 w.work) f.1 under)
+    leader_found (TxVote tx coord party vote) e f under =
+        (let w : IsAsking tx (Some false) waiting = expected (coord, Reply tx false (is_yes vote) mail.from mail.to) (ap (errand_by mail.from mail.to) e) under in
+        leaders_keep.vote words births rows seat number mail group r tx coord party vote w.asked w.turn c e (may f.0 w.work) (sym bond_here ∙ w.bond) (w.turn_is false refl) f.1 under)
+    leader_found (TxWatched tx coord party vote) e f under =
+        (let w : IsAsking tx (Some true) waiting = expected (coord, Reply tx true (is_cast_yes vote) mail.from mail.to) (ap (errand_by mail.from mail.to) e) under in
+        leaders_keep.watched words births rows seat number mail group r tx coord party vote w.asked w.turn c e (may f.0 w.work) (sym bond_here ∙ w.bond) (w.turn_is true refl) f.1 under)
+    leader_found (TxOutcome tx party outcome) e f under =
+        (let w : IsWaiting (Bound tx) waiting = expected (party, Result tx mail.to) (ap (errand_by mail.from mail.to) e) under in
+        leaders_keep.outcome words births rows seat number mail group r tx party outcome c e (may f w.work) (sym bond_here ∙ w.bond_is) under)
+    leader_found (TxElsewhere tx coord hint) e f under =
+        (let w : IsAsking tx None waiting = expected (coord, Elsewhere tx mail.to) (ap (errand_by mail.from mail.to) e) under in
+        leaders_keep.elsewhere words births rows seat number mail group r tx coord w.asked w.turn f.to c (e ∙ ap (TxElsewhere tx coord) f.hint_is) f.me_is f.settles (sym bond_here ∙ w.bond) under)
+    leader_found (Accept named ballot slot command) e f under = leaders_keep.accept words births rows seat number mail group r named ballot slot command c e f under
+    leader_found (Prepare named ballot from_slot) e f under = leaders_keep.prepare words births rows seat number mail group r named ballot from_slot c e f under
+    leader_found (Nack named ballot) e f under = leaders_keep.nack words births rows seat number mail group r named ballot c e f under
+    leader_found (Promise named ballot reports) e f under = leaders_keep.promise words births rows seat number mail group r named ballot f.work c (e ∙ ap (Promise named ballot) f.bare) f.unbound f.works_are under
+    leader_found (Accepted named ballot slot) e f under = flight_found named ballot slot e f under
+    leader_found (Learn named slot command) e f under = asked_keep.learn_late words births rows seat number mail group r named slot command c e f under
+    leader_found (Install named slot base sets) e f under = asked_keep.install_late words births rows seat number mail group r named slot base sets c e f under
+    leader_found (Ask named slot) e f under = asked_keep.ask words births rows seat number mail group r named slot c e under
+    leader_found (Request named client seq op) e f under = lead_rests words births rows seat number mail group r c (Request named client seq op) e refl f under
+    leader_found (Answer named seq answer) e f under = absurd (strays (Answer named seq answer) e refl c.comes.node c.comes.taking)
+    leader_found (ToldMail order result) e f under = absurd (strays (ToldMail order result) e refl c.comes.node c.comes.taking)
 
   -- ---- beside it
 

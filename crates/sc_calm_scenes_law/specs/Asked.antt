@@ -1,5 +1,5 @@
 -- That what is answered from what a replica has, and what comes too late, does nothing of an order; and that all but questions goes to the node that leads.
-use Rattle.std.specs.Prelude.{◌≡◌, ℕ, ◌<◌, false, List, Option, Some, None}
+use Rattle.std.specs.Prelude.{◌≡◌, ℕ, ◌<◌, Bool, false, List, [], Option, Some, None}
 use Rattle.sc_base.specs.Among.{Among}
 use Rattle.sc_base.specs.declared.names.Ballot.{Ballot}
 use Rattle.sc_base.specs.declared.names.Draw.{Draw}
@@ -15,7 +15,7 @@ use Rattle.sc_paxos_words.specs.declared.reports.Report.{Report}
 use Rattle.sc_paxos_words.specs.Leaders.{flight_at}
 use Rattle.sc_sound.specs.Players.{Player}
 use Rattle.sc_calm_law.specs.Totals.{Rows}
-use Rattle.sc_calm_orders_law.specs.Scenes.{Errand, Question, Elsewhere, Reply, Result, Scene}
+use Rattle.sc_calm_orders_law.specs.Scenes.{Turn, is_watch, Bond, Unbound, Asking, Bound, Errand, Question, Elsewhere, Reply, Result, Here, Scene}
 use Rattle.sc_calm_orders_law.specs.Stages.{IsUnderWay}
 use Rattle.sc_calm_orders_law.specs.Parts.{errand_by}
 use Rattle.sc_calm_scenes_law.specs.Kept.{KeepsStage, ComesToLeader, ComesBeside, ComesToNone}
@@ -46,9 +46,30 @@ leader_sought (Elsewhere tx to) = Some to
 leader_sought (Reply tx watch agreed by to) = Some to
 leader_sought (Result tx to) = Some to
 
--- In each stage such an errand goes to the node that leads its group; so it comes neither to another, nor to a node without replica.
+-- a coordinator waits in this turn, and its leader has no work
+pub record IsAsking (tx : Draw) (watch : Option Bool) (here : Here) : Type 0 where
+  pub asked : Draw
+  pub turn : Turn
+  pub bond : here.bond ≡ Asking tx asked turn
+  pub turn_is : (vote : Bool) → watch ≡ Some vote → is_watch turn ≡ vote
+  pub work : here.work ≡ []
+
+-- a group has this bond, and its leader no work
+pub record IsWaiting (bond : Bond) (here : Here) : Type 0 where
+  pub bond_is : here.bond ≡ bond
+  pub work : here.work ≡ []
+
+-- what the group is for which an errand is under way: one that is asked is bound by nothing, one that hears a vote or is to ask elsewhere is the coordinator, and one that hears an outcome is bound
+abbrev pub Expects : Errand → Here → Type 0
+Expects (Question tx coord watch by to) here = IsWaiting Unbound here
+Expects (Elsewhere tx to) here = IsAsking tx None here
+Expects (Reply tx watch agreed by to) here = IsAsking tx (Some watch) here
+Expects (Result tx to) here = IsWaiting (Bound tx) here
+
+-- In each stage such an errand goes to the node that leads its group; so it comes neither to another, nor to a node without replica. And the group of an errand waits for it.
 pub record AnswersReachLeaders : Type 0 where
   pub led : (now : Scene) (group : Draw) (errand : Errand) (to : ℕ) → IsUnderWay now → Among errand (now.at group).errands → leader_sought errand ≡ Some to → now.lead group ≡ Some to
+  pub waits : (now : Scene) (group : Draw) (errand : Errand) → IsUnderWay now → Among errand (now.at group).errands → Expects errand (now.at group)
   pub beside : (words : ℕ → ℕ → ℕ × ℕ) (births : List (Seat Player)) (rows : Rows) (seat : Seat Player) (number : ℕ) (mail : Mail) (group : Draw) (r : ReplicaState) (entry : Draw × Errand)
       → ComesBeside words births rows seat number mail group r → errand_by mail.from mail.to mail.body ≡ Some entry → leader_sought entry.1 ≡ Some mail.to → KeepsStage births rows seat (Deliver number)
   pub missed : (words : ℕ → ℕ → ℕ × ℕ) (births : List (Seat Player)) (rows : Rows) (seat : Seat Player) (number : ℕ) (mail : Mail) (group : Draw) (entry : Draw × Errand)

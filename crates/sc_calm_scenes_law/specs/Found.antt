@@ -31,12 +31,12 @@ use Rattle.sc_scenario.specs.declared.scenarios.Scenario.{Scenario}
 use Rattle.sc_sound.specs.Players.{Player, player_table, births, as_nodes}
 use Rattle.sc_calm_law.specs.Charts.{players}
 use Rattle.sc_calm_law.specs.Totals.{Rows}
-use Rattle.sc_calm_orders_law.specs.Scenes.{Turn, First, Lone, Next, is_watch, Unbound, Asking, Bound, Question, Reply, Work, Opens, Answers, Records, Ends}
+use Rattle.sc_calm_orders_law.specs.Scenes.{Turn, First, Lone, Next, is_watch, Unbound, Asking, Question, Reply, Work, Opens, Answers, Records, Ends}
 use Rattle.sc_calm_orders_law.specs.Stages.{bound_by, IsOrder, IsUnderWay}
 use Rattle.sc_calm_orders_law.specs.Rows.{results}
 use Rattle.sc_calm_orders_law.specs.Parts.{bond_of, works, errand_by}
 use Rattle.sc_calm_orders_law.specs.Running.{IsIdle, FliesLone}
-use Rattle.sc_calm_orders_law.specs.Tables.{IsUnbound, Works, MayFile}
+use Rattle.sc_calm_orders_law.specs.Tables.{IsUnbound, Works}
 use Rattle.sc_calm_rows_law.specs.Groups.{view_at}
 use Rattle.sc_calm_rows_law.specs.Turns.{IsSeat, with_event, IsWholeState}
 use Rattle.sc_calm_scenes_law.specs.Counted.{IsEntry, StaysIn, IsOrdered}
@@ -49,24 +49,12 @@ use Rattle.sc_calm_scenes_law.specs.Turns.{LeadsAlone}
 
 -- ---- the leader
 
--- a coordinator's leader waits for such a vote, a watcher's or another's, and has noted no outcome
-pub record AwaitsReply (watch : Bool) (tx : Draw) (r : ReplicaState) : Type 0 where
-  pub may : MayFile r
-  pub asked : Draw
-  pub turn : Turn
-  pub asking : bond_of r.group.core ≡ Asking tx asked turn
-  pub turn_is : is_watch turn ≡ watch
-  pub none : noted_outcome r.group.core tx ≡ None
-
 -- a settled coordinator is sent to a node
-pub record IsSentOn (me : ℕ) (tx : Draw) (hint : Option ℕ) (r : ReplicaState) : Type 0 where
+pub record IsSentOn (me : ℕ) (hint : Option ℕ) (r : ReplicaState) : Type 0 where
   pub to : ℕ
   pub hint_is : hint ≡ Some to
   pub me_is : r.me ≡ me
   pub settles : settled r ≡ true
-  pub asked : Draw
-  pub turn : Turn
-  pub asking : bond_of r.group.core ≡ Asking tx asked turn
 
 -- a promise reports nothing, to a leader that has one work, or none
 pub record IsBarePromise (reports : List (Report Command)) (r : ReplicaState) : Type 0 where
@@ -99,12 +87,12 @@ pub data FindsFlight (births : List (Seat Player)) (rows : Rows) (seat : Seat Pl
 
 -- what a mail finds at the leader, by its body
 abbrev pub LeaderFinds : List (Seat Player) → Rows → Seat Player → ℕ → Mail → Draw → ReplicaState → MailBody → Type 0
-LeaderFinds births rows seat number mail group r (TxPrepare tx offer) = MayFile r × (standing_vote r.group.core tx ≡ None)
-LeaderFinds births rows seat number mail group r (TxWatch tx watch) = MayFile r × (standing_vote r.group.core tx ≡ None)
-LeaderFinds births rows seat number mail group r (TxVote tx coord part vote) = AwaitsReply false tx r
-LeaderFinds births rows seat number mail group r (TxWatched tx coord part vote) = AwaitsReply true tx r
-LeaderFinds births rows seat number mail group r (TxOutcome tx part outcome) = MayFile r × (bond_of r.group.core ≡ Bound tx)
-LeaderFinds births rows seat number mail group r (TxElsewhere tx coord hint) = IsSentOn seat.who tx hint r
+LeaderFinds births rows seat number mail group r (TxPrepare tx offer) = IsUnbound r × (standing_vote r.group.core tx ≡ None)
+LeaderFinds births rows seat number mail group r (TxWatch tx watch) = IsUnbound r × (standing_vote r.group.core tx ≡ None)
+LeaderFinds births rows seat number mail group r (TxVote tx coord part vote) = IsUnbound r × (noted_outcome r.group.core tx ≡ None)
+LeaderFinds births rows seat number mail group r (TxWatched tx coord part vote) = IsUnbound r × (noted_outcome r.group.core tx ≡ None)
+LeaderFinds births rows seat number mail group r (TxOutcome tx part outcome) = IsUnbound r
+LeaderFinds births rows seat number mail group r (TxElsewhere tx coord hint) = IsSentOn seat.who hint r
 LeaderFinds births rows seat number mail group r (Accept named ballot slot command) = GoesOn ballot r
 LeaderFinds births rows seat number mail group r (Prepare named ballot from_slot) = GoesOn ballot r
 LeaderFinds births rows seat number mail group r (Nack named ballot) = GoesOn ballot r

@@ -132,8 +132,8 @@ pub fn asked_keep()
     ensures { AskedKeep }
 {}
 
-/// In each stage a vote, an outcome, and that its coordinator is to ask elsewhere go to the node
-/// that leads; so none of them comes beside it.
+/// In each stage a vote, an outcome, and that a coordinator is to ask elsewhere go to the node
+/// that leads, so none of them comes beside it; and the group of an errand waits for it.
 pub fn answers_reach_leaders()
     ensures { AnswersReachLeaders }
 {}
