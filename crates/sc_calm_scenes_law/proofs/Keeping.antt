@@ -96,7 +96,7 @@ module _ (words : ℕ → ℕ → ℕ × ℕ) (births : List (Seat Player)) (row
         only_as sent (λ n. errands_for n after.1) (errands_sent rows seat event) (λ n. ap (errands_for n) (row_of_comes c.comes).1.sends)
         (subst (λ b. IsOnly [] sent (λ n. errands_for n (mailed mail.from b (r, [])).0.1)) (sym e) only)
 
-    aside_rests : ComesBeside words births rows seat number mail group r → (body : MailBody) → mail.body ≡ body → option_map (λ entry. entry.1) (errand_by mail.from mail.to body) ≡ None
+    pub aside_rests : ComesBeside words births rows seat number mail group r → (body : MailBody) → mail.body ≡ body → option_map (λ entry. entry.1) (errand_by mail.from mail.to body) ≡ None
         → IsOnly [] [] (λ n. errands_for n (mailed mail.from body (r, [])).0.1) → KeepsStage births rows seat event
     aside_rests c body e none only =
         keeps_by Rests rests-keep words births rows seat event group (row_of_comes c.comes).0

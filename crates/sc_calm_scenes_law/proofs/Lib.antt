@@ -1,6 +1,9 @@
+pub mod Asked
+pub mod Begun
 pub mod Counting
 pub mod Doing
 pub mod Fit
+pub mod Found
 pub mod Joining
 pub mod Keeping
 pub mod Left
@@ -8,6 +11,7 @@ pub mod Newest
 pub mod Others
 pub mod Over
 pub mod Parts
+pub mod Reaching
 pub mod Taking
 pub mod Turning
 pub mod Viewing

@@ -147,7 +147,7 @@ module _ (words : ℕ → ℕ → ℕ × ℕ) (births : List (Seat Player)) (row
 
   -- ---- the row
 
-  calm_is : (event : Event OrderLine) → IsCalmRow (players words births) rows (row_of player_table seat rows event) → IsCalmEvent (players words births) rows seat.who event
+  pub calm_is : (event : Event OrderLine) → IsCalmRow (players words births) rows (row_of player_table seat rows event) → IsCalmEvent (players words births) rows seat.who event
   calm_is event calm =
       let who : calm.seat.who ≡ seat.who = sym (ap (λ (r : Row Mail OrderLine). r.who) calm.row_is) in
       let is : calm.event ≡ event = sym (ap (λ (r : Row Mail OrderLine). r.event) calm.row_is) in

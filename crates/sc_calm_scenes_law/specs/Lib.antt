@@ -1,5 +1,8 @@
+pub mod Asked
+pub mod Begun
 pub mod Counted
 pub mod Fitting
+pub mod Found
 pub mod Kept
 pub mod Kinds
 pub mod Making

@@ -2,8 +2,11 @@
 //! are. Definitions and laws, no logic.
 #![tactic(auto)]
 
+ghost use Rattle.sc_calm_scenes_law.specs.Asked.{AnswersReachLeaders, AskedKeep};
+ghost use Rattle.sc_calm_scenes_law.specs.Begun.{ScenariosBeginStill};
 ghost use Rattle.sc_calm_scenes_law.specs.Counted.{OrdersKeep, VotesKeep};
 ghost use Rattle.sc_calm_scenes_law.specs.Fitting.{EntriesFit};
+ghost use Rattle.sc_calm_scenes_law.specs.Found.{FoundOrdersGoThrough, FoundOrdersKeep};
 ghost use Rattle.sc_calm_scenes_law.specs.Kept.{AsidesKeep, LeadersKeep};
 ghost use Rattle.sc_calm_scenes_law.specs.Kinds.{AsidesAre, AsidesStay, EntriesAre, LeadersAre};
 ghost use Rattle.sc_calm_scenes_law.specs.Making.{StatesKeep};
@@ -115,4 +118,34 @@ pub fn orders_go_through()
 /// An order stays under way where a node makes its replica of a whole state that a member sends.
 pub fn states_keep()
     ensures { StatesKeep }
+{}
+
+/// Before the first row of a bounded scenario nothing is under way: all groups are free, no leader
+/// has work, and no mail is under way.
+pub fn scenarios_begin_still()
+    ensures { ScenariosBeginStill }
+{}
+
+/// An order stays under way where a replica is asked for entries, where a vote, a promise or a
+/// refusal comes that its replica does not count, and where the leader is sent what it has.
+pub fn asked_keep()
+    ensures { AskedKeep }
+{}
+
+/// In each stage a vote, an outcome, and that a coordinator is to ask elsewhere go to the node
+/// that leads, so none of them comes beside it; and the group of an errand waits for it.
+pub fn answers_reach_leaders()
+    ensures { AnswersReachLeaders }
+{}
+
+/// A row that finds what `FindsOrder` says, by the mail that it takes or the order that it tells,
+/// keeps an order under way.
+pub fn found_orders_keep()
+    ensures { FoundOrdersKeep }
+{}
+
+/// So an order stays under way through a journal of a bounded scenario that comes in time, if each
+/// of its rows finds that.
+pub fn found_orders_go_through()
+    ensures { FoundOrdersGoThrough }
 {}

@@ -1,0 +1,76 @@
+-- That what is answered from what a replica has, and what comes too late, does nothing of an order; and that all but questions goes to the node that leads.
+use Rattle.std.specs.Prelude.{◌≡◌, ℕ, ◌<◌, Bool, false, List, [], Option, Some, None}
+use Rattle.sc_base.specs.Among.{Among}
+use Rattle.sc_base.specs.declared.names.Ballot.{Ballot}
+use Rattle.sc_base.specs.declared.names.Draw.{Draw}
+use Rattle.sc_cmd.specs.declared.commands.Command.{Command}
+use Rattle.sc_cmd.specs.declared.cores.Base.{Base}
+use Rattle.sc_law_lemmas.specs.Steps.{GoesOn}
+use Rattle.sc_mail.specs.declared.bodies.Mail.{Mail}
+use Rattle.sc_mail.specs.declared.bodies.MailBody.TheVariants.{Ask, Accepted, Promise, Nack, Learn, Install}
+use Rattle.sc_actor.specs.declared.actors.Seat.{Seat}
+use Rattle.sc_actor.specs.declared.rows.Event.TheVariants.{Deliver}
+use Rattle.sc_node_table.specs.Replica.{ReplicaState, next}
+use Rattle.sc_paxos_words.specs.declared.reports.Report.{Report}
+use Rattle.sc_paxos_words.specs.Leaders.{flight_at}
+use Rattle.sc_sound.specs.Players.{Player}
+use Rattle.sc_calm_law.specs.Totals.{Rows}
+use Rattle.sc_calm_orders_law.specs.Scenes.{Turn, is_watch, Bond, Unbound, Asking, Bound, Errand, Question, Elsewhere, Reply, Result, Here, Scene}
+use Rattle.sc_calm_orders_law.specs.Stages.{IsUnderWay}
+use Rattle.sc_calm_orders_law.specs.Parts.{errand_by}
+use Rattle.sc_calm_scenes_law.specs.Kept.{KeepsStage, ComesToLeader, ComesBeside, ComesToNone}
+
+-- An order stays under way where a replica is asked for entries; where a vote comes to one that does not run, or to the leader for a slot at which nothing is in flight; where a promise, or a refusal, comes to one that does not run; and where the leader learns an entry, or is sent a state, that it has.
+pub record AskedKeep : Type 0 where
+  pub ask : (words : ℕ → ℕ → ℕ × ℕ) (births : List (Seat Player)) (rows : Rows) (seat : Seat Player) (number : ℕ) (mail : Mail) (group : Draw) (r : ReplicaState) (named : Draw) (slot : ℕ)
+      → ComesToLeader words births rows seat number mail group r → mail.body ≡ Ask named slot → KeepsStage births rows seat (Deliver number)
+  pub ask_beside : (words : ℕ → ℕ → ℕ × ℕ) (births : List (Seat Player)) (rows : Rows) (seat : Seat Player) (number : ℕ) (mail : Mail) (group : Draw) (r : ReplicaState) (named : Draw) (slot : ℕ)
+      → ComesBeside words births rows seat number mail group r → mail.body ≡ Ask named slot → KeepsStage births rows seat (Deliver number)
+  pub vote_late : (words : ℕ → ℕ → ℕ × ℕ) (births : List (Seat Player)) (rows : Rows) (seat : Seat Player) (number : ℕ) (mail : Mail) (group : Draw) (r : ReplicaState) (named : Draw) (ballot : Ballot) (slot : ℕ)
+      → ComesToLeader words births rows seat number mail group r → mail.body ≡ Accepted named ballot slot → flight_at slot r.leader.flights ≡ None → KeepsStage births rows seat (Deliver number)
+  pub vote_beside : (words : ℕ → ℕ → ℕ × ℕ) (births : List (Seat Player)) (rows : Rows) (seat : Seat Player) (number : ℕ) (mail : Mail) (group : Draw) (r : ReplicaState) (named : Draw) (ballot : Ballot) (slot : ℕ)
+      → ComesBeside words births rows seat number mail group r → mail.body ≡ Accepted named ballot slot → r.running ≡ false → KeepsStage births rows seat (Deliver number)
+  pub promise_beside : (words : ℕ → ℕ → ℕ × ℕ) (births : List (Seat Player)) (rows : Rows) (seat : Seat Player) (number : ℕ) (mail : Mail) (group : Draw) (r : ReplicaState) (named : Draw) (ballot : Ballot) (reports : List (Report Command))
+      → ComesBeside words births rows seat number mail group r → mail.body ≡ Promise named ballot reports → r.running ≡ false → KeepsStage births rows seat (Deliver number)
+  pub nack_beside : (words : ℕ → ℕ → ℕ × ℕ) (births : List (Seat Player)) (rows : Rows) (seat : Seat Player) (number : ℕ) (mail : Mail) (group : Draw) (r : ReplicaState) (named : Draw) (ballot : Ballot)
+      → ComesBeside words births rows seat number mail group r → mail.body ≡ Nack named ballot → GoesOn ballot r → KeepsStage births rows seat (Deliver number)
+  pub learn_late : (words : ℕ → ℕ → ℕ × ℕ) (births : List (Seat Player)) (rows : Rows) (seat : Seat Player) (number : ℕ) (mail : Mail) (group : Draw) (r : ReplicaState) (named : Draw) (slot : ℕ) (command : Command)
+      → ComesToLeader words births rows seat number mail group r → mail.body ≡ Learn named slot command → slot < next r → KeepsStage births rows seat (Deliver number)
+  pub install_late : (words : ℕ → ℕ → ℕ × ℕ) (births : List (Seat Player)) (rows : Rows) (seat : Seat Player) (number : ℕ) (mail : Mail) (group : Draw) (r : ReplicaState) (named : Draw) (slot : ℕ) (base : Base) (sets : List (List ℕ))
+      → ComesToLeader words births rows seat number mail group r → mail.body ≡ Install named slot base sets → slot < next r → KeepsStage births rows seat (Deliver number)
+
+-- the node to which an errand goes that only the leader can take: all but a question
+abbrev pub leader_sought : Errand → Option ℕ
+leader_sought (Question tx coord watch by to) = None
+leader_sought (Elsewhere tx to) = Some to
+leader_sought (Reply tx watch agreed by to) = Some to
+leader_sought (Result tx to) = Some to
+
+-- a coordinator waits in this turn, and its leader has no work
+pub record IsAsking (tx : Draw) (watch : Option Bool) (here : Here) : Type 0 where
+  pub asked : Draw
+  pub turn : Turn
+  pub bond : here.bond ≡ Asking tx asked turn
+  pub turn_is : (vote : Bool) → watch ≡ Some vote → is_watch turn ≡ vote
+  pub work : here.work ≡ []
+
+-- a group has this bond, and its leader no work
+pub record IsWaiting (bond : Bond) (here : Here) : Type 0 where
+  pub bond_is : here.bond ≡ bond
+  pub work : here.work ≡ []
+
+-- what the group is for which an errand is under way: one that is asked is bound by nothing, one that hears a vote or is to ask elsewhere is the coordinator, and one that hears an outcome is bound
+abbrev pub Expects : Errand → Here → Type 0
+Expects (Question tx coord watch by to) here = IsWaiting Unbound here
+Expects (Elsewhere tx to) here = IsAsking tx None here
+Expects (Reply tx watch agreed by to) here = IsAsking tx (Some watch) here
+Expects (Result tx to) here = IsWaiting (Bound tx) here
+
+-- In each stage such an errand goes to the node that leads its group; so it comes neither to another, nor to a node without replica. And the group of an errand waits for it.
+pub record AnswersReachLeaders : Type 0 where
+  pub led : (now : Scene) (group : Draw) (errand : Errand) (to : ℕ) → IsUnderWay now → Among errand (now.at group).errands → leader_sought errand ≡ Some to → now.lead group ≡ Some to
+  pub waits : (now : Scene) (group : Draw) (errand : Errand) → IsUnderWay now → Among errand (now.at group).errands → Expects errand (now.at group)
+  pub beside : (words : ℕ → ℕ → ℕ × ℕ) (births : List (Seat Player)) (rows : Rows) (seat : Seat Player) (number : ℕ) (mail : Mail) (group : Draw) (r : ReplicaState) (entry : Draw × Errand)
+      → ComesBeside words births rows seat number mail group r → errand_by mail.from mail.to mail.body ≡ Some entry → leader_sought entry.1 ≡ Some mail.to → KeepsStage births rows seat (Deliver number)
+  pub missed : (words : ℕ → ℕ → ℕ × ℕ) (births : List (Seat Player)) (rows : Rows) (seat : Seat Player) (number : ℕ) (mail : Mail) (group : Draw) (entry : Draw × Errand)
+      → ComesToNone words births rows seat number mail group → errand_by mail.from mail.to mail.body ≡ Some entry → leader_sought entry.1 ≡ Some mail.to → KeepsStage births rows seat (Deliver number)
