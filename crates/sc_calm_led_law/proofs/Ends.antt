@@ -1,0 +1,124 @@
+-- A group is gone by its log as its replicas say.
+use Rattle.std.proofs.Common.{◌≡◌, ℕ, ◌+◌, ◌-◌, ◌≤◌, true, false, List, [], ◌∷◌, ◌++◌, length, take, is_some, Some, None, refl, sym, ◌∙◌, ap, subst, arith}
+use Rattle.sc_base.proofs.NameLemmas.{same_name}
+use Rattle.sc_cmd.specs.declared.commands.Command.{Command}
+use Rattle.sc_cmd.specs.declared.cores.Base.{Base}
+use Rattle.sc_cmd.specs.declared.links.Route.{Route}
+use Rattle.sc_mail.specs.declared.bodies.Mail.{Mail}
+use Rattle.sc_mail.specs.declared.bodies.MailBody.{MailBody}
+use Rattle.sc_mail.specs.declared.bodies.MailBody.TheVariants.{Learn}
+use Rattle.sc_machine_table.specs.Group.{Group, group_of}
+use Rattle.sc_machine_table.specs.Logs.{state_after}
+use Rattle.sc_member.specs.Roster.{IsRoster, is_member}
+use Rattle.sc_actor.specs.declared.actors.Seat.{Seat}
+use Rattle.sc_actor.specs.Mail.{mails, numbered}
+use Rattle.sc_paxos_law.specs.Chosen.{IsLog}
+use Rattle.sc_paxos_law.specs.Lawful.{IsLawfulHistory}
+use Rattle.sc_scenario.specs.Valid.{ValidScenariosAreBounded}
+use Rattle.sc_scenario.specs.declared.scenarios.Scenario.{Scenario}
+use Rattle.sc_node_table.specs.Execute.{entered}
+use Rattle.sc_node_table.specs.Node.{NodeState}
+use Rattle.sc_node_table.specs.Replica.{ReplicaState, next}
+use Rattle.sc_sound.specs.Logs.{decided_log}
+use Rattle.sc_sound.specs.Players.{Ahead, Player, route_of}
+use Rattle.sc_log_law.specs.Descent.{Rows}
+use Rattle.sc_ring_law.specs.Allowed.{Sources}
+use Rattle.sc_names_law.specs.Laws.{OtherNamesAreFree, TakenOrdersAreAllowed, TakenWishesAreAllowed, WishesAreAtPositions}
+use Rattle.sc_names_law.specs.Owners.{owner_in}
+use Rattle.sc_group_law.proofs.Families.{h_of}
+use Rattle.sc_group_law.proofs.Growth.{IsLearnt}
+use Rattle.sc_group_law.proofs.Invariant.{Steps, rule, first, birth, IsTrue}
+use Rattle.sc_group_law.proofs.RowSteps.{number_among}
+use Rattle.sc_whole_law.specs.Begins.{BeginsWell, section_op}
+use Rattle.sc_whole_law.specs.Orders.{OrdersAreAllowed}
+use Rattle.sc_whole_law.specs.Parameters.{MayQueue, IsHeardAt}
+use Rattle.sc_whole_law.specs.StartLaws.{ValidScenariosBeginWell}
+use Rattle.sc_whole_law.proofs.Scheduled.{orders_allowed}
+use Rattle.sc_calm_logs_law.specs.Logged.{IsGroupOf, HasReplica}
+use Rattle.sc_calm_logs_law.proofs.Along.{IsAlong, entered_along}
+use Rattle.sc_calm_logs_law.proofs.Journals.{part, roster, fronts, sent_in, along}
+use Rattle.sc_calm_led_law.specs.Led.{over_at, GroupsBeginStanding, EndsAreLogged}
+use Rattle.sc_calm_led_law.proofs.Begins.{begun_first, begun_stands}
+use Rattle.sc_calm_led_law.proofs.Gone.{later_gone}
+
+-- what is gone by a log stays so
+over_stays : (ahead : Ahead) (base : Base) (journal : Rows) (slot later : ℕ) → slot ≤ later → over_at ahead base journal slot ≡ true → over_at ahead base journal later ≡ true
+over_stays ahead base journal slot later low = later_gone (decided_log ahead base journal) (group_of base) (slot - 1) (later - 1) (omega (arith, low))
+
+-- what the laws under this one say of valid scenarios
+module _ (bounded : ValidScenariosAreBounded) (begin : ValidScenariosBeginWell) (allowed : TakenOrdersAreAllowed) (wishes : TakenWishesAreAllowed) (positions : WishesAreAtPositions) (free : OtherNamesAreFree) where
+  module _ (ahead : Ahead) (words : ℕ → ℕ → ℕ × ℕ) (scenario : Scenario) (journal : Rows) (base : Base) (group : IsGroupOf ahead words scenario journal base) where
+    abbrev sources : Sources
+    sources = record { owner = owner_in ahead scenario journal; request = section_op scenario }
+
+    abbrev route : Route
+    route = route_of (begin (owner_in ahead scenario journal) (free ahead scenario journal) ahead group.open_slots scenario group.valid).first
+
+    well : BeginsWell sources ahead scenario route
+    well = (begin (owner_in ahead scenario journal) (free ahead scenario journal) ahead group.open_slots scenario group.valid).well
+
+    orders : OrdersAreAllowed sources ahead scenario journal
+    orders = orders_allowed ahead words scenario (bounded scenario group.valid) allowed wishes positions journal group.lawful
+
+    abbrev h : Steps
+    h = h_of journal base
+
+    abbrev all : List Command
+    all = decided_log ahead base journal
+
+    abbrev lawful_steps : IsLawfulHistory (rule ahead base) (first ahead base) h
+    lawful_steps = (part sources ahead words scenario route well journal orders group.lawful base group.stands).lawful
+
+    abbrev first_members : IsRoster base.core.members
+    first_members = roster sources ahead words scenario route well journal orders group.lawful base group.stands
+
+    abbrev all_fronts : (log : List Command) → IsLog (rule ahead base) h log → (length log ≤ length all) × (take (length log) all ≡ log)
+    all_fronts = fronts sources ahead words scenario route well journal orders group.lawful base group.stands
+
+    abbrev Along : ReplicaState → Type 0
+    Along r = IsAlong ahead group.open_slots base first_members h lawful_steps all all_fronts r
+
+    -- a replica along the log says of the group's end what the log says
+    along_ends : (r : ReplicaState) → Along r → is_some r.group.core.gone ≡ over_at ahead base journal (next r)
+    along_ends r k =
+        let next_is = k.next_is in
+        let same : length k.whole ≡ next r - 1 = omega (arith, next_is) in
+        ap (λ (g : Group). is_some g.core.gone) k.group_is ∙ ap (λ log. is_some (state_after (group_of base) log).core.gone) (sym (all_fronts k.whole k.is_log).1)
+        ∙ ap (λ n. is_some (state_after (group_of base) (take n all)).core.gone) same
+
+    said : (rows more : Rows) → journal ≡ rows ++ more → (number : ℕ) (mail : Mail) (body : MailBody) → numbered (mails rows) number ≡ Some mail → mail.body ≡ body
+        → IsTrue ahead base (MayQueue sources ahead scenario journal base) (IsHeardAt sources ahead scenario journal) h mail body
+    said rows more e number mail body sent is =
+        subst (IsTrue ahead base (MayQueue sources ahead scenario journal base) (IsHeardAt sources ahead scenario journal) h mail) is
+        ((part sources ahead words scenario route well journal orders group.lawful base group.stands).true_mail mail
+        (sent_in sources ahead words scenario route well journal orders group.lawful base group.stands rows more e mail (number_among (mails rows) number mail sent)))
+
+    module _ (rows : Rows) (seat : Seat Player) (node : NodeState) (r : ReplicaState) (has : HasReplica ahead scenario journal base rows seat node r) where
+      k : Along r
+      k = along sources ahead words scenario route well journal orders group.lawful base group.stands rows seat node r has group.open_slots
+
+      replica_ends : is_some r.group.core.gone ≡ over_at ahead base journal (next r)
+      replica_ends = along_ends r k
+
+      entered_ends : (number : ℕ) (mail : Mail) (slot : ℕ) (command : Command) → numbered (mails rows) number ≡ Some mail → mail.body ≡ Learn base.core.id slot command → slot ≡ next r
+          → is_some (entered command r).group.core.gone ≡ over_at ahead base journal (next (entered command r))
+      entered_ends number mail slot command sent is at =
+          let t = subst (λ n. IsLearnt (rule ahead base) h n command) at (said rows has.more has.front number mail (Learn base.core.id slot command) sent is (same_name base.core.id base.core.id refl)) in
+          along_ends (entered command r) (entered_along ahead group.open_slots base first_members h lawful_steps all all_fronts command r k t)
+
+    begins_first : is_member base.core.members base.core.first ≡ true
+    begins_first = begun_first ahead scenario (bounded scenario group.valid) journal base group.stands
+
+    begins_standing : base.core.gone ≡ None
+    begins_standing = begun_stands ahead scenario (bounded scenario group.valid) journal base group.stands
+
+    begins_over : (slot : ℕ) → slot ≤ 1 → over_at ahead base journal slot ≡ false
+    begins_over slot low =
+        let none : slot - 1 ≡ 0 = omega (arith, low) in
+        ap (λ n. is_some (state_after (group_of base) (take n all)).core.gone) none ∙ ap is_some begins_standing
+
+  pub groups_begin_standing : GroupsBeginStanding
+  groups_begin_standing = record { first = begins_first; stands = begins_standing }
+
+  pub ends_are_logged : EndsAreLogged
+  ends_are_logged = record { stays = over_stays; begins = begins_over; replicas = replica_ends; entered = entered_ends }

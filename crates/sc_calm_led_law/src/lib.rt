@@ -1,0 +1,30 @@
+//! That a group's log is one in a lawful journal of a valid scenario, where it has leaders.
+//! Definitions and laws, no logic.
+#![tactic(auto)]
+
+ghost use Rattle.sc_calm_led_law.specs.Led.{EndsAreLogged, GroupsBeginStanding};
+
+use sc_names_law::{names_have_one_owner, orders_are_allowed};
+use sc_scenario::valid_scenarios_are_bounded;
+use sc_whole_law::valid_scenarios_begin_well;
+
+/// Each group of the journal begins with a first member, and is not gone then.
+pub fn groups_begin_standing()
+    ensures { GroupsBeginStanding }
+{
+    valid_scenarios_are_bounded();
+    valid_scenarios_begin_well();
+    orders_are_allowed();
+    names_have_one_owner();
+}
+
+/// A group that is gone by its log stays so, is not as it begins, and each replica says so of it at
+/// its next slot, also with an entry more that a mail tells it.
+pub fn ends_are_logged()
+    ensures { EndsAreLogged }
+{
+    valid_scenarios_are_bounded();
+    valid_scenarios_begin_well();
+    orders_are_allowed();
+    names_have_one_owner();
+}
