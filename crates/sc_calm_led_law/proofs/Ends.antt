@@ -1,5 +1,5 @@
 -- A group is gone by its log as its replicas say.
-use Rattle.std.proofs.Common.{◌≡◌, ℕ, ◌+◌, ◌-◌, ◌≤◌, true, false, List, [], ◌∷◌, ◌++◌, length, take, is_some, Some, None, refl, sym, ◌∙◌, ap, subst, arith}
+use Rattle.std.proofs.Common.{◌≡◌, ℕ, ◌+◌, ◌-◌, ◌≤◌, true, false, List, ◌++◌, length, take, is_some, Some, None, refl, sym, ◌∙◌, ap, subst, arith}
 use Rattle.sc_base.proofs.NameLemmas.{same_name}
 use Rattle.sc_cmd.specs.declared.commands.Command.{Command}
 use Rattle.sc_cmd.specs.declared.cores.Base.{Base}
@@ -27,7 +27,7 @@ use Rattle.sc_names_law.specs.Laws.{OtherNamesAreFree, TakenOrdersAreAllowed, Ta
 use Rattle.sc_names_law.specs.Owners.{owner_in}
 use Rattle.sc_group_law.proofs.Families.{h_of}
 use Rattle.sc_group_law.proofs.Growth.{IsLearnt}
-use Rattle.sc_group_law.proofs.Invariant.{Steps, rule, first, birth, IsTrue}
+use Rattle.sc_group_law.proofs.Invariant.{Steps, rule, first, IsTrue}
 use Rattle.sc_group_law.proofs.RowSteps.{number_among}
 use Rattle.sc_whole_law.specs.Begins.{BeginsWell, section_op}
 use Rattle.sc_whole_law.specs.Orders.{OrdersAreAllowed}

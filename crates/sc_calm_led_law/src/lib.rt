@@ -2,8 +2,12 @@
 //! Definitions and laws, no logic.
 #![tactic(auto)]
 
-ghost use Rattle.sc_calm_led_law.specs.Led.{EndsAreLogged, GroupsBeginStanding};
+ghost use Rattle.sc_calm_led_law.specs.Led.{EndsAreLogged, GroupsBeginStanding, LedLogsAreOne};
 
+use sc_calm_logs_law::{
+    commands_come_next, members_are_nodes, replicas_are_logged, slots_have_rosters,
+    states_are_logged, views_are_replicas,
+};
 use sc_names_law::{names_have_one_owner, orders_are_allowed};
 use sc_scenario::valid_scenarios_are_bounded;
 use sc_whole_law::valid_scenarios_begin_well;
@@ -27,4 +31,19 @@ pub fn ends_are_logged()
     valid_scenarios_begin_well();
     orders_are_allowed();
     names_have_one_owner();
+}
+
+/// So its log is one, where it has leaders: one that leads at each slot, counts its entry and sends
+/// the states of it, and goes on to no slot of a group that is gone.
+pub fn led_logs_are_one()
+    ensures { LedLogsAreOne }
+{
+    slots_have_rosters();
+    views_are_replicas();
+    replicas_are_logged();
+    commands_come_next();
+    states_are_logged();
+    members_are_nodes();
+    groups_begin_standing();
+    ends_are_logged();
 }
