@@ -37,8 +37,9 @@ use Rattle.sc_whole_law.proofs.Scheduled.{orders_allowed}
 use Rattle.sc_calm_logs_law.specs.Logged.{IsGroupOf, HasReplica}
 use Rattle.sc_calm_logs_law.proofs.Along.{IsAlong, entered_along}
 use Rattle.sc_calm_logs_law.proofs.Journals.{part, roster, fronts, sent_in, along}
-use Rattle.sc_calm_led_law.specs.Led.{over_at, GroupsBeginStanding, EndsAreLogged}
+use Rattle.sc_calm_led_law.specs.Led.{over_at, GroupsBeginStanding, EndsAreLogged, ChildrenAreBegun}
 use Rattle.sc_calm_led_law.proofs.Begins.{begun_first, begun_stands}
+use Rattle.sc_calm_led_law.proofs.Born.{children_as_begun}
 use Rattle.sc_calm_led_law.proofs.Gone.{later_gone}
 
 -- what is gone by a log stays so
@@ -116,6 +117,11 @@ module _ (bounded : ValidScenariosAreBounded) (begin : ValidScenariosBeginWell) 
     begins_over slot low =
         let none : slot - 1 ≡ 0 = omega (arith, low) in
         ap (λ n. is_some (state_after (group_of base) (take n all)).core.gone) none ∙ ap is_some begins_standing
+
+  pub children_are_begun : ChildrenAreBegun
+  children_are_begun ahead words scenario journal base group rows more e seat node seated is number mail name sent into =
+      children_as_begun (sources ahead words scenario journal base group) ahead words scenario (route ahead words scenario journal base group) (well ahead words scenario journal base group) journal (orders ahead words scenario journal base group) group.lawful base group.stands
+      rows more e seat node seated is number mail name sent into
 
   pub groups_begin_standing : GroupsBeginStanding
   groups_begin_standing = record { first = begins_first; stands = begins_standing }

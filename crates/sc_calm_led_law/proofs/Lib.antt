@@ -1,4 +1,5 @@
 pub mod Begins
+pub mod Born
 pub mod Ends
 pub mod Gone
 pub mod One

@@ -24,7 +24,7 @@ use Rattle.sc_log_law.specs.Descent.{Rows}
 use Rattle.sc_following_law.specs.Following.{members_at}
 use Rattle.sc_following_law.specs.Hints.{Tellers}
 use Rattle.sc_calm_rows_law.specs.Groups.{view_at}
-use Rattle.sc_calm_rows_law.specs.Turns.{with_event, made_children, AreAsBegun}
+use Rattle.sc_calm_rows_law.specs.Turns.{IsSeat, with_event, made_children, AreAsBegun}
 use Rattle.sc_calm_logs_law.specs.Logged.{logged_sets, IsGroupOf, HasReplica}
 use Rattle.sc_calm_groups_law.specs.Led.{Ends}
 use Rattle.sc_calm_groups_law.specs.Logged.{HasRounds, CountsTo}
@@ -52,6 +52,13 @@ pub record EndsAreLogged : Type 0 where
       → (rows : Rows) (seat : Seat Player) (node : NodeState) (r : ReplicaState) → HasReplica ahead scenario journal base rows seat node r
       → (number : ℕ) (mail : Mail) (slot : ℕ) (command : Command) → numbered (mails rows) number ≡ Some mail → mail.body ≡ Learn base.core.id slot command → slot ≡ next r
       → is_some (entered command r).group.core.gone ≡ over_at ahead base journal (next (entered command r))
+
+-- Each child that a node makes by a mail is a group of the journal, as it began, of which the node is a member.
+abbrev pub ChildrenAreBegun : Type 0
+ChildrenAreBegun = (ahead : Ahead) (words : ℕ → ℕ → ℕ × ℕ) (scenario : Scenario) (journal : Rows) (base : Base) → IsGroupOf ahead words scenario journal base
+    → (rows more : Rows) → journal ≡ rows ++ more → (seat : Seat Player) (node : NodeState) → IsSeat (births ahead scenario) seat → value player_table seat rows ≡ Node node
+    → (number : ℕ) (mail : Mail) (group : Draw) → numbered (mails rows) number ≡ Some mail → group_of_mail mail.body ≡ Some group
+    → AreAsBegun base seat.who (made_children (replica_of group node.replicas) mail.from mail.body)
 
 -- What is left to be asked, of a group that has leaders: nobody comes by an entry by which the one that counts it goes; no replica executes an entry of a group that is gone, nor has used up its rounds; what is told and sent is of slots up to the last one, and a state is sent by the one that leads at its slot, who counts its entry; and a child is born as it began.
 pub record HasLeaders (ahead : Ahead) (by : Tellers) (scenario : Scenario) (journal : Rows) (base : Base) : Type 0 where

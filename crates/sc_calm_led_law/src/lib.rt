@@ -2,7 +2,7 @@
 //! Definitions and laws, no logic.
 #![tactic(auto)]
 
-ghost use Rattle.sc_calm_led_law.specs.Led.{EndsAreLogged, GroupsBeginStanding, LedLogsAreOne};
+ghost use Rattle.sc_calm_led_law.specs.Led.{ChildrenAreBegun, EndsAreLogged, GroupsBeginStanding, LedLogsAreOne};
 
 use sc_calm_logs_law::{
     commands_come_next, members_are_nodes, replicas_are_logged, slots_have_rosters,
@@ -26,6 +26,16 @@ pub fn groups_begin_standing()
 /// its next slot, also with an entry more that a mail tells it.
 pub fn ends_are_logged()
     ensures { EndsAreLogged }
+{
+    valid_scenarios_are_bounded();
+    valid_scenarios_begin_well();
+    orders_are_allowed();
+    names_have_one_owner();
+}
+
+/// Each child that a node makes by a mail is a group of the journal, as it began.
+pub fn children_are_begun()
+    ensures { ChildrenAreBegun }
 {
     valid_scenarios_are_bounded();
     valid_scenarios_begin_well();
