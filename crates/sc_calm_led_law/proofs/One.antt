@@ -2,18 +2,21 @@
 use Rattle.std.proofs.Common.{◌≡◌, ℕ, ◌+◌, ◌≤◌, true, false, true≢false, List, [], ◌∷◌, ◌++◌, is_some, Some, inl, inr, sym, ◌∙◌, ap, arith, append_assoc}
 use Rattle.std.proofs.lemmas.Bool.{cases_lt}
 use Rattle.sc_base.specs.declared.names.Ballot.{Ballot}
+use Rattle.sc_base.specs.declared.names.Draw.{Draw}
 use Rattle.sc_cmd.specs.declared.commands.Command.{Command}
 use Rattle.sc_cmd.specs.declared.cores.Base.{Base}
 use Rattle.sc_cmd.specs.declared.orders.OrderLine.{OrderLine}
 use Rattle.sc_mail.specs.declared.bodies.Mail.{Mail}
 use Rattle.sc_mail.specs.declared.bodies.MailBody.TheVariants.{Accepted, Learn, Install}
+use Rattle.sc_mail.specs.declared.roles.Role.TheVariants.{Node}
 use Rattle.sc_actor.specs.declared.actors.Seat.{Seat}
 use Rattle.sc_actor.specs.declared.rows.Event.{Event}
 use Rattle.sc_actor.specs.declared.rows.Event.TheVariants.{Deliver}
+use Rattle.sc_actor.specs.Replay.{value}
 use Rattle.sc_actor.specs.System.{row_of}
 use Rattle.sc_scenario.specs.declared.scenarios.Scenario.{Scenario}
 use Rattle.sc_node_table.specs.Execute.{entered}
-use Rattle.sc_node_table.specs.Node.{NodeState}
+use Rattle.sc_node_table.specs.Node.{NodeState, replica_of, group_of_mail}
 use Rattle.sc_node_table.specs.Replica.{ReplicaState, next, last_slot}
 use Rattle.sc_law_lemmas.proofs.Entries.{entered_next}
 use Rattle.sc_sound.specs.Players.{Ahead, Player, births, player_table}
@@ -22,14 +25,15 @@ use Rattle.sc_following_law.specs.Following.{Sets}
 use Rattle.sc_following_law.specs.Hints.{Tellers}
 use Rattle.sc_following_law.specs.Leading.{DecidesNext}
 use Rattle.sc_calm_rows_law.specs.Groups.{view_at}
+use Rattle.sc_calm_rows_law.specs.Turns.{IsSeat, made_children, AreAsBegun}
 use Rattle.sc_calm_logs_law.specs.Logged.{logged_sets, IsGroupOf, HasReplica, SlotsHaveRosters, ViewsAreReplicas, ReplicasAreLogged, CommandsComeNext, StatesAreLogged}
 use Rattle.sc_calm_logs_law.specs.Nodes.{MembersAreNodes}
 use Rattle.sc_calm_groups_law.specs.Led.{Ends}
 use Rattle.sc_calm_groups_law.specs.Logged.{IsOfLog, IsLogsState, IsLogOf}
 use Rattle.sc_calm_groups_law.specs.Through.{IsRowOf, Delivers}
-use Rattle.sc_calm_led_law.specs.Led.{over_at, GroupsBeginStanding, EndsAreLogged, HasLeaders, LedLogsAreOne}
+use Rattle.sc_calm_led_law.specs.Led.{over_at, GroupsBeginStanding, EndsAreLogged, ChildrenAreBegun, HasLeaders, LedLogsAreOne}
 
-module _ (rosters : SlotsHaveRosters) (views : ViewsAreReplicas) (logged : ReplicasAreLogged) (commands : CommandsComeNext) (states : StatesAreLogged) (nodes : MembersAreNodes) (begin : GroupsBeginStanding) (ends : EndsAreLogged) where
+module _ (rosters : SlotsHaveRosters) (views : ViewsAreReplicas) (logged : ReplicasAreLogged) (commands : CommandsComeNext) (states : StatesAreLogged) (nodes : MembersAreNodes) (begin : GroupsBeginStanding) (ends : EndsAreLogged) (children : ChildrenAreBegun) where
   module _ (ahead : Ahead) (words : ℕ → ℕ → ℕ × ℕ) (by : Tellers) (scenario : Scenario) (journal : Rows) (base : Base) (group : IsGroupOf ahead words scenario journal base) (has : HasLeaders ahead by scenario journal base) where
     abbrev at : Sets
     at = logged_sets ahead base journal
@@ -96,6 +100,11 @@ module _ (rosters : SlotsHaveRosters) (views : ViewsAreReplicas) (logged : Repli
         let s = seen rows (row_of player_table seat rows (Deliver number) ∷ row.row.more) seat.who r (front rows seat (Deliver number) row.row) view in
         commands.decided ahead words scenario journal base group rows s.seat s.node r s.is runs number mail ballot slot row.sent is
 
+    born_is : (rows : Rows) (seat : Seat Player) (number : ℕ) (mail : Mail) (node : NodeState) (name : Draw) → Delivers journal rows seat number mail → IsSeat (births ahead scenario) seat → value player_table seat rows ≡ Node node → group_of_mail mail.body ≡ Some name
+        → (name ≡ base.core.id → ⊥) → AreAsBegun base seat.who (made_children (replica_of name node.replicas) mail.from mail.body)
+    born_is rows seat number mail node name row seated is into other =
+        children ahead words scenario journal base group rows (row_of player_table seat rows (Deliver number) ∷ row.row.more) (front rows seat (Deliver number) row.row) seat node seated is number mail name row.sent into
+
   pub led_logs_are_one : LedLogsAreOne
   led_logs_are_one ahead words by scenario journal base group has = record {
     log = log_is ahead words by scenario journal base group has;
@@ -108,5 +117,5 @@ module _ (rosters : SlotsHaveRosters) (views : ViewsAreReplicas) (logged : Repli
     sent = sent_is ahead words by scenario journal base group has;
     decided = decided_is ahead words by scenario journal base group has;
     counted = has.counted;
-    born = has.born;
+    born = born_is ahead words by scenario journal base group has;
   }

@@ -60,7 +60,7 @@ ChildrenAreBegun = (ahead : Ahead) (words : ℕ → ℕ → ℕ × ℕ) (scenari
     → (number : ℕ) (mail : Mail) (group : Draw) → numbered (mails rows) number ≡ Some mail → group_of_mail mail.body ≡ Some group
     → AreAsBegun base seat.who (made_children (replica_of group node.replicas) mail.from mail.body)
 
--- What is left to be asked, of a group that has leaders: nobody comes by an entry by which the one that counts it goes; no replica executes an entry of a group that is gone, nor has used up its rounds; what is told and sent is of slots up to the last one, and a state is sent by the one that leads at its slot, who counts its entry; and a child is born as it began.
+-- What is left to be asked, of a group that has leaders: nobody comes by an entry by which the one that counts it goes; no replica executes an entry of a group that is gone, nor has used up its rounds; and what is told and sent is of slots up to the last one, and a state is sent by the one that leads at its slot, who counts its entry.
 pub record HasLeaders (ahead : Ahead) (by : Tellers) (scenario : Scenario) (journal : Rows) (base : Base) : Type 0 where
   pub leaves : (slot : ℕ) → (is_member (members_at (logged_sets ahead base journal) (slot + 1)) (by slot) ≡ true)
       ⊎ ((who : ℕ) → is_member (members_at (logged_sets ahead base journal) (slot + 1)) who ≡ true → is_member (members_at (logged_sets ahead base journal) slot) who ≡ true)
@@ -76,9 +76,6 @@ pub record HasLeaders (ahead : Ahead) (by : Tellers) (scenario : Scenario) (jour
   -- entries that a leader executes
   pub counted : (rows : Rows) (seat : Seat Player) (event : Event OrderLine) (r after : ReplicaState) → IsRowOf journal rows seat event → view_at (births ahead scenario) rows base.core.id seat.who ≡ Some r → r.running ≡ true
       → view_at (births ahead scenario) (with_event rows seat event) base.core.id seat.who ≡ Some after → CountsTo by r after seat.who
-  -- a child that a mail of another group makes
-  pub born : (rows : Rows) (seat : Seat Player) (number : ℕ) (mail : Mail) (node : NodeState) (group : Draw) → Delivers journal rows seat number mail → value player_table seat rows ≡ Node node → group_of_mail mail.body ≡ Some group
-      → (group ≡ base.core.id → ⊥) → AreAsBegun base seat.who (made_children (replica_of group node.replicas) mail.from mail.body)
 
 -- So a group's log is one, where it has leaders.
 abbrev pub LedLogsAreOne : Type 0

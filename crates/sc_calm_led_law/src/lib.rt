@@ -56,4 +56,5 @@ pub fn led_logs_are_one()
     members_are_nodes();
     groups_begin_standing();
     ends_are_logged();
+    children_are_begun();
 }
