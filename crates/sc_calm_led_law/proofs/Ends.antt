@@ -1,5 +1,5 @@
 -- A group is gone by its log as its replicas say.
-use Rattle.std.proofs.Common.{◌≡◌, ℕ, ◌-◌, ◌≤◌, true, false, List, ◌++◌, length, take, is_some, Some, None, refl, sym, ◌∙◌, ap, subst, arith}
+use Rattle.std.proofs.Common.{◌≡◌, ℕ, ◌+◌, ◌-◌, zero, suc, ◌⊎◌, inl, inr, ◌≤◌, true, false, List, ◌++◌, length, take, is_some, Some, None, refl, sym, ◌∙◌, ap, subst, arith}
 use Rattle.sc_base.proofs.NameLemmas.{same_name}
 use Rattle.sc_cmd.specs.declared.commands.Command.{Command}
 use Rattle.sc_cmd.specs.declared.cores.Base.{Base}
@@ -34,17 +34,41 @@ use Rattle.sc_whole_law.specs.Orders.{OrdersAreAllowed}
 use Rattle.sc_whole_law.specs.Parameters.{MayQueue, IsHeardAt}
 use Rattle.sc_whole_law.specs.StartLaws.{ValidScenariosBeginWell}
 use Rattle.sc_whole_law.proofs.Scheduled.{orders_allowed}
-use Rattle.sc_calm_logs_law.specs.Logged.{IsGroupOf, HasReplica}
+use Rattle.sc_following_law.specs.Following.{members_at}
+use Rattle.sc_calm_logs_law.specs.Logged.{logged_sets, IsGroupOf, HasReplica}
 use Rattle.sc_calm_logs_law.proofs.Along.{IsAlong, entered_along}
 use Rattle.sc_calm_logs_law.proofs.Journals.{part, roster, fronts, sent_in, along}
-use Rattle.sc_calm_led_law.specs.Led.{over_at, GroupsBeginStanding, EndsAreLogged, ChildrenAreBegun}
+use Rattle.sc_calm_led_law.specs.Led.{over_at, GroupsBeginStanding, EndsAreLogged, ChildrenAreBegun, MembersMoveOneWay}
 use Rattle.sc_calm_led_law.proofs.Begins.{begun_first, begun_stands}
 use Rattle.sc_calm_led_law.proofs.Born.{children_as_begun}
 use Rattle.sc_calm_led_law.proofs.Gone.{later_gone}
+use Rattle.sc_calm_led_law.proofs.Moving.{next_moves}
 
 -- what is gone by a log stays so
 over_stays : (ahead : Ahead) (base : Base) (journal : Rows) (slot later : ℕ) → slot ≤ later → over_at ahead base journal slot ≡ true → over_at ahead base journal later ≡ true
 over_stays ahead base journal slot later low = later_gone (decided_log ahead base journal) (group_of base) (slot - 1) (later - 1) (omega (arith, low))
+
+-- the members after so many entries
+abbrev members_after : Ahead → Base → Rows → ℕ → List ℕ
+members_after ahead base journal n = (state_after (group_of base) (take n (decided_log ahead base journal))).core.members
+
+-- the members behind a slot, by how many entries come before it
+pub members_move_one_way : MembersMoveOneWay
+members_move_one_way ahead words scenario journal base group slot = by slot
+  where
+    at_is : (s n : ℕ) → s + 3 - 4 ≡ n → members_at (logged_sets ahead base journal) s ≡ members_after ahead base journal n
+    at_is s n e = (let open_slots = group.open_slots in let same : s + 3 - ahead.slots ≡ n = omega (arith, e, open_slots) in ap (members_after ahead base journal) same)
+
+    by : (s : ℕ) → ((who : ℕ) → is_member (members_at (logged_sets ahead base journal) s) who ≡ true → is_member (members_at (logged_sets ahead base journal) (s + 1)) who ≡ true)
+        ⊎ ((who : ℕ) → is_member (members_at (logged_sets ahead base journal) (s + 1)) who ≡ true → is_member (members_at (logged_sets ahead base journal) s) who ≡ true)
+    by zero = inl (λ who m. subst (λ ms. is_member ms who ≡ true) (at_is 0 0 (omega arith) ∙ sym (at_is (0 + 1) 0 (omega arith))) m)
+    by (suc n) =
+        let here = at_is (suc n) n (omega arith) in
+        let next_ = at_is (suc n + 1) (suc n) (omega arith) in
+        elim (next_moves (decided_log ahead base journal) (group_of base) n) [
+          | inl kept ↦ inl (λ who m. subst (λ ms. is_member ms who ≡ true) (sym next_) (kept who (subst (λ ms. is_member ms who ≡ true) here m)))
+          | inr none ↦ inr (λ who m. subst (λ ms. is_member ms who ≡ true) (sym here) (none who (subst (λ ms. is_member ms who ≡ true) next_ m)))
+        ]
 
 -- what the laws under this one say of valid scenarios
 module _ (bounded : ValidScenariosAreBounded) (begin : ValidScenariosBeginWell) (allowed : TakenOrdersAreAllowed) (wishes : TakenWishesAreAllowed) (positions : WishesAreAtPositions) (free : OtherNamesAreFree) where

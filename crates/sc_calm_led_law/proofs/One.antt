@@ -1,5 +1,5 @@
 -- A group's log is one, where it has leaders.
-use Rattle.std.proofs.Common.{◌≡◌, ℕ, ◌≤◌, true, false, true≢false, List, [], ◌∷◌, ◌++◌, is_some, Some, inl, inr, sym, ◌∙◌, ap, arith, append_assoc}
+use Rattle.std.proofs.Common.{◌≡◌, ℕ, ◌+◌, ◌≤◌, ◌⊎◌, true, false, true≢false, List, [], ◌∷◌, ◌++◌, is_some, Some, inl, inr, sym, ◌∙◌, ap, arith, append_assoc}
 use Rattle.std.proofs.lemmas.Bool.{cases_lt}
 use Rattle.sc_base.specs.declared.names.Ballot.{Ballot}
 use Rattle.sc_base.specs.declared.names.Draw.{Draw}
@@ -9,6 +9,7 @@ use Rattle.sc_cmd.specs.declared.orders.OrderLine.{OrderLine}
 use Rattle.sc_mail.specs.declared.bodies.Mail.{Mail}
 use Rattle.sc_mail.specs.declared.bodies.MailBody.TheVariants.{Accepted, Learn, Install}
 use Rattle.sc_mail.specs.declared.roles.Role.TheVariants.{Node}
+use Rattle.sc_member.specs.Roster.{is_member}
 use Rattle.sc_actor.specs.declared.actors.Seat.{Seat}
 use Rattle.sc_actor.specs.declared.rows.Event.{Event}
 use Rattle.sc_actor.specs.declared.rows.Event.TheVariants.{Deliver}
@@ -21,7 +22,7 @@ use Rattle.sc_node_table.specs.Replica.{ReplicaState, next, last_slot}
 use Rattle.sc_law_lemmas.proofs.Entries.{entered_next}
 use Rattle.sc_sound.specs.Players.{Ahead, Player, births, player_table}
 use Rattle.sc_log_law.specs.Descent.{Rows}
-use Rattle.sc_following_law.specs.Following.{Sets}
+use Rattle.sc_following_law.specs.Following.{Sets, members_at}
 use Rattle.sc_following_law.specs.Hints.{Tellers}
 use Rattle.sc_following_law.specs.Leading.{DecidesNext}
 use Rattle.sc_calm_rows_law.specs.Groups.{view_at}
@@ -31,9 +32,9 @@ use Rattle.sc_calm_logs_law.specs.Nodes.{MembersAreNodes}
 use Rattle.sc_calm_groups_law.specs.Led.{Ends}
 use Rattle.sc_calm_groups_law.specs.Logged.{IsOfLog, IsLogsState, IsLogOf}
 use Rattle.sc_calm_groups_law.specs.Through.{IsRowOf, Delivers}
-use Rattle.sc_calm_led_law.specs.Led.{over_at, GroupsBeginStanding, EndsAreLogged, ChildrenAreBegun, HasLeaders, LedLogsAreOne}
+use Rattle.sc_calm_led_law.specs.Led.{over_at, GroupsBeginStanding, EndsAreLogged, ChildrenAreBegun, MembersMoveOneWay, HasLeaders, LedLogsAreOne}
 
-module _ (rosters : SlotsHaveRosters) (views : ViewsAreReplicas) (logged : ReplicasAreLogged) (commands : CommandsComeNext) (states : StatesAreLogged) (nodes : MembersAreNodes) (begin : GroupsBeginStanding) (ends : EndsAreLogged) (children : ChildrenAreBegun) where
+module _ (rosters : SlotsHaveRosters) (views : ViewsAreReplicas) (logged : ReplicasAreLogged) (commands : CommandsComeNext) (states : StatesAreLogged) (nodes : MembersAreNodes) (begin : GroupsBeginStanding) (ends : EndsAreLogged) (children : ChildrenAreBegun) (moves : MembersMoveOneWay) where
   module _ (ahead : Ahead) (words : ℕ → ℕ → ℕ × ℕ) (by : Tellers) (scenario : Scenario) (journal : Rows) (base : Base) (group : IsGroupOf ahead words scenario journal base) (has : HasLeaders ahead by scenario journal base) where
     abbrev at : Sets
     at = logged_sets ahead base journal
@@ -54,8 +55,12 @@ module _ (rosters : SlotsHaveRosters) (views : ViewsAreReplicas) (logged : Repli
     seen : (rows more : Rows) (who : ℕ) (r : ReplicaState) → journal ≡ rows ++ more → view_at (births ahead scenario) rows base.core.id who ≡ Some r → Seen rows r
     seen rows more who r e view = (let s = views ahead words scenario journal base group rows more e who r view in record { seat = s.0; node = s.1; is = s.2 })
 
+    -- the one that leads at a slot stays a member by its entry, or nobody comes
+    leaves_is : (slot : ℕ) → (is_member (members_at at (slot + 1)) (by slot) ≡ true) ⊎ ((who : ℕ) → is_member (members_at at (slot + 1)) who ≡ true → is_member (members_at at slot) who ≡ true)
+    leaves_is slot = elim (moves ahead words scenario journal base group slot) [ inl kept ↦ inl (kept (by slot) (has.leads slot)) | inr none ↦ inr none ]
+
     log_is : IsLogOf at by
-    log_is = record { rosters = rosters.rosters ahead words scenario journal base group; nodes = nodes ahead words scenario journal base group; leaves = has.leaves }
+    log_is = record { rosters = rosters.rosters ahead words scenario journal base group; nodes = nodes ahead words scenario journal base group; leaves = leaves_is }
 
     state_is : (rows more : Rows) (who : ℕ) (r : ReplicaState) → journal ≡ rows ++ more → view_at (births ahead scenario) rows base.core.id who ≡ Some r → IsOfLog at over r
     state_is rows more who r e view =

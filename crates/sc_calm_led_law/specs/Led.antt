@@ -53,6 +53,12 @@ pub record EndsAreLogged : Type 0 where
       → (number : ℕ) (mail : Mail) (slot : ℕ) (command : Command) → numbered (mails rows) number ≡ Some mail → mail.body ≡ Learn base.core.id slot command → slot ≡ next r
       → is_some (entered command r).group.core.gone ≡ over_at ahead base journal (next (entered command r))
 
+-- By each entry of a group's log no member is lost, or nobody comes.
+abbrev pub MembersMoveOneWay : Type 0
+MembersMoveOneWay = (ahead : Ahead) (words : ℕ → ℕ → ℕ × ℕ) (scenario : Scenario) (journal : Rows) (base : Base) → IsGroupOf ahead words scenario journal base
+    → (slot : ℕ) → ((who : ℕ) → is_member (members_at (logged_sets ahead base journal) slot) who ≡ true → is_member (members_at (logged_sets ahead base journal) (slot + 1)) who ≡ true)
+    ⊎ ((who : ℕ) → is_member (members_at (logged_sets ahead base journal) (slot + 1)) who ≡ true → is_member (members_at (logged_sets ahead base journal) slot) who ≡ true)
+
 -- Each child that a node makes by a mail is a group of the journal, as it began, of which the node is a member.
 abbrev pub ChildrenAreBegun : Type 0
 ChildrenAreBegun = (ahead : Ahead) (words : ℕ → ℕ → ℕ × ℕ) (scenario : Scenario) (journal : Rows) (base : Base) → IsGroupOf ahead words scenario journal base
@@ -60,10 +66,9 @@ ChildrenAreBegun = (ahead : Ahead) (words : ℕ → ℕ → ℕ × ℕ) (scenari
     → (number : ℕ) (mail : Mail) (group : Draw) → numbered (mails rows) number ≡ Some mail → group_of_mail mail.body ≡ Some group
     → AreAsBegun base seat.who (made_children (replica_of group node.replicas) mail.from mail.body)
 
--- What is left to be asked, of a group that has leaders: nobody comes by an entry by which the one that counts it goes; no replica executes an entry of a group that is gone, nor has used up its rounds; and what is told and sent is of slots up to the last one, and a state is sent by the one that leads at its slot, who counts its entry.
+-- What is left to be asked, of a group that has leaders: the one that leads at a slot is a member there; no replica executes an entry of a group that is gone, nor has used up its rounds; and what is told and sent is of slots up to the last one, and a state is sent by the one that leads at its slot, who counts its entry.
 pub record HasLeaders (ahead : Ahead) (by : Tellers) (scenario : Scenario) (journal : Rows) (base : Base) : Type 0 where
-  pub leaves : (slot : ℕ) → (is_member (members_at (logged_sets ahead base journal) (slot + 1)) (by slot) ≡ true)
-      ⊎ ((who : ℕ) → is_member (members_at (logged_sets ahead base journal) (slot + 1)) who ≡ true → is_member (members_at (logged_sets ahead base journal) slot) who ≡ true)
+  pub leads : (slot : ℕ) → is_member (members_at (logged_sets ahead base journal) slot) (by slot) ≡ true
   -- each replica after any of the rows
   pub rests : (rows more : Rows) (node : ℕ) (r : ReplicaState) → journal ≡ rows ++ more → view_at (births ahead scenario) rows base.core.id node ≡ Some r → (slot : ℕ) → over_at ahead base journal slot ≡ true → next r ≤ slot
   pub rounds : (rows more : Rows) (node : ℕ) (r : ReplicaState) → journal ≡ rows ++ more → view_at (births ahead scenario) rows base.core.id node ≡ Some r → HasRounds r

@@ -2,7 +2,7 @@
 //! Definitions and laws, no logic.
 #![tactic(auto)]
 
-ghost use Rattle.sc_calm_led_law.specs.Led.{ChildrenAreBegun, EndsAreLogged, GroupsBeginStanding, LedLogsAreOne};
+ghost use Rattle.sc_calm_led_law.specs.Led.{ChildrenAreBegun, EndsAreLogged, GroupsBeginStanding, LedLogsAreOne, MembersMoveOneWay};
 
 use sc_calm_logs_law::{
     commands_come_next, members_are_nodes, replicas_are_logged, slots_have_rosters,
@@ -33,6 +33,11 @@ pub fn ends_are_logged()
     names_have_one_owner();
 }
 
+/// By each entry of its log no member is lost, or nobody comes.
+pub fn members_move_one_way()
+    ensures { MembersMoveOneWay }
+{}
+
 /// Each child that a node makes by a mail is a group of the journal, as it began.
 pub fn children_are_begun()
     ensures { ChildrenAreBegun }
@@ -57,4 +62,5 @@ pub fn led_logs_are_one()
     groups_begin_standing();
     ends_are_logged();
     children_are_begun();
+    members_move_one_way();
 }
