@@ -119,7 +119,7 @@ module _ (at : Sets) (over : Ends) (by : Tellers) (words : ℕ → ℕ → ℕ �
 
         -- where it has no replica
         makes : replica_of name node.replicas ≡ None → Led
-        makes here = elim (so.finds rows seat number mail node d is here) [
+        makes here = elim (so.finds rows seat number mail node d born is here) [
           | inl none ↦ missed here none
           | inr i ↦ elim (so.comes rows seat number mail d) [
             | inl none ↦ missed here none
@@ -226,7 +226,7 @@ module _ (at : Sets) (over : Ends) (by : Tellers) (words : ℕ → ℕ → ℕ �
         | inr f ↦ (let ne : g ≡ name → ⊥ = λ is_. true≢false (sym (same_name g name is_) ∙ f) in (
           course,
           others_keep_led.bears at over by words births rows seat (Deliver number) base course one.log timely was one.begins one.first one.stands
-              (others_idle.other births rows seat number mail base g node born is plays.0 d.sent e ne (one.born rows seat number mail node g d is e ne)),
+              (others_idle.other births rows seat number mail base g node born is plays.0 d.sent e ne (one.born rows seat number mail node g d born is e ne)),
         ))
       ]
 
@@ -255,7 +255,7 @@ module _ (at : Sets) (over : Ends) (by : Tellers) (words : ℕ → ℕ → ℕ �
       → IsLedOn at over by words births (with_event rows seat event) base
   by_player (Client client) (Deliver number) is row calm timely =
       let f = takes_first (players words births) rows seat.who number (tidy (Deliver number) timely) (is_born-from (players words births) seat.who seat born) calm in
-      alone (Deliver number) timely (others_idle.client births rows seat (Deliver number) base client born is (ap (mark_in name) f.sent ∙ so.clients rows seat number f.mail client (record { row = row; sent = f.sent }) is))
+      alone (Deliver number) timely (others_idle.client births rows seat (Deliver number) base client born is (ap (mark_in name) f.sent ∙ so.clients rows seat number f.mail client (record { row = row; sent = f.sent }) born is))
   by_player (Client client) Go is row calm timely = alone Go timely (others_idle.client births rows seat Go base client born is refl)
   by_player (Client client) (Told line) is row calm timely = alone (Told line) timely (others_idle.client births rows seat (Told line) base client born is refl)
   by_player (Client client) Tick is row calm timely = absurd calm

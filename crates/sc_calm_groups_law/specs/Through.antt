@@ -85,14 +85,14 @@ pub record HasOneLog (at : Sets) (over : Ends) (by : Tellers) (births : List (Se
   pub counted : (rows : Rows) (seat : Seat Player) (event : Event OrderLine) (r after : ReplicaState) → IsRowOf journal rows seat event → view_at births rows base.core.id seat.who ≡ Some r → r.running ≡ true
       → view_at births (with_event rows seat event) base.core.id seat.who ≡ Some after → CountsTo by r after seat.who
   -- a child that a mail of another group makes
-  pub born : (rows : Rows) (seat : Seat Player) (number : ℕ) (mail : Mail) (node : NodeState) (group : Draw) → Delivers journal rows seat number mail → value player_table seat rows ≡ Node node → group_of_mail mail.body ≡ Some group
+  pub born : (rows : Rows) (seat : Seat Player) (number : ℕ) (mail : Mail) (node : NodeState) (group : Draw) → Delivers journal rows seat number mail → IsSeat births seat → value player_table seat rows ≡ Node node → group_of_mail mail.body ≡ Some group
       → (group ≡ base.core.id → ⊥) → AreAsBegun base seat.who (made_children (replica_of group node.replicas) mail.from mail.body)
 
 -- What mail of the group there is: what is of the agreement comes from nodes, to nodes, and finds a replica or brings a state; none asks for entries; no promise has reports; and a Nack names no ballot for which a leader stops.
 pub record IsSentSo (births : List (Seat Player)) (journal : Rows) (base : Base) : Type 0 where
   pub comes : (rows : Rows) (seat : Seat Player) (number : ℕ) (mail : Mail) → Delivers journal rows seat number mail → (mark_of base.core.id mail.from mail.body ≡ None) ⊎ (may_come mail.from mail.body ≡ true)
-  pub clients : (rows : Rows) (seat : Seat Player) (number : ℕ) (mail : Mail) (client : ClientState) → Delivers journal rows seat number mail → value player_table seat rows ≡ Client client → mark_of base.core.id mail.from mail.body ≡ None
-  pub finds : (rows : Rows) (seat : Seat Player) (number : ℕ) (mail : Mail) (node : NodeState) → Delivers journal rows seat number mail → value player_table seat rows ≡ Node node → replica_of base.core.id node.replicas ≡ None
+  pub clients : (rows : Rows) (seat : Seat Player) (number : ℕ) (mail : Mail) (client : ClientState) → Delivers journal rows seat number mail → IsSeat births seat → value player_table seat rows ≡ Client client → mark_of base.core.id mail.from mail.body ≡ None
+  pub finds : (rows : Rows) (seat : Seat Player) (number : ℕ) (mail : Mail) (node : NodeState) → Delivers journal rows seat number mail → IsSeat births seat → value player_table seat rows ≡ Node node → replica_of base.core.id node.replicas ≡ None
       → (mark_of base.core.id mail.from mail.body ≡ None) ⊎ ((slot : ℕ) × (state : Base) × (sets : List (List ℕ)) × (mail.body ≡ Install base.core.id slot state sets))
   pub asks : (rows : Rows) (seat : Seat Player) (number : ℕ) (mail : Mail) (from_slot : ℕ) → Delivers journal rows seat number mail → mail.body ≡ Ask base.core.id from_slot → ⊥
   pub plain : (rows : Rows) (seat : Seat Player) (number : ℕ) (mail : Mail) (ballot : Ballot) (reports : List (Report Command)) → Delivers journal rows seat number mail → mail.body ≡ Promise base.core.id ballot reports → reports ≡ []

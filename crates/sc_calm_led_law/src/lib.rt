@@ -1,0 +1,66 @@
+//! That a group's log is one in a lawful journal of a valid scenario, where it has leaders.
+//! Definitions and laws, no logic.
+#![tactic(auto)]
+
+ghost use Rattle.sc_calm_led_law.specs.Led.{ChildrenAreBegun, EndsAreLogged, GroupsBeginStanding, LedLogsAreOne, MembersMoveOneWay};
+
+use sc_calm_logs_law::{
+    commands_come_next, members_are_nodes, replicas_are_logged, slots_have_rosters,
+    states_are_logged, views_are_replicas,
+};
+use sc_names_law::{names_have_one_owner, orders_are_allowed};
+use sc_scenario::valid_scenarios_are_bounded;
+use sc_whole_law::valid_scenarios_begin_well;
+
+/// Each group of the journal begins with a first member, and is not gone then.
+pub fn groups_begin_standing()
+    ensures { GroupsBeginStanding }
+{
+    valid_scenarios_are_bounded();
+    valid_scenarios_begin_well();
+    orders_are_allowed();
+    names_have_one_owner();
+}
+
+/// A group that is gone by its log stays so, is not as it begins, and each replica says so of it at
+/// its next slot, also with an entry more that a mail tells it.
+pub fn ends_are_logged()
+    ensures { EndsAreLogged }
+{
+    valid_scenarios_are_bounded();
+    valid_scenarios_begin_well();
+    orders_are_allowed();
+    names_have_one_owner();
+}
+
+/// By each entry of its log no member is lost, or nobody comes.
+pub fn members_move_one_way()
+    ensures { MembersMoveOneWay }
+{}
+
+/// Each child that a node makes by a mail is a group of the journal, as it began.
+pub fn children_are_begun()
+    ensures { ChildrenAreBegun }
+{
+    valid_scenarios_are_bounded();
+    valid_scenarios_begin_well();
+    orders_are_allowed();
+    names_have_one_owner();
+}
+
+/// So its log is one, where it has leaders: one that leads at each slot, counts its entry and sends
+/// the states of it, and goes on to no slot of a group that is gone.
+pub fn led_logs_are_one()
+    ensures { LedLogsAreOne }
+{
+    slots_have_rosters();
+    views_are_replicas();
+    replicas_are_logged();
+    commands_come_next();
+    states_are_logged();
+    members_are_nodes();
+    groups_begin_standing();
+    ends_are_logged();
+    children_are_begun();
+    members_move_one_way();
+}
