@@ -9,3 +9,6 @@ pub mod Others
 pub mod Resting
 pub mod Rows
 pub mod Through
+pub mod TopNodes
+pub mod TopParts
+pub mod TopRows

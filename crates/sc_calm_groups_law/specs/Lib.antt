@@ -5,3 +5,4 @@ pub mod Mailed
 pub mod Rests
 pub mod Rows
 pub mod Through
+pub mod Tops

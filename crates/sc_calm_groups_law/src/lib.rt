@@ -7,6 +7,7 @@ ghost use Rattle.sc_calm_groups_law.specs.Begun.{ChildrenBeginLed, ScenariosBegi
 ghost use Rattle.sc_calm_groups_law.specs.Mailed.{LeadersKeepLed, MailsKeepLed, OthersKeepLed};
 ghost use Rattle.sc_calm_groups_law.specs.Rests.{QuietGroupsAreLed};
 ghost use Rattle.sc_calm_groups_law.specs.Rows.{RowsKeepLed};
+ghost use Rattle.sc_calm_groups_law.specs.Tops.{NodesAreBornTopped, NodesKeepTops};
 ghost use Rattle.sc_calm_groups_law.specs.Through.{ChildrenAreLedThrough, EventsKeepLed, GroupsAreLedThrough, ScenariosAreLedThrough, ScenariosAreWellBorn};
 
 /// Each row of players keeps a group well led, by what it is in the group: one that does nothing,
@@ -78,4 +79,15 @@ pub fn scenarios_are_led_through()
 /// And so is each child of a split, of which no node has a replica at the births.
 pub fn children_are_led_through()
     ensures { ChildrenAreLedThrough }
+{}
+
+/// In any journal each replica of a node has promised no later ballot than the greatest that it
+/// saw; and where it runs, it runs with that one, and takes itself for the leader.
+pub fn nodes_keep_tops()
+    ensures { NodesKeepTops }
+{}
+
+/// So it is of each replica that is made at the birth of groups.
+pub fn nodes_are_born_topped()
+    ensures { NodesAreBornTopped }
 {}
