@@ -1,5 +1,6 @@
 pub mod Beginning
 pub mod BornWell
+pub mod Clearing
 pub mod Dating
 pub mod Events
 pub mod Leading

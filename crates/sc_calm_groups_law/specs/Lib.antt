@@ -1,4 +1,5 @@
 pub mod Begun
+pub mod Cleared
 pub mod Led
 pub mod Logged
 pub mod Mailed

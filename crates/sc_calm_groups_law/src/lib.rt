@@ -4,6 +4,7 @@
 #![tactic(auto)]
 
 ghost use Rattle.sc_calm_groups_law.specs.Begun.{ChildrenBeginLed, ScenariosBeginLed};
+ghost use Rattle.sc_calm_groups_law.specs.Cleared.{QuietLeadersRest};
 ghost use Rattle.sc_calm_groups_law.specs.Mailed.{LeadersKeepLed, MailsKeepLed, OthersKeepLed};
 ghost use Rattle.sc_calm_groups_law.specs.Rests.{QuietGroupsAreLed};
 ghost use Rattle.sc_calm_groups_law.specs.Rows.{RowsKeepLed};
@@ -90,4 +91,10 @@ pub fn nodes_keep_tops()
 /// So it is of each replica that is made at the birth of groups.
 pub fn nodes_are_born_topped()
     ensures { NodesAreBornTopped }
+{}
+
+/// In a quiet journal the one that leads a group that stands leads at rest, with nothing in flight
+/// or ready, where what it has in flight and ready is at slots that are not executed.
+pub fn quiet_leaders_rest()
+    ensures { QuietLeadersRest }
 {}
