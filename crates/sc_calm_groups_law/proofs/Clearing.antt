@@ -32,11 +32,11 @@ past_both true true x ea eb e = e
 past_both false b x ea eb e = absurd (true≢false (sym ea))
 past_both true false x ea eb e = absurd (true≢false (sym eb))
 
-none_mapped : {X Y : Type 0} (f : X → Y) (o : Option X) → option_map f o ≡ None → o ≡ None
+pub none_mapped : {X Y : Type 0} (f : X → Y) (o : Option X) → option_map f o ≡ None → o ≡ None
 none_mapped f None e = refl
 none_mapped f (Some x) e = cc
 
-none_first : {X : Type 0} (a b : Option X) → either a b ≡ None → a ≡ None
+pub none_first : {X : Type 0} (a b : Option X) → either a b ≡ None → a ≡ None
 none_first None b e = refl
 none_first (Some x) b e = cc
 

@@ -9,6 +9,10 @@ pub mod Mails
 pub mod Others
 pub mod Resting
 pub mod Rows
+pub mod SlotLists
+pub mod SlotNodes
+pub mod SlotParts
+pub mod SlotRows
 pub mod Through
 pub mod TopNodes
 pub mod TopParts

@@ -5,5 +5,6 @@ pub mod Logged
 pub mod Mailed
 pub mod Rests
 pub mod Rows
+pub mod Slots
 pub mod Through
 pub mod Tops

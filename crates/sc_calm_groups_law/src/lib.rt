@@ -8,6 +8,7 @@ ghost use Rattle.sc_calm_groups_law.specs.Cleared.{QuietLeadersRest};
 ghost use Rattle.sc_calm_groups_law.specs.Mailed.{LeadersKeepLed, MailsKeepLed, OthersKeepLed};
 ghost use Rattle.sc_calm_groups_law.specs.Rests.{QuietGroupsAreLed};
 ghost use Rattle.sc_calm_groups_law.specs.Rows.{RowsKeepLed};
+ghost use Rattle.sc_calm_groups_law.specs.Slots.{NodesAreBornSlotted, NodesKeepSlots};
 ghost use Rattle.sc_calm_groups_law.specs.Tops.{NodesAreBornTopped, NodesKeepTops};
 ghost use Rattle.sc_calm_groups_law.specs.Through.{ChildrenAreLedThrough, EventsKeepLed, GroupsAreLedThrough, ScenariosAreLedThrough, ScenariosAreWellBorn};
 
@@ -97,4 +98,15 @@ pub fn nodes_are_born_topped()
 /// or ready, where what it has in flight and ready is at slots that are not executed.
 pub fn quiet_leaders_rest()
     ensures { QuietLeadersRest }
+{}
+
+/// In any journal what each replica of a node has in flight and ready is at slots that are not
+/// executed, one command at a slot, and nothing that is ready is to be executed now.
+pub fn nodes_keep_slots()
+    ensures { NodesKeepSlots }
+{}
+
+/// So it is of each replica that is made at the birth of groups.
+pub fn nodes_are_born_slotted()
+    ensures { NodesAreBornSlotted }
 {}
