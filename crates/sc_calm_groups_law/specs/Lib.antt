@@ -1,5 +1,6 @@
 pub mod Begun
 pub mod Cleared
+pub mod Kept
 pub mod Led
 pub mod Logged
 pub mod Mailed

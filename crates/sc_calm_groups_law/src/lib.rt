@@ -5,6 +5,7 @@
 
 ghost use Rattle.sc_calm_groups_law.specs.Begun.{ChildrenBeginLed, ScenariosBeginLed};
 ghost use Rattle.sc_calm_groups_law.specs.Cleared.{QuietLeadersRest};
+ghost use Rattle.sc_calm_groups_law.specs.Kept.{KeptLeadersRest, ReplicasAreKept, ScenariosAreKeptBorn};
 ghost use Rattle.sc_calm_groups_law.specs.Mailed.{LeadersKeepLed, MailsKeepLed, OthersKeepLed};
 ghost use Rattle.sc_calm_groups_law.specs.Rests.{QuietGroupsAreLed};
 ghost use Rattle.sc_calm_groups_law.specs.Rows.{RowsKeepLed};
@@ -109,4 +110,20 @@ pub fn nodes_keep_slots()
 /// So it is of each replica that is made at the birth of groups.
 pub fn nodes_are_born_slotted()
     ensures { NodesAreBornSlotted }
+{}
+
+/// The players of a scenario are born so.
+pub fn scenarios_are_kept_born()
+    ensures { ScenariosAreKeptBorn }
+{}
+
+/// Where players are, each replica after any rows keeps its greatest ballot and its slots.
+pub fn replicas_are_kept()
+    ensures { ReplicasAreKept }
+{}
+
+/// And in a quiet journal the one that leads a group that is well led and stands leads at rest,
+/// with nothing in flight or ready, where its slots are not used up.
+pub fn kept_leaders_rest()
+    ensures { KeptLeadersRest }
 {}
