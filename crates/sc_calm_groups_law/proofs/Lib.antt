@@ -9,6 +9,7 @@ pub mod Learns
 pub mod Mails
 pub mod Others
 pub mod Resting
+pub mod Rising
 pub mod Rows
 pub mod SlotLists
 pub mod SlotNodes

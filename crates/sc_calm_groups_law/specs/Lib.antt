@@ -5,6 +5,7 @@ pub mod Led
 pub mod Logged
 pub mod Mailed
 pub mod Rests
+pub mod Rising
 pub mod Rows
 pub mod Slots
 pub mod Through

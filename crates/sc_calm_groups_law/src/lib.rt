@@ -8,6 +8,7 @@ ghost use Rattle.sc_calm_groups_law.specs.Cleared.{QuietLeadersRest};
 ghost use Rattle.sc_calm_groups_law.specs.Kept.{KeptLeadersRest, ReplicasAreKept, ScenariosAreKeptBorn};
 ghost use Rattle.sc_calm_groups_law.specs.Mailed.{LeadersKeepLed, MailsKeepLed, OthersKeepLed};
 ghost use Rattle.sc_calm_groups_law.specs.Rests.{QuietGroupsAreLed};
+ghost use Rattle.sc_calm_groups_law.specs.Rising.{PromisersRise};
 ghost use Rattle.sc_calm_groups_law.specs.Rows.{RowsKeepLed};
 ghost use Rattle.sc_calm_groups_law.specs.Slots.{NodesAreBornSlotted, NodesKeepSlots};
 ghost use Rattle.sc_calm_groups_law.specs.Tops.{NodesAreBornTopped, NodesKeepTops};
@@ -126,4 +127,10 @@ pub fn replicas_are_kept()
 /// with nothing in flight or ready, where its slots are not used up.
 pub fn kept_leaders_rest()
     ensures { KeptLeadersRest }
+{}
+
+/// One that has promised the ballot of a leader, takes it for that, and saw no later ballot rises
+/// to it.
+pub fn promisers_rise()
+    ensures { PromisersRise }
 {}
