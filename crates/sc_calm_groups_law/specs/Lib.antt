@@ -1,7 +1,12 @@
 pub mod Begun
+pub mod Cleared
+pub mod Kept
 pub mod Led
 pub mod Logged
 pub mod Mailed
 pub mod Rests
+pub mod Rising
 pub mod Rows
+pub mod Slots
 pub mod Through
+pub mod Tops

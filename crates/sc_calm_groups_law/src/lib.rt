@@ -4,9 +4,14 @@
 #![tactic(auto)]
 
 ghost use Rattle.sc_calm_groups_law.specs.Begun.{ChildrenBeginLed, ScenariosBeginLed};
+ghost use Rattle.sc_calm_groups_law.specs.Cleared.{QuietLeadersRest};
+ghost use Rattle.sc_calm_groups_law.specs.Kept.{KeptLeadersRest, ReplicasAreKept, ScenariosAreKeptBorn};
 ghost use Rattle.sc_calm_groups_law.specs.Mailed.{LeadersKeepLed, MailsKeepLed, OthersKeepLed};
 ghost use Rattle.sc_calm_groups_law.specs.Rests.{QuietGroupsAreLed};
+ghost use Rattle.sc_calm_groups_law.specs.Rising.{PromisersRise};
 ghost use Rattle.sc_calm_groups_law.specs.Rows.{RowsKeepLed};
+ghost use Rattle.sc_calm_groups_law.specs.Slots.{NodesAreBornSlotted, NodesKeepSlots};
+ghost use Rattle.sc_calm_groups_law.specs.Tops.{NodesAreBornTopped, NodesKeepTops};
 ghost use Rattle.sc_calm_groups_law.specs.Through.{ChildrenAreLedThrough, EventsKeepLed, GroupsAreLedThrough, ScenariosAreLedThrough, ScenariosAreWellBorn};
 
 /// Each row of players keeps a group well led, by what it is in the group: one that does nothing,
@@ -78,4 +83,54 @@ pub fn scenarios_are_led_through()
 /// And so is each child of a split, of which no node has a replica at the births.
 pub fn children_are_led_through()
     ensures { ChildrenAreLedThrough }
+{}
+
+/// In any journal each replica of a node has promised no later ballot than the greatest that it
+/// saw; and where it runs, it runs with that one, and takes itself for the leader.
+pub fn nodes_keep_tops()
+    ensures { NodesKeepTops }
+{}
+
+/// So it is of each replica that is made at the birth of groups.
+pub fn nodes_are_born_topped()
+    ensures { NodesAreBornTopped }
+{}
+
+/// In a quiet journal the one that leads a group that stands leads at rest, with nothing in flight
+/// or ready, where what it has in flight and ready is at slots that are not executed.
+pub fn quiet_leaders_rest()
+    ensures { QuietLeadersRest }
+{}
+
+/// In any journal what each replica of a node has in flight and ready is at slots that are not
+/// executed, one command at a slot, and nothing that is ready is to be executed now.
+pub fn nodes_keep_slots()
+    ensures { NodesKeepSlots }
+{}
+
+/// So it is of each replica that is made at the birth of groups.
+pub fn nodes_are_born_slotted()
+    ensures { NodesAreBornSlotted }
+{}
+
+/// The players of a scenario are born so.
+pub fn scenarios_are_kept_born()
+    ensures { ScenariosAreKeptBorn }
+{}
+
+/// Where players are, each replica after any rows keeps its greatest ballot and its slots.
+pub fn replicas_are_kept()
+    ensures { ReplicasAreKept }
+{}
+
+/// And in a quiet journal the one that leads a group that is well led and stands leads at rest,
+/// with nothing in flight or ready, where its slots are not used up.
+pub fn kept_leaders_rest()
+    ensures { KeptLeadersRest }
+{}
+
+/// One that has promised the ballot of a leader, takes it for that, and saw no later ballot rises
+/// to it.
+pub fn promisers_rise()
+    ensures { PromisersRise }
 {}

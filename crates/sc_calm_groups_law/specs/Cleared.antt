@@ -1,0 +1,39 @@
+-- What a leader has in flight and ready, and that it has nothing in a quiet journal.
+use Rattle.std.specs.Prelude.{◌≡◌, ℕ, ◌≤◌, true, false, List, [], None, Some}
+use Rattle.sc_base.specs.Among.{Each}
+use Rattle.sc_cmd.specs.declared.cores.Base.{Base}
+use Rattle.sc_member.specs.Roster.{IsRoster}
+use Rattle.sc_actor.specs.declared.actors.Seat.{Seat}
+use Rattle.sc_actor.specs.Walk.{is_quiet}
+use Rattle.sc_orderly_law.specs.Orderly.{is_born}
+use Rattle.sc_orderly_law.specs.Timely.{AreInTime}
+use Rattle.sc_node_table.specs.Execute.{next_ready}
+use Rattle.sc_node_table.specs.Replica.{ReplicaState, next, last_slot}
+use Rattle.sc_sound.specs.Players.{Player}
+use Rattle.sc_calm_law.specs.Charts.{players}
+use Rattle.sc_calm_law.specs.Quiet.{LeadsAtRest}
+use Rattle.sc_calm_law.specs.Totals.{Rows}
+use Rattle.sc_following_law.specs.Following.{Course, Sets}
+use Rattle.sc_following_law.specs.Hints.{Tellers}
+use Rattle.sc_calm_rows_law.specs.Groups.{view_at, marks_at}
+use Rattle.sc_calm_groups_law.specs.Led.{Ends, IsWellLed}
+use Rattle.sc_calm_groups_law.specs.Tops.{IsTopKept}
+
+-- what is in flight and ready is at slots that are not executed, and nothing that is ready is to be executed now
+pub record IsCleared (r : ReplicaState) : Type 0 where
+  pub flights : Each (λ flight. next r ≤ flight.slot) r.leader.flights
+  pub ready : Each (λ entry. next r ≤ entry.0) r.ready
+  pub done : next_ready r ≡ None
+
+-- a leader has nothing in flight or ready, and leads at rest
+pub record RestsCleared (lead : ReplicaState) : Type 0 where
+  pub flights : lead.leader.flights ≡ []
+  pub ready : lead.ready ≡ []
+  pub leads : LeadsAtRest lead
+
+-- So it is in a quiet journal at the one that leads a group that is well led and stands, where its slots are not used up, it is cleared, and the greatest ballot that it saw is kept.
+abbrev pub QuietLeadersRest : Type 0
+QuietLeadersRest =
+    (at : Sets) (over : Ends) (by : Tellers) (words : ℕ → ℕ → ℕ × ℕ) (births : List (Seat Player)) (rows : Rows) (base : Base) (course : Course) (lead : ReplicaState) → ((slot : ℕ) → IsRoster (at slot)) → AreInTime (players words births) rows
+    → is_quiet (players words births) rows ≡ true → ((who : ℕ) → is_born (players words births) who ≡ false → marks_at (players words births) rows base.core.id who ≡ []) → IsWellLed at over by words births rows base course
+    → course.gone ≡ false → view_at births rows base.core.id course.ballot.node ≡ Some lead → next lead ≤ last_slot → IsCleared lead → IsTopKept course.ballot.node lead → RestsCleared lead

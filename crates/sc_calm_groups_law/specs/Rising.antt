@@ -1,0 +1,13 @@
+-- One that has promised the ballot of a leader, and saw no later one, rises to it.
+use Rattle.std.specs.Prelude.{◌≡◌, ℕ, true, Some}
+use Rattle.sc_base.specs.declared.names.Draw.{Draw}
+use Rattle.sc_paxos_words.specs.Ballots.{IsAtLeast}
+use Rattle.sc_node_table.specs.Replica.{ReplicaState}
+use Rattle.sc_calm_law.specs.Quiet.{View, RisesAt}
+use Rattle.sc_calm_groups_law.specs.Tops.{IsTopKept}
+
+-- It takes the leader for that, whose ballot names its node: its greatest ballot is that one.
+abbrev pub PromisersRise : Type 0
+PromisersRise =
+    (at : View) (group : Draw) (lead r : ReplicaState) (who : ℕ) → at group lead.me ≡ Some lead → lead.running ≡ true → lead.leader.ballot.node ≡ lead.me → r.hint ≡ Some lead.me → r.acceptor.promised ≡ lead.leader.ballot
+    → IsAtLeast lead.leader.ballot r.top → IsTopKept who r → RisesAt at group r

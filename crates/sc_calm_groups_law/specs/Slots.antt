@@ -1,0 +1,49 @@
+-- At which slots each replica of a node has anything in flight or ready, in any journal.
+use Rattle.std.specs.Prelude.{◌≡◌, ℕ, ◌<◌, ◌≤◌, Bool, false, List, [], ◌∷◌, None}
+use Rattle.sc_base.specs.Among.{Each}
+use Rattle.sc_cmd.specs.declared.commands.Command.{Command}
+use Rattle.sc_cmd.specs.declared.cores.Base.{Base}
+use Rattle.sc_mail.specs.declared.roles.Role.TheVariants.{Node}
+use Rattle.sc_actor.specs.declared.actors.Seat.{Seat}
+use Rattle.sc_actor.specs.Replay.{value}
+use Rattle.sc_paxos_words.specs.declared.flights.Flight.{Flight}
+use Rattle.sc_node_table.specs.Execute.{next_ready}
+use Rattle.sc_node_table.specs.Node.{NodeState, born_node}
+use Rattle.sc_node_table.specs.Replica.{ReplicaState, next}
+use Rattle.sc_node_table.specs.Slots.{slots_ahead}
+use Rattle.sc_sound.specs.Players.{Player, player_table}
+use Rattle.sc_calm_law.specs.Totals.{Rows}
+use Rattle.sc_following_law.specs.Orderly.{AreApart}
+
+-- commands in flight from a slot on, one at a slot
+abbrev pub FlyFrom : ℕ → List (Flight Command) → Type 0
+FlyFrom from flights = Each (λ flight. from ≤ flight.slot) flights × AreApart flights
+
+-- entries by rising slot
+abbrev pub AreRising : List (ℕ × Command) → Type 0
+AreRising [] = Unit {0}
+AreRising (entry ∷ entries) = Each (λ later. entry.0 < later.0) entries × AreRising entries
+
+-- .. from a slot on
+abbrev pub WaitFrom : ℕ → List (ℕ × Command) → Type 0
+WaitFrom from entries = Each (λ entry. from ≤ entry.0) entries × AreRising entries
+
+-- a replica that has anything in flight or ready runs, and has it from a slot on
+abbrev pub HasFrom : ℕ → ReplicaState → Type 0
+HasFrom from r = FlyFrom from r.leader.flights × WaitFrom from r.ready × (r.running ≡ false → (r.leader.flights ≡ []) × (r.ready ≡ []))
+
+-- .. from its next slot on, and nothing that is ready is to be executed now
+abbrev pub IsSlotKept : ReplicaState → Type 0
+IsSlotKept r = HasFrom (next r) r × (next_ready r ≡ None)
+
+-- each replica of a node is so
+abbrev pub IsSlotKeptNode : NodeState → Type 0
+IsSlotKeptNode node = Each IsSlotKept node.replicas
+
+-- a node that is so at first is so after any rows
+abbrev pub NodesKeepSlots : Type 0
+NodesKeepSlots = (seat : Seat Player) (rows : Rows) (born node : NodeState) → seat.actor ≡ Node born → IsSlotKeptNode born → value player_table seat rows ≡ Node node → IsSlotKeptNode node
+
+-- at the birth of groups each node is so
+abbrev pub NodesAreBornSlotted : Type 0
+NodesAreBornSlotted = (me : ℕ) (groups : List Base) (policy : Bool) → IsSlotKeptNode (born_node slots_ahead me groups policy)

@@ -1,0 +1,29 @@
+-- What holds of the ballots of each replica of a node in any journal.
+use Rattle.std.specs.Prelude.{◌≡◌, ℕ, Bool, true, List, Some}
+use Rattle.sc_base.specs.Among.{Each}
+use Rattle.sc_cmd.specs.declared.cores.Base.{Base}
+use Rattle.sc_mail.specs.declared.roles.Role.TheVariants.{Node}
+use Rattle.sc_actor.specs.declared.actors.Seat.{Seat}
+use Rattle.sc_actor.specs.Replay.{value}
+use Rattle.sc_paxos_words.specs.Ballots.{IsAtLeast}
+use Rattle.sc_node_table.specs.Node.{NodeState, born_node}
+use Rattle.sc_node_table.specs.Replica.{ReplicaState}
+use Rattle.sc_node_table.specs.Slots.{slots_ahead}
+use Rattle.sc_sound.specs.Players.{Player, player_table}
+use Rattle.sc_calm_law.specs.Totals.{Rows}
+
+-- It is its node's, and has promised no later ballot than the greatest that it saw; and where it runs, that is the one it runs with, and it takes itself for the leader.
+abbrev pub IsTopKept : ℕ → ReplicaState → Type 0
+IsTopKept me r = (r.me ≡ me) × IsAtLeast r.top r.acceptor.promised × (r.running ≡ true → (r.top ≡ r.leader.ballot) × (r.hint ≡ Some me))
+
+-- each replica of a node is so
+abbrev pub IsTopKeptNode : NodeState → Type 0
+IsTopKeptNode node = Each (IsTopKept node.me) node.replicas
+
+-- a node that is so at first is so after any rows, and keeps its number
+abbrev pub NodesKeepTops : Type 0
+NodesKeepTops = (seat : Seat Player) (rows : Rows) (born node : NodeState) → seat.actor ≡ Node born → IsTopKeptNode born → value player_table seat rows ≡ Node node → IsTopKeptNode node × (node.me ≡ born.me)
+
+-- at the birth of groups each node is so
+abbrev pub NodesAreBornTopped : Type 0
+NodesAreBornTopped = (me : ℕ) (groups : List Base) (policy : Bool) → IsTopKeptNode (born_node slots_ahead me groups policy)
