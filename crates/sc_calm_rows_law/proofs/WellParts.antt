@@ -52,10 +52,6 @@ module _ (me : ℕ) where
   abbrev Runs : Place → Type 0
   Runs place = W place × (place.0.running ≡ true)
 
-  -- one that runs, with anything in flight or ready
-  pub running_so : (r : ReplicaState) → r.running ≡ true → r.running ≡ false → (r.leader.flights ≡ []) × (r.ready ≡ [])
-  running_so r on off = absurd (true≢false (sym on ∙ off))
-
   -- ---- what goes back
 
   back_well : (command : Command) (r : ReplicaState) → IsWellKept me r → IsWellKept me (put_back command r)

@@ -8,7 +8,7 @@ use Rattle.sc_node_table.specs.Replica.{listed}
 use Rattle.sc_paxos_words.proofs.ListLemmas.{Each-append, Each-weaker}
 use Rattle.sc_following_law.specs.Dated.{IsNoPrepare}
 use Rattle.sc_following_law.specs.Following.{Mark, Asks, Votes, Tells, Installs, Prepares, Promises, reached, AreFit, Course, Sets, members_at}
-use Rattle.sc_following_law.specs.Owning.{IsOtherPrepare, IsOwnPrepare, IsHome, ArePromisedLast, AreToldLast}
+use Rattle.sc_following_law.specs.Owning.{IsOtherPrepare, IsOwnPrepare, ArePromisedLast, AreToldLast}
 use Rattle.sc_following_law.specs.Rows.{IsCount, IsOffer, welcome, told_of, told_from}
 use Rattle.sc_following_law.proofs.Marks.{reached-least, offers-each}
 
@@ -106,14 +106,6 @@ no_promised (Votes node ballot slot ∷ marks) e = no_promised marks e.1
 no_promised (Tells slot ∷ marks) e = no_promised marks e.1
 no_promised (Installs slot ∷ marks) e = no_promised marks e.1
 no_promised (Prepares ballot ∷ marks) e = no_promised marks e.1
-
-pub no_home : (course : Course) (who : ℕ) (mark : Mark) → IsNoPromise mark → IsHome course who mark
-no_home course who (Promises node ballot) n = absurd n
-no_home course who (Asks ballot slot) n = tt
-no_home course who (Votes node ballot slot) n = tt
-no_home course who (Tells slot) n = tt
-no_home course who (Installs slot) n = tt
-no_home course who (Prepares ballot) n = tt
 
 pub promised_tail : (mark : Mark) (marks : List Mark) → ArePromisedLast (mark ∷ marks) → ArePromisedLast marks
 promised_tail (Promises node ballot) marks f = f.1
