@@ -1,4 +1,5 @@
 pub mod Counting
+pub mod Given
 pub mod InTime
 pub mod Ordering
 pub mod Passing

@@ -46,7 +46,7 @@ plain_are_calm (line ∷ lines) p = (plain_is_calm line p.0, plain_are_calm line
 -- ---- tasks
 
 -- a task of a line that is of these, or of many deliveries
-abbrev IsTaskOf : {O : Type 0} → (Line O → Type 0) → Task O → Type 0
+abbrev pub IsTaskOf : {O : Type 0} → (Line O → Type 0) → Task O → Type 0
 IsTaskOf P (Once line) = P line
 IsTaskOf P (Settles left) = Unit {0}
 IsTaskOf P (Frees left) = Unit {0}
@@ -87,7 +87,7 @@ module _ {O : Type 0} (P : Line O → Type 0) (calm : (line : Line O) → P line
     walk_tasks place (row ∷ rows) p = walk_tasks (after_row s place row) rows (onward_tasks (place.rows ++ row ∷ []) (rest_of_all place.tasks) place.skipped place.unsettled (rest_tasks place.tasks p))
 
     -- the tasks that are left after some rows are of such lines
-    tasks_after : (lines : List (Line O)) (rows : List (Row M O)) → Each P lines → Each (IsTaskOf P) (place_after s lines rows).tasks
+    pub tasks_after : (lines : List (Line O)) (rows : List (Row M O)) → Each P lines → Each (IsTaskOf P) (place_after s lines rows).tasks
     tasks_after lines rows p = walk_tasks _ rows (onward_tasks [] (flat_map (tasks_of s.words) lines) 0 false (lines_tasks s.words lines p))
 
 module _ {A M O : Type 0} (s : System A M O) where

@@ -8,8 +8,8 @@ use Rattle.sc_actor.specs.declared.schedules.Line.{Line}
 use Rattle.sc_actor.specs.declared.schedules.Line.TheVariants.{Go as GoLine, Deliver as DeliverLine, Drop as DropLine, Again as AgainLine, Tick as TickLine, Crash as CrashLine, Told as ToldLine, Settle, Free, Storm}
 use Rattle.sc_actor.specs.Mail.{is_delivery}
 use Rattle.sc_actor.specs.System.{System}
-use Rattle.sc_actor.specs.Walk.{is_quiet}
-use Rattle.sc_orderly_law.specs.Orderly.{IsCalmRow, is_told, orders}
+use Rattle.sc_actor.specs.Walk.{IsLawful, is_quiet}
+use Rattle.sc_orderly_law.specs.Orderly.{IsCalmRow, is_told, deliveries}
 
 -- What lines said since the last line of deliveries: nothing, that actors go, or an order.
 pub data Said : Type 0 where
@@ -115,8 +115,9 @@ IsGivenSo allowed (Storm number most) = Unit {0}
 abbrev pub AreGivenSo : {O : Type 0} → (ℕ → O → Bool) → List (Line O) → Type 0
 AreGivenSo allowed lines = Each (IsGivenSo allowed) lines
 
--- What is owed after some rows that tell so many orders at most, each of them as orders may be: each delivery lowers it by one at least, an order raises it by so much at most, no other row raises it, and in quiet journals no more than so much is owed.
-pub record IsMeasure {A M O : Type 0} (s : System A M O) (allowed : ℕ → O → Bool) (told : ℕ) (owed : List (Row M O) → ℕ) (still raise : ℕ) : Type 0 where
-  pub lowers : (rows : List (Row M O)) (row : Row M O) → AreInTime s (rows ++ row ∷ []) → AreToldSo allowed (rows ++ row ∷ []) → orders (rows ++ row ∷ []) ≤ told →
+-- What is owed after a lawful journal of rows in time, with so many deliveries at most: each delivery lowers it by one at least, an order raises it by so much at most, and no other row raises it; something is owed where mail is pending, and in quiet journals no more than so much.
+pub record IsMeasure {A M O : Type 0} (s : System A M O) (lines : List (Line O)) (most : ℕ) (owed : List (Row M O) → ℕ) (still raise : ℕ) : Type 0 where
+  pub lowers : (rows : List (Row M O)) (row : Row M O) → IsLawful s lines (rows ++ row ∷ []) → AreInTime s (rows ++ row ∷ []) → deliveries rows ≤ most →
       owed (rows ++ row ∷ []) + (if is_delivery row.event then 1 else 0) ≤ owed rows + (if is_told row.event then raise else 0)
-  pub quiet : (rows : List (Row M O)) → AreInTime s rows → AreToldSo allowed rows → orders rows ≤ told → is_quiet s rows ≡ true → owed rows ≤ still
+  pub some : (rows : List (Row M O)) → IsLawful s lines rows → AreInTime s rows → deliveries rows ≤ most → is_quiet s rows ≡ false → 1 ≤ owed rows
+  pub quiet : (rows : List (Row M O)) → IsLawful s lines rows → AreInTime s rows → deliveries rows ≤ most → is_quiet s rows ≡ true → owed rows ≤ still

@@ -117,32 +117,35 @@ pub fn deliveries_are_owed<A: Actor>()
 /// Where each delivery lowers what is owed by at least one, an order raises it by so much at most,
 /// and in quiet journals no more than so much is owed: if lines of deliveries stand between orders
 /// and whatever else is said, and each has room for both together, then each order begins where
-/// nothing is under way, each actor goes where no order is, and no line is cut off. What is owed
-/// may be any number that rows determine, and is asked of rows alone that tell no more orders than
-/// the lines give, and such ones: how much an order raises may so depend on how many are given.
+/// nothing is under way, each actor goes where no order is, no line is cut off, and the deliveries
+/// made and what is owed still are no more than is owed in quiet and what the orders raised. What
+/// is owed may be any number that rows determine, and is asked of lawful journals alone, with no
+/// more deliveries than these. No journal tells more orders than its lines give, nor others.
 pub fn orders_begin_in_quiet<A: Actor>()
     ensures timely { (words : ℕ → ℕ → ℕ × ℕ) (births : List (Seat A))
-        (lines : List (Line A.Order)) (allowed : ℕ → A.Order → Bool)
+        (lines : List (Line A.Order)) (most : ℕ)
         (owed_after : List (Row A.Mail A.Order) → ℕ) (still raise : ℕ)
         (journal : List (Row A.Mail A.Order)) →
         let s = system A.table A.Mail.receiver words births in
-        IsMeasure s allowed (orders_given lines) owed_after still raise → AreSpaced Nothing lines →
-        Each (HasRoom (still + raise)) lines → AreGivenSo allowed lines → IsLawful s lines journal → AreInTime s journal }
+        IsMeasure s lines most owed_after still raise → AreSpaced Nothing lines →
+        Each (HasRoom (still + raise)) lines → still + orders_given lines * raise ≤ most →
+        IsLawful s lines journal → AreInTime s journal }
     ensures settled { (words : ℕ → ℕ → ℕ × ℕ) (births : List (Seat A))
-        (lines : List (Line A.Order)) (allowed : ℕ → A.Order → Bool)
+        (lines : List (Line A.Order)) (most : ℕ)
         (owed_after : List (Row A.Mail A.Order) → ℕ) (still raise : ℕ)
         (journal : List (Row A.Mail A.Order)) →
         let s = system A.table A.Mail.receiver words births in
-        IsMeasure s allowed (orders_given lines) owed_after still raise → AreSpaced Nothing lines →
-        Each (HasRoom (still + raise)) lines → AreGivenSo allowed lines → IsLawful s lines journal →
-        unsettled s lines journal ≡ false }
+        IsMeasure s lines most owed_after still raise → AreSpaced Nothing lines →
+        Each (HasRoom (still + raise)) lines → still + orders_given lines * raise ≤ most →
+        IsLawful s lines journal → unsettled s lines journal ≡ false }
     ensures deliveries { (words : ℕ → ℕ → ℕ × ℕ) (births : List (Seat A))
-        (allowed : ℕ → A.Order → Bool) (told : ℕ)
+        (lines : List (Line A.Order)) (most : ℕ)
         (owed_after : List (Row A.Mail A.Order) → ℕ) (still raise : ℕ)
         (journal : List (Row A.Mail A.Order)) →
         let s = system A.table A.Mail.receiver words births in
-        IsMeasure s allowed told owed_after still raise → AreInTime s journal →
-        AreToldSo allowed journal → orders journal ≤ told →
+        IsMeasure s lines most owed_after still raise → AreSpaced Nothing lines →
+        Each (HasRoom (still + raise)) lines → still + orders_given lines * raise ≤ most →
+        IsLawful s lines journal →
         deliveries journal + owed_after journal ≤ still + orders journal * raise }
     ensures rows { (words : ℕ → ℕ → ℕ × ℕ) (births : List (Seat A))
         (journal : List (Row A.Mail A.Order)) →
@@ -150,4 +153,14 @@ pub fn orders_begin_in_quiet<A: Actor>()
         are_apart births ≡ true → AreInTime s journal →
         (length journal ≡ deliveries journal + goes journal + orders journal)
         × (goes journal ≤ length births) }
+    ensures few { (words : ℕ → ℕ → ℕ × ℕ) (births : List (Seat A))
+        (lines : List (Line A.Order)) (journal : List (Row A.Mail A.Order)) →
+        let s = system A.table A.Mail.receiver words births in
+        Each IsCalmLine lines → IsLawful s lines journal → orders journal ≤ orders_given lines }
+    ensures told_so { (words : ℕ → ℕ → ℕ × ℕ) (births : List (Seat A))
+        (lines : List (Line A.Order)) (allowed : ℕ → A.Order → Bool)
+        (journal : List (Row A.Mail A.Order)) →
+        let s = system A.table A.Mail.receiver words births in
+        Each IsCalmLine lines → AreGivenSo allowed lines → IsLawful s lines journal →
+        AreToldSo allowed journal }
 {}
