@@ -20,6 +20,7 @@ pub mod OwedMailed
 pub mod OwedNodes
 pub mod OwedOrders
 pub mod OwedParties
+pub mod OwedPending
 pub mod OwedPump
 pub mod OwedReach
 pub mod OwedResting

@@ -1,5 +1,5 @@
 -- A row that finds what it needs lowers what is owed, where it delivers, and raises it little, where it tells an order.
-use Rattle.std.proofs.Common.{◌≡◌, ℕ, ◌+◌, ◌*◌, ◌≤◌, eqb, Bool, true, true≢false, cond, List, [], ◌∷◌, ◌++◌, sum_by, find, Some, None, inl, inr, refl, sym, ◌∙◌, ap, subst, arith}
+use Rattle.std.proofs.Common.{◌≡◌, ℕ, ◌+◌, ◌*◌, ◌≤◌, eqb, true, false, true≢false, cond, List, [], ◌∷◌, ◌++◌, sum_by, find, Some, None, inl, inr, refl, sym, ◌∙◌, ap, subst, arith}
 use Rattle.std.specs.List.{filter}
 use Rattle.std.specs.Option.{option_map}
 use Rattle.std.proofs.lemmas.List.Sums.{sum_by-append}
@@ -15,14 +15,18 @@ use Rattle.sc_actor.specs.declared.rows.Event.TheVariants.{Deliver, Tick, Go, To
 use Rattle.sc_actor.specs.declared.rows.Input.{Input}
 use Rattle.sc_actor.specs.declared.rows.Input.TheVariants.{Got, Go as GoInput, Told as ToldInput}
 use Rattle.sc_actor.specs.declared.rows.Row.{Row}
+use Rattle.sc_actor.specs.declared.schedules.Line.{Line}
 use Rattle.sc_actor.specs.Mail.{mails, copies, counts_at, is_delivery}
 use Rattle.sc_actor.specs.Replay.{value, acted, input_of}
 use Rattle.sc_actor.specs.System.{are_apart, row_of}
+use Rattle.sc_actor.specs.Walk.{IsLawful, is_quiet}
 use Rattle.sc_actor.proofs.PendingLemmas.{waiting_one}
-use Rattle.sc_orderly_law.specs.Orderly.{IsCalmEvent, mail_with, is_born, is_told, orders}
+use Rattle.sc_actor.proofs.WalkLemmas.{lawful-prefix}
+use Rattle.sc_orderly_law.specs.Orderly.{IsCalmEvent, mail_with, is_born, is_told, deliveries}
 use Rattle.sc_orderly_law.specs.Owing.{under_way}
-use Rattle.sc_orderly_law.specs.Timely.{AreInTime, AreToldSo}
-use Rattle.sc_orderly_law.proofs.InTime.{by_time, in_time_before, last_in_time}
+use Rattle.sc_orderly_law.specs.Timely.{AreInTime}
+use Rattle.sc_orderly_law.proofs.InTime.{in_time_before, in_time_tidy, last_in_time}
+use Rattle.sc_orderly_law.proofs.Ordering.{by_rows}
 use Rattle.sc_orderly_law.proofs.Paying.{count_push, delivered}
 use Rattle.sc_orderly_law.proofs.Rests.{filter_sum}
 use Rattle.sc_orderly_law.proofs.Resting.{after-row, is_born-from}
@@ -46,6 +50,7 @@ use Rattle.sc_calm_law.proofs.OwedLone.{lone_decides}
 use Rattle.sc_calm_law.proofs.OwedMailed.{answers, votes, learns, asks, moves, counts, old_learns}
 use Rattle.sc_calm_law.proofs.OwedNodes.{raise_little}
 use Rattle.sc_calm_law.proofs.OwedParties.{parties_lower, led_parties_lower, parties_raise_little}
+use Rattle.sc_calm_law.proofs.OwedPending.{pending_owes}
 use Rattle.sc_calm_law.proofs.OwedReach.{clients_pay}
 use Rattle.sc_calm_law.proofs.OwedServed.{serving_decides}
 use Rattle.sc_calm_law.proofs.OwedStrangers.{strangers_lower}
@@ -196,38 +201,42 @@ module _ (words : ℕ → ℕ → ℕ × ℕ) (births : List (Seat Player)) (apa
     row_pays (Drop mail) fine finds = absurd fine
     row_pays (Again mail) fine finds = absurd fine
 
-  -- ---- rows that come in time
+  -- ---- lawful rows that come in time
 
-  module _ (charts : Rows → Chart) (allowed : ℕ → OrderLine → Bool) (told : ℕ) (keeps : KeepCalm (players words births) charts allowed told) where
-    fewer : (rows : Rows) (row : Row Mail OrderLine) → orders (rows ++ row ∷ []) ≤ told → orders rows ≤ told
-    fewer rows row few = (let o = count_push (λ (r : Row Mail OrderLine). is_told r.event) rows row (is_told row.event) refl in omega (arith, o, few))
+  module _ (lines : List (Line OrderLine)) (charts : Rows → Chart) (most : ℕ) (keep : KeepCalm (players words births) lines charts most) where
+    fewer : (rows : Rows) (row : Row Mail OrderLine) → deliveries (rows ++ row ∷ []) ≤ most → deliveries rows ≤ most
+    fewer rows row low = (let d = count_push (λ (r : Row Mail OrderLine). is_delivery r.event) rows row (is_delivery row.event) refl in omega (arith, d, low))
 
     -- the longest way stays what it is
-    such_before : (rows : Rows) (row : Row Mail OrderLine) → AreToldSo allowed (rows ++ row ∷ []) → AreToldSo allowed rows
-    such_before [] row such = tt
-    such_before (r ∷ rows) row such = (such.0, such_before rows row such.1)
-
-    most_stays : (rows : Rows) → AreInTime (players words births) rows → AreToldSo allowed rows → orders rows ≤ told → (charts rows).ways.most ≡ (charts []).ways.most
-    most_stays rows timely =
-        by_time (players words births) (λ r. AreToldSo allowed r → orders r ≤ told → (charts r).ways.most ≡ (charts []).ways.most) (λ such few. refl)
-        (λ r row t same such few. (keeps r row t such few).follows.most ∙ same (such_before r row such) (fewer r row few))
-        rows timely
+    most_stays : (rows : Rows) → IsLawful (players words births) lines rows → AreInTime (players words births) rows → deliveries rows ≤ most → (charts rows).ways.most ≡ (charts []).ways.most
+    most_stays rows lawful =
+        by_rows (players words births) lines (λ r. AreInTime (players words births) r → deliveries r ≤ most → (charts r).ways.most ≡ (charts []).ways.most) (λ timely low. refl)
+        (λ r row l same timely low. (keep.keeps r row l timely (fewer r row low)).follows.most ∙ same (in_time_before (players words births) r row timely) (fewer r row low))
+        rows lawful
 
     abbrev RowPays : Rows → Row Mail OrderLine → Type 0
     RowPays rows row = run_owes (charts rows) (players words births) (rows ++ row ∷ []) + cond (is_delivery row.event) 1 0 ≤ run_owes (charts rows) (players words births) rows + cond (is_told row.event) (242 + 4 * (charts rows).ways.most) 0
 
-    row_lowers : (rows : Rows) (row : Row Mail OrderLine) → AreInTime (players words births) (rows ++ row ∷ []) → AreToldSo allowed (rows ++ row ∷ []) → orders (rows ++ row ∷ []) ≤ told
+    row_lowers : (rows : Rows) (row : Row Mail OrderLine) → IsLawful (players words births) lines (rows ++ row ∷ []) → AreInTime (players words births) (rows ++ row ∷ []) → deliveries rows ≤ most
         → run_owes (charts (rows ++ row ∷ [])) (players words births) (rows ++ row ∷ []) + cond (is_delivery row.event) 1 0 ≤ run_owes (charts rows) (players words births) rows + cond (is_told row.event) (242 + 4 * (charts []).ways.most) 0
-    row_lowers rows row timely such few =
-        let kept = keeps rows row timely such few in
+    row_lowers rows row lawful timely low =
+        let kept = keep.keeps rows row lawful timely low in
         let calm = (last_in_time (players words births) rows row timely).0 in
         let pays = subst (RowPays rows) (sym calm.row_is) (row_pays (charts rows) kept.bounded rows calm.seat calm.born calm.event calm.calm (kept.finds calm.seat calm.event calm.born calm.row_is)) in
         let next = charts_may_change words births (rows ++ row ∷ []) (charts rows) (charts (rows ++ row ∷ [])) kept.follows in
-        let same = ap (λ far. cond (is_told row.event) (242 + 4 * far) 0) (most_stays rows (in_time_before (players words births) rows row timely) (such_before rows row such) (fewer rows row few)) in
+        let before = lawful-prefix (players words births) lines rows (row ∷ []) lawful in
+        let same = ap (λ far. cond (is_told row.event) (242 + 4 * far) 0) (most_stays rows before (in_time_before (players words births) rows row timely) low) in
         omega (arith, pays, next, same)
 
+    -- where mail is pending, something is owed
+    some_owed : (rows : Rows) → IsLawful (players words births) lines rows → AreInTime (players words births) rows → deliveries rows ≤ most → is_quiet (players words births) rows ≡ false → 1 ≤ run_owes (charts rows) (players words births) rows
+    some_owed rows lawful timely low loud =
+        let some = pending_owes words births (charts rows).ways rows (in_time_tidy (players words births) rows timely) (keep.delivered rows lawful timely low) loud in
+        omega (arith, some)
+
 pub kept_calm : KeptCalmIsMeasured
-kept_calm words births charts allowed told still apart keeps quiet = record {
-  lowers = row_lowers words births apart charts allowed told keeps;
+kept_calm words births lines charts most still apart keep quiet = record {
+  lowers = row_lowers words births apart lines charts most keep;
+  some = some_owed words births apart lines charts most keep;
   quiet = quiet;
 }

@@ -16,7 +16,6 @@ use Rattle.sc_actor.specs.Walk.{is_quiet}
 use Rattle.sc_actor.proofs.PendingLemmas.{wide_none}
 use Rattle.sc_orderly_law.specs.Orderly.{IsTidy, mail_with, is_born}
 use Rattle.sc_orderly_law.specs.Owing.{under_way}
-use Rattle.sc_orderly_law.specs.Timely.{orders_given}
 use Rattle.sc_orderly_law.proofs.InTime.{in_time_tidy}
 use Rattle.sc_orderly_law.proofs.Resting.{may-born}
 use Rattle.sc_orderly_law.proofs.Timing.{ends_quiet}
@@ -137,7 +136,7 @@ resting_owes_little words births first chart rows timely quiet is =
     omega (arith, rest, groups, mail)
 
 pub kept_ends_quiet : KeptCalmEndsQuiet
-kept_ends_quiet words births charts allowed lines journal apart keeps rests so spaced room lawful =
-    ends_quiet (players words births) allowed (orders_given lines) (λ rows. run_owes (charts rows) (players words births) rows) (births_owe (charts []) births) (242 + 4 * (charts []).ways.most)
-    (kept_calm words births charts allowed (orders_given lines) (births_owe (charts []) births) apart keeps (λ rows timely such few quiet. resting_owes_little words births (charts []) (charts rows) rows timely quiet (rests rows timely such few quiet)))
-    lines spaced room so (omega arith) journal lawful
+kept_ends_quiet words births lines charts most journal apart keep rests spaced room within lawful =
+    ends_quiet (players words births) lines most (λ rows. run_owes (charts rows) (players words births) rows) (births_owe (charts []) births) (242 + 4 * (charts []).ways.most)
+    (kept_calm words births lines charts most (births_owe (charts []) births) apart keep (λ rows l timely low quiet. resting_owes_little words births (charts []) (charts rows) rows timely quiet (rests rows l timely low quiet)))
+    spaced within room journal lawful

@@ -1,5 +1,6 @@
 -- What rows of a calm journal have to find, so that each delivery lowers what is owed, and an order raises it little.
-use Rattle.std.specs.Prelude.{◌≡◌, ℕ, ◌+◌, ◌*◌, ◌≤◌, ◌==◌, Bool, true, false, List, [], ◌∷◌, ◌++◌, find, Option, Some, None, ◌⊎◌}
+use Rattle.std.specs.Prelude.{◌≡◌, ℕ, ◌+◌, ◌*◌, ◌≤◌, ◌==◌, true, false, List, [], ◌∷◌, ◌++◌, find, Option, Some, None, ◌⊎◌}
+use Rattle.sc_base.specs.Among.{Each}
 use Rattle.sc_base.specs.declared.names.Draw.{Draw}
 use Rattle.sc_cmd.specs.declared.commands.Command.{Command}
 use Rattle.sc_cmd.specs.declared.cores.Base.{Base}
@@ -12,12 +13,14 @@ use Rattle.sc_actor.specs.declared.actors.Seat.{Seat}
 use Rattle.sc_actor.specs.declared.rows.Event.{Event}
 use Rattle.sc_actor.specs.declared.rows.Event.TheVariants.{Deliver, Tick, Go, Told, Crash, Drop, Again}
 use Rattle.sc_actor.specs.declared.rows.Row.{Row}
+use Rattle.sc_actor.specs.declared.schedules.Line.{Line}
 use Rattle.sc_actor.specs.Mail.{mails, numbered}
 use Rattle.sc_actor.specs.Replay.{value}
 use Rattle.sc_actor.specs.System.{System, are_apart, row_of}
-use Rattle.sc_actor.specs.Walk.{is_quiet}
-use Rattle.sc_orderly_law.specs.Orderly.{orders}
-use Rattle.sc_orderly_law.specs.Timely.{AreInTime, AreToldSo, IsMeasure}
+use Rattle.sc_actor.specs.Walk.{IsLawful, is_quiet}
+use Rattle.sc_orderly_law.specs.Orderly.{deliveries}
+use Rattle.sc_orderly_law.specs.Owing.{under_way}
+use Rattle.sc_orderly_law.specs.Timely.{AreInTime, IsMeasure}
 use Rattle.sc_paxos_words.specs.declared.flights.Flight.{Flight}
 use Rattle.sc_node_table.specs.Node.{NodeState, replica_of, group_of_mail, may_come, group_of_order}
 use Rattle.sc_node_table.specs.Replica.{ReplicaState, name_of, next}
@@ -149,13 +152,14 @@ pub record KeepsCalm (s : System Player Mail OrderLine) (charts : Rows → Chart
   pub finds : (seat : Seat Player) (event : Event OrderLine) → find (λ other. other.who == seat.who) s.births ≡ Some seat → row ≡ row_of player_table seat rows event → FindsCalm (charts rows) s.births rows seat event
   pub follows : MayFollow s (rows ++ row ∷ []) (charts rows) (charts (rows ++ row ∷ []))
 
--- Each row that comes in time, where no more than so many orders are told, each of them as orders may be, finds what it needs.
-abbrev pub KeepCalm : System Player Mail OrderLine → (Rows → Chart) → (ℕ → OrderLine → Bool) → ℕ → Type 0
-KeepCalm s charts allowed told = (rows : Rows) (row : Row Mail OrderLine) → AreInTime s (rows ++ row ∷ []) → AreToldSo allowed (rows ++ row ∷ []) → orders (rows ++ row ∷ []) ≤ told → KeepsCalm s charts rows row
+-- Each row of a lawful journal that comes in time, with so many deliveries before it at most, finds what it needs; and no mail to players is under way that is for the desk.
+pub record KeepCalm (s : System Player Mail OrderLine) (lines : List (Line OrderLine)) (charts : Rows → Chart) (most : ℕ) : Type 0 where
+  pub keeps : (rows : Rows) (row : Row Mail OrderLine) → IsLawful s lines (rows ++ row ∷ []) → AreInTime s (rows ++ row ∷ []) → deliveries rows ≤ most → KeepsCalm s charts rows row
+  pub delivered : (rows : Rows) → IsLawful s lines rows → AreInTime s rows → deliveries rows ≤ most → Each (λ mail. IsDelivered mail.body) (under_way s rows)
 
 -- Then what is owed is a measure, if no more than so much is owed in quiet journals.
 abbrev pub KeptCalmIsMeasured : Type 0
 KeptCalmIsMeasured =
-    (words : ℕ → ℕ → ℕ × ℕ) (births : List (Seat Player)) (charts : Rows → Chart) (allowed : ℕ → OrderLine → Bool) (told still : ℕ) → are_apart births ≡ true → KeepCalm (players words births) charts allowed told
-    → ((rows : Rows) → AreInTime (players words births) rows → AreToldSo allowed rows → orders rows ≤ told → is_quiet (players words births) rows ≡ true → run_owes (charts rows) (players words births) rows ≤ still)
-    → IsMeasure (players words births) allowed told (λ rows. run_owes (charts rows) (players words births) rows) still (242 + 4 * (charts []).ways.most)
+    (words : ℕ → ℕ → ℕ × ℕ) (births : List (Seat Player)) (lines : List (Line OrderLine)) (charts : Rows → Chart) (most still : ℕ) → are_apart births ≡ true → KeepCalm (players words births) lines charts most
+    → ((rows : Rows) → IsLawful (players words births) lines rows → AreInTime (players words births) rows → deliveries rows ≤ most → is_quiet (players words births) rows ≡ true → run_owes (charts rows) (players words births) rows ≤ still)
+    → IsMeasure (players words births) lines most (λ rows. run_owes (charts rows) (players words births) rows) still (242 + 4 * (charts []).ways.most)

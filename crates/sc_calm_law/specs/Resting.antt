@@ -1,5 +1,5 @@
 -- What is owed in quiet journals that rest, and that calm journals which keep what they need end quiet.
-use Rattle.std.specs.Prelude.{◌≡◌, ℕ, ◌+◌, ◌*◌, ◌≤◌, nat_lt, Bool, true, false, List, [], length, sum_by, None, if◌then◌else◌}
+use Rattle.std.specs.Prelude.{◌≡◌, ℕ, ◌+◌, ◌*◌, ◌≤◌, nat_lt, true, false, List, [], length, sum_by, None, if◌then◌else◌}
 use Rattle.sc_base.specs.Among.{Each}
 use Rattle.sc_cmd.specs.declared.orders.OrderLine.{OrderLine}
 use Rattle.sc_mail.specs.declared.roles.Role.TheVariants.{Node, Client}
@@ -9,8 +9,8 @@ use Rattle.sc_actor.specs.Replay.{value}
 use Rattle.sc_actor.specs.System.{are_apart}
 use Rattle.sc_actor.specs.Walk.{IsLawful, is_quiet, unsettled}
 use Rattle.sc_orderly_law.specs.Owing.{HasRoom}
-use Rattle.sc_orderly_law.specs.Orderly.{orders}
-use Rattle.sc_orderly_law.specs.Timely.{AreSpaced, Nothing, AreInTime, AreToldSo, AreGivenSo, orders_given}
+use Rattle.sc_orderly_law.specs.Orderly.{deliveries}
+use Rattle.sc_orderly_law.specs.Timely.{AreSpaced, Nothing, AreInTime, orders_given}
 use Rattle.sc_sound.specs.Players.{Player, player_table}
 use Rattle.sc_calm_law.specs.Charts.{players, Chart, run_owes}
 use Rattle.sc_calm_law.specs.Keeping.{KeepCalm}
@@ -44,14 +44,16 @@ RestingOwesLittle =
     (words : ℕ → ℕ → ℕ × ℕ) (births : List (Seat Player)) (first chart : Chart) (rows : Rows) → AreInTime (players words births) rows → is_quiet (players words births) rows ≡ true → RestsCalm births first chart rows
     → run_owes chart (players words births) rows ≤ births_owe first births
 
--- Each quiet journal of rows in time, where no more than so many orders are told, each of them as orders may be, rests.
-abbrev pub RestCalm : (ℕ → ℕ → ℕ × ℕ) → List (Seat Player) → (Rows → Chart) → (ℕ → OrderLine → Bool) → ℕ → Type 0
-RestCalm words births charts allowed told = (rows : Rows) → AreInTime (players words births) rows → AreToldSo allowed rows → orders rows ≤ told → is_quiet (players words births) rows ≡ true → RestsCalm births (charts []) (charts rows) rows
+-- Each quiet lawful journal of rows in time, with so many deliveries at most, rests.
+abbrev pub RestCalm : (ℕ → ℕ → ℕ × ℕ) → List (Seat Player) → List (Line OrderLine) → (Rows → Chart) → ℕ → Type 0
+RestCalm words births lines charts most =
+    (rows : Rows) → IsLawful (players words births) lines rows → AreInTime (players words births) rows → deliveries rows ≤ most → is_quiet (players words births) rows ≡ true → RestsCalm births (charts []) (charts rows) rows
 
--- Where rows keep calm and quiet journals rest, no line of deliveries is cut off that has room for what is owed at birth and what one order raises, if orders stand alone between such lines.
+-- Where rows keep calm and quiet journals rest, as long as no more is delivered than what is owed at birth and what all orders raise, no line of deliveries is cut off that has room for what is owed at birth and what one order raises, if orders stand alone between such lines.
 abbrev pub KeptCalmEndsQuiet : Type 0
 KeptCalmEndsQuiet =
-    (words : ℕ → ℕ → ℕ × ℕ) (births : List (Seat Player)) (charts : Rows → Chart) (allowed : ℕ → OrderLine → Bool) (lines : List (Line OrderLine)) (journal : Rows) → are_apart births ≡ true
-    → KeepCalm (players words births) charts allowed (orders_given lines) → RestCalm words births charts allowed (orders_given lines) → AreGivenSo allowed lines
-    → AreSpaced Nothing lines → Each (HasRoom (births_owe (charts []) births + (242 + 4 * (charts []).ways.most))) lines → IsLawful (players words births) lines journal
+    (words : ℕ → ℕ → ℕ × ℕ) (births : List (Seat Player)) (lines : List (Line OrderLine)) (charts : Rows → Chart) (most : ℕ) (journal : Rows) → are_apart births ≡ true
+    → KeepCalm (players words births) lines charts most → RestCalm words births lines charts most
+    → AreSpaced Nothing lines → Each (HasRoom (births_owe (charts []) births + (242 + 4 * (charts []).ways.most))) lines
+    → births_owe (charts []) births + orders_given lines * (242 + 4 * (charts []).ways.most) ≤ most → IsLawful (players words births) lines journal
     → unsettled (players words births) lines journal ≡ false

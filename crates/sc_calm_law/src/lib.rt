@@ -240,9 +240,10 @@ pub fn taken_mail_lowers()
     ensures { TakenMailLowers }
 {}
 
-/// Where each row of journals that tell at most so many orders finds what it needs, what all
-/// players, groups and mail under way owe is a measure: a delivery lowers it, an order raises it by
-/// what a transaction with two other groups takes at most, and a client that goes raises nothing.
+/// Where each row in time of lawful journals with at most so many deliveries finds what it needs,
+/// what all players, groups and mail under way owe is a measure: a delivery lowers it, an order
+/// raises it by what a transaction with two other groups takes at most, and a client that goes
+/// raises nothing.
 pub fn kept_calm_is_measured()
     ensures { KeptCalmIsMeasured }
 {}
