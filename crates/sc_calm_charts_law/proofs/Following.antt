@@ -23,10 +23,10 @@ use Rattle.sc_calm_law.specs.Reach.{client_owes, search_owes}
 use Rattle.sc_calm_law.proofs.OwedResting.{quiet_mail}
 use Rattle.sc_calm_law.specs.Totals.{Rows, is_led}
 use Rattle.sc_calm_charts_law.specs.Charting.{all_replicas, asked_in, names_at, far_at, reach_in, chart_at}
-use Rattle.sc_calm_charts_law.specs.Following.{WaitsForNone, AreAllLed, AsksSame, ChartsFollow, QuietChartsRest}
+use Rattle.sc_calm_charts_law.specs.Following.{WaitsForNone, AsksSame, ChartsFollow, QuietChartsRest}
 use Rattle.sc_calm_charts_law.specs.Fronts.{quiet_front}
 use Rattle.sc_calm_charts_law.proofs.Fronts.{front_stays}
-use Rattle.sc_calm_charts_law.proofs.Names.{names_grow}
+use Rattle.sc_calm_charts_law.proofs.Names.{Extends, names_grow}
 
 -- ways where another is asked
 abbrev ways_with : Ways → (Draw → Option (Draw × Bool)) → Ways
@@ -66,10 +66,6 @@ body_same ways asks to (TxElsewhere tx coord hint) same = elsewhere_same ways as
 body_same ways asks to (TxWatch tx watch) same = refl
 body_same ways asks to (TxWatched tx coord part vote) same = refl
 body_same ways asks to (Told order result) same = refl
-
-each_behind : {X : Type 0} (P : X → Type 0) (xs ys : List X) → Each P (xs ++ ys) → Each P ys
-each_behind P [] ys each = each
-each_behind P (x ∷ xs) ys each = each_behind P xs ys each.1
 
 module _ (words : ℕ → ℕ → ℕ × ℕ) (births : List (Seat Player)) (far sent : ℕ) (rows : Rows) (row : Row Mail OrderLine) where
   abbrev s : System Player Mail OrderLine
@@ -126,15 +122,12 @@ module _ (words : ℕ → ℕ → ℕ × ℕ) (births : List (Seat Player)) (far
   each_mail loud [] same = tt
   each_mail loud (mail ∷ mails) same = (mail_loud loud mail same.0, each_mail loud mails same.1)
 
-  follows : AreInTime s after → Each (λ mail. AsksSame births rows after mail.body) (under_way s after) → (is_quiet s after ≡ true → Each (λ seat. WaitsForNone (value player_table seat after)) births) → AreAllLed births after
+  follows : AreInTime s after → Each (λ mail. AsksSame births rows after mail.body) (under_way s after) → (is_quiet s after ≡ true → Each (λ seat. WaitsForNone (value player_table seat after)) births)
       → MayFollow s after old new
-  follows timely same still led = by (is_quiet s after) refl
+  follows timely same still = by (is_quiet s after) refl
     where
-      grown : (more : List Draw) × (names_at births after ≡ names_at births rows ++ more)
+      grown : Extends (λ group. is_led births after group ≡ true) (names_at births rows) (names_at births after)
       grown = names_grow births rows row
-
-      led_more : Each (λ group. is_led births after group ≡ true) grown.0
-      led_more = each_behind (λ group. is_led births after group ≡ true) (names_at births rows) grown.0 (subst (Each (λ group. is_led births after group ≡ true)) grown.1 led)
 
       by : (b : Bool) → is_quiet s after ≡ b → MayFollow s after old new
       by true quiet = record {
@@ -143,7 +136,7 @@ module _ (words : ℕ → ℕ → ℕ × ℕ) (births : List (Seat Player)) (far
         clients = each_still births (still quiet);
         more = grown.0;
         groups = grown.1;
-        led = led_more;
+        led = grown.2;
       }
       by false loud = record {
         most = refl;
@@ -151,11 +144,11 @@ module _ (words : ℕ → ℕ → ℕ × ℕ) (births : List (Seat Player)) (far
         clients = each_seat births (client_loud loud);
         more = grown.0;
         groups = grown.1;
-        led = led_more;
+        led = grown.2;
       }
 
 pub charts_follow : ChartsFollow
-charts_follow words births far sent rows row timely same still led = follows words births far sent rows row timely same still led
+charts_follow words births far sent rows row timely same still = follows words births far sent rows row timely same still
 
 pub charts_rest : QuietChartsRest
 charts_rest words births far sent rows rest led = record { players = rest; led = led; most = refl; reach = refl }

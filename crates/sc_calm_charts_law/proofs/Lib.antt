@@ -1,4 +1,4 @@
 mod Following
 mod Fronts
-mod Names
+pub mod Names
 pub mod Segments

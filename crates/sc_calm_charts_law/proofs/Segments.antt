@@ -1,4 +1,4 @@
--- Rows that come in time fall into segments, each from the last quiet journal on: requests, or one order.
+-- Rows that come in time, such as fronts of one lawful journal, fall into segments, each from the last quiet journal on: requests, or one order.
 use Rattle.std.proofs.Common.{◌≡◌, ℕ, zero, suc, ◌≤◌, true, false, true≢false, List, [], ◌∷◌, ◌++◌, length, take, ◌⊎◌, inl, inr, refl, sym, ◌∙◌, ap, subst, arith, append_assoc, append-nil, length-take, length-append}
 use Rattle.std.proofs.lemmas.Bool.{cases_Bool, both_ways, cond-true, cond-false}
 use Rattle.std.proofs.lemmas.List.{take_all, take-append-le}
@@ -53,15 +53,16 @@ module _ (s : System Player Mail OrderLine) where
         omega (arith, same, rest))
   ]
 
-  -- What is kept of a segment, row by row: where it begins, while clients ask alone, and while an order is under way.
-  pub record Parts (Rests : Rows → Type 0) (Asks Orders : Rows → Rows → Type 0) : Type 0 where
+  -- What is kept of a segment of rows that fit, row by row: where it begins, while clients ask alone, and while an order is under way.
+  pub record Parts (Fits Rests : Rows → Type 0) (Asks Orders : Rows → Rows → Type 0) : Type 0 where
+    pub fronts : (rows : Rows) (row : Row Mail OrderLine) → Fits (rows ++ row ∷ []) → Fits rows
     pub begins : Rests []
-    pub goes : (quiet : Rows) (row : Row Mail OrderLine) → AreInTime s (quiet ++ row ∷ []) → Rests quiet → is_told row.event ≡ false → Asks quiet (row ∷ [])
-    pub asks : (quiet rows : Rows) (row : Row Mail OrderLine) → AreInTime s (quiet ++ (rows ++ row ∷ [])) → Rests quiet → Asks quiet rows → is_told row.event ≡ false → Asks quiet (rows ++ row ∷ [])
-    pub told : (quiet : Rows) (row : Row Mail OrderLine) → AreInTime s (quiet ++ row ∷ []) → Rests quiet → is_told row.event ≡ true → Orders quiet (row ∷ [])
-    pub orders : (quiet rows : Rows) (row : Row Mail OrderLine) (number : ℕ) → AreInTime s (quiet ++ (rows ++ row ∷ [])) → Rests quiet → Orders quiet rows → row.event ≡ Deliver number → Orders quiet (rows ++ row ∷ [])
-    pub answered : (quiet rows : Rows) → AreInTime s (quiet ++ rows) → Rests quiet → Asks quiet rows → is_quiet s (quiet ++ rows) ≡ true → Rests (quiet ++ rows)
-    pub over : (quiet rows : Rows) → AreInTime s (quiet ++ rows) → Rests quiet → Orders quiet rows → is_quiet s (quiet ++ rows) ≡ true → Rests (quiet ++ rows)
+    pub goes : (quiet : Rows) (row : Row Mail OrderLine) → Fits (quiet ++ row ∷ []) → AreInTime s (quiet ++ row ∷ []) → Rests quiet → is_told row.event ≡ false → Asks quiet (row ∷ [])
+    pub asks : (quiet rows : Rows) (row : Row Mail OrderLine) → Fits (quiet ++ (rows ++ row ∷ [])) → AreInTime s (quiet ++ (rows ++ row ∷ [])) → Rests quiet → Asks quiet rows → is_told row.event ≡ false → Asks quiet (rows ++ row ∷ [])
+    pub told : (quiet : Rows) (row : Row Mail OrderLine) → Fits (quiet ++ row ∷ []) → AreInTime s (quiet ++ row ∷ []) → Rests quiet → is_told row.event ≡ true → Orders quiet (row ∷ [])
+    pub orders : (quiet rows : Rows) (row : Row Mail OrderLine) (number : ℕ) → Fits (quiet ++ (rows ++ row ∷ [])) → AreInTime s (quiet ++ (rows ++ row ∷ [])) → Rests quiet → Orders quiet rows → row.event ≡ Deliver number → Orders quiet (rows ++ row ∷ [])
+    pub answered : (quiet rows : Rows) → Fits (quiet ++ rows) → AreInTime s (quiet ++ rows) → Rests quiet → Asks quiet rows → is_quiet s (quiet ++ rows) ≡ true → Rests (quiet ++ rows)
+    pub over : (quiet rows : Rows) → Fits (quiet ++ rows) → AreInTime s (quiet ++ rows) → Rests quiet → Orders quiet rows → is_quiet s (quiet ++ rows) ≡ true → Rests (quiet ++ rows)
 
   module _ (Rests : Rows → Type 0) (Asks Orders : Rows → Rows → Type 0) where
     -- an order is under way since it was told
@@ -82,7 +83,7 @@ module _ (s : System Player Mail OrderLine) where
       pub rests : Rests (quiet_front s rows)
       pub is : IsBehind (quiet_front s rows) behind
 
-    module _ (parts : Parts Rests Asks Orders) where
+    module _ (Fits : Rows → Type 0) (parts : Parts Fits Rests Asks Orders) where
       -- a quiet journal that rests, with nothing behind it
       rest_here : (rows : Rows) → Rests rows → is_quiet s rows ≡ true → IsSegment rows
       rest_here rows rests quiet = record {
@@ -92,7 +93,7 @@ module _ (s : System Player Mail OrderLine) where
         is = inl refl;
       }
 
-      module _ (rows : Rows) (row : Row Mail OrderLine) (timely : AreInTime s (rows ++ row ∷ [])) where
+      module _ (rows : Rows) (row : Row Mail OrderLine) (fits : Fits (rows ++ row ∷ [])) (timely : AreInTime s (rows ++ row ∷ [])) where
         abbrev after : Rows
         after = rows ++ row ∷ []
 
@@ -113,8 +114,8 @@ module _ (s : System Player Mail OrderLine) where
             whole = ap (λ r. r ++ row ∷ []) e ∙ append_assoc quiet behind (row ∷ [])
 
             again : is_quiet s after ≡ true → Asks quiet (behind ++ row ∷ []) ⊎ IsOrdered quiet (behind ++ row ∷ []) → Rests (quiet ++ (behind ++ row ∷ []))
-            again still (inl asks) = parts.answered quiet (behind ++ row ∷ []) (subst (AreInTime s) whole timely) rests asks (ap (is_quiet s) (sym whole) ∙ still)
-            again still (inr order) = parts.over quiet (behind ++ row ∷ []) (subst (AreInTime s) whole timely) rests order.holds (ap (is_quiet s) (sym whole) ∙ still)
+            again still (inl asks) = parts.answered quiet (behind ++ row ∷ []) (subst Fits whole fits) (subst (AreInTime s) whole timely) rests asks (ap (is_quiet s) (sym whole) ∙ still)
+            again still (inr order) = parts.over quiet (behind ++ row ∷ []) (subst Fits whole fits) (subst (AreInTime s) whole timely) rests order.holds (ap (is_quiet s) (sym whole) ∙ still)
 
         calm : IsCalmRow s rows row × ComesInTime s rows row.event
         calm = last_in_time s rows row timely
@@ -162,10 +163,10 @@ module _ (s : System Player Mail OrderLine) where
         untold_row : (quiet behind : Rows) → rows ≡ quiet ++ behind → quiet_front s rows ≡ quiet → Rests quiet → is_told row.event ≡ false → IsBehind quiet behind → IsSegment after
         untold_row quiet behind e front rests untold (inl none) =
             let there : rows ≡ quiet = e ∙ (ap (λ b. quiet ++ b) none ∙ append-nil quiet) in
-            let asks = parts.goes quiet row (subst (λ r. AreInTime s (r ++ row ∷ [])) there timely) rests untold in
+            let asks = parts.goes quiet row (subst (λ r. Fits (r ++ row ∷ [])) there fits) (subst (λ r. AreInTime s (r ++ row ∷ [])) there timely) rests untold in
             goes_on quiet behind e front rests (inl (subst (λ b. Asks quiet (b ++ row ∷ [])) (sym none) asks))
         untold_row quiet behind e front rests untold (inr (inl asks)) =
-            goes_on quiet behind e front rests (inl (parts.asks quiet behind row (subst (AreInTime s) (ap (λ r. r ++ row ∷ []) e ∙ append_assoc quiet behind (row ∷ [])) timely) rests asks untold))
+            goes_on quiet behind e front rests (inl (parts.asks quiet behind row (subst Fits (ap (λ r. r ++ row ∷ []) e ∙ append_assoc quiet behind (row ∷ [])) fits) (subst (AreInTime s) (ap (λ r. r ++ row ∷ []) e ∙ append_assoc quiet behind (row ∷ [])) timely) rests asks untold))
         untold_row quiet behind e front rests untold (inr (inr order)) =
             let d = delivered quiet behind e front order untold in
             goes_on quiet behind e front rests (inr (record {
@@ -173,7 +174,7 @@ module _ (s : System Player Mail OrderLine) where
               more = order.more ++ row ∷ [];
               behind_are = ap (λ b. b ++ row ∷ []) order.behind_are;
               tells = order.tells;
-              holds = parts.orders quiet behind row d.0 (subst (AreInTime s) (ap (λ r. r ++ row ∷ []) e ∙ append_assoc quiet behind (row ∷ [])) timely) rests order.holds d.1;
+              holds = parts.orders quiet behind row d.0 (subst Fits (ap (λ r. r ++ row ∷ []) e ∙ append_assoc quiet behind (row ∷ [])) fits) (subst (AreInTime s) (ap (λ r. r ++ row ∷ []) e ∙ append_assoc quiet behind (row ∷ [])) timely) rests order.holds d.1;
             }))
 
         next : IsSegment rows → IsSegment after
@@ -182,10 +183,11 @@ module _ (s : System Player Mail OrderLine) where
               let quiet = told_quiet row.event told calm.1 in
               let whole = front_whole rows quiet in
               let rests = subst Rests whole seg.rests in
-              goes_on rows [] (sym (append-nil rows)) whole rests (inr (record { first = row; more = []; behind_are = refl; tells = told; holds = parts.told rows row timely rests told })))
+              goes_on rows [] (sym (append-nil rows)) whole rests (inr (record { first = row; more = []; behind_are = refl; tells = told; holds = parts.told rows row fits timely rests told })))
           | inr untold ↦ untold_row (quiet_front s rows) seg.behind seg.rows_are refl seg.rests untold seg.is
         ]
 
-      -- so all rows in time are such segments
-      pub segments : (rows : Rows) → AreInTime s rows → IsSegment rows
-      segments rows timely = by_time s IsSegment (rest_here [] parts.begins refl) (λ r row t seg. next r row t seg) rows timely
+      -- so all rows in time that fit are such segments
+      pub segments : (rows : Rows) → Fits rows → AreInTime s rows → IsSegment rows
+      segments rows fits timely =
+          by_time s (λ r. Fits r → IsSegment r) (λ none. rest_here [] parts.begins refl) (λ r row t seg fit. next r row fit t (seg (parts.fronts r row fit))) rows timely fits

@@ -19,7 +19,7 @@ use Rattle.sc_node_table.specs.Replica.{ReplicaState, name_of}
 use Rattle.sc_sound.specs.Players.{Player, player_table}
 use Rattle.sc_calm_law.specs.Charts.{Chart}
 use Rattle.sc_calm_law.specs.Reach.{Reach}
-use Rattle.sc_calm_law.specs.Totals.{Rows}
+use Rattle.sc_calm_law.specs.Totals.{Rows, is_led}
 use Rattle.sc_calm_charts_law.specs.Fronts.{quiet_front}
 
 -- the replicas of a player: a client has none
@@ -77,10 +77,14 @@ abbrev pub with_names : List Draw → List Draw → List Draw
 with_names names [] = names
 with_names names (name ∷ more) = with_names (if list_any (λ other. same_draw other name) names then names else names ++ name ∷ []) more
 
--- the names of all replicas after so many rows, as they came
+-- the names of the groups of which there are replicas and that are led after some rows
+abbrev pub led_names : List (Seat Player) → Rows → List Draw
+led_names births rows = filter (λ name. is_led births rows name) (map name_of (all_replicas births rows))
+
+-- the names of all groups that were led by so many rows, as they came
 abbrev pub names_upto : List (Seat Player) → Rows → ℕ → List Draw
-names_upto births rows zero = with_names [] (map name_of (all_replicas births []))
-names_upto births rows (suc n) = with_names (names_upto births rows n) (map name_of (all_replicas births (take (suc n) rows)))
+names_upto births rows zero = with_names [] (led_names births [])
+names_upto births rows (suc n) = with_names (names_upto births rows n) (led_names births (take (suc n) rows))
 
 -- .. after these rows
 abbrev pub names_at : List (Seat Player) → Rows → List Draw

@@ -1,5 +1,5 @@
 -- That the charts of a calm journal follow one another, and what they give in quiet.
-use Rattle.std.specs.Prelude.{◌≡◌, ℕ, ◌++◌, true, List, [], ◌∷◌, Option, None}
+use Rattle.std.specs.Prelude.{◌≡◌, ℕ, ◌≤◌, ◌++◌, true, List, [], ◌∷◌, length, take, Option, None}
 use Rattle.sc_base.specs.Among.{Each}
 use Rattle.sc_base.specs.declared.names.Draw.{Draw}
 use Rattle.sc_cmd.specs.declared.orders.OrderLine.{OrderLine}
@@ -15,6 +15,7 @@ use Rattle.sc_orderly_law.specs.Owing.{under_way}
 use Rattle.sc_orderly_law.specs.Timely.{AreInTime}
 use Rattle.sc_sound.specs.Players.{Player, player_table}
 use Rattle.sc_calm_law.specs.Charts.{players, MayFollow}
+use Rattle.sc_calm_law.specs.Parties.{StandsOnce}
 use Rattle.sc_calm_law.specs.Resting.{IsResting, RestsCalm}
 use Rattle.sc_calm_law.specs.Totals.{Rows, is_led}
 use Rattle.sc_calm_charts_law.specs.Charting.{all_replicas, asked_in, names_at, chart_at}
@@ -24,7 +25,7 @@ abbrev pub WaitsForNone : Player → Type 0
 WaitsForNone (Node node) = Unit {0}
 WaitsForNone (Client client) = client.waiting ≡ None
 
--- each group of which there is a replica is led, or gone
+-- each group that was ever led is led, or gone
 abbrev pub AreAllLed : List (Seat Player) → Rows → Type 0
 AreAllLed births rows = Each (λ name. is_led births rows name ≡ true) (names_at births rows)
 
@@ -32,17 +33,20 @@ AreAllLed births rows = Each (λ name. is_led births rows name ≡ true) (names_
 abbrev pub AsksSame : List (Seat Player) → Rows → Rows → MailBody → Type 0
 AsksSame births rows after body = (tx coord : Draw) (hint : Option ℕ) → body ≡ TxElsewhere tx coord hint → asked_in tx (all_replicas births after) ≡ asked_in tx (all_replicas births rows)
 
--- The chart after a row follows that of the rows before it: where mail is under way, what was to be asked elsewhere is asked of the same group, and where none is, no client waits; and each group is led.
+-- The chart after a row follows that of the rows before it: where mail is under way, what was to be asked elsewhere is asked of the same group, and where none is, no client waits.
 abbrev pub ChartsFollow : Type 0
 ChartsFollow =
     (words : ℕ → ℕ → ℕ × ℕ) (births : List (Seat Player)) (far sent : ℕ) (rows : Rows) (row : Row Mail OrderLine) → AreInTime (players words births) (rows ++ row ∷ [])
     → Each (λ mail. AsksSame births rows (rows ++ row ∷ []) mail.body) (under_way (players words births) (rows ++ row ∷ []))
     → (is_quiet (players words births) (rows ++ row ∷ []) ≡ true → Each (λ seat. WaitsForNone (value player_table seat (rows ++ row ∷ []))) births)
-    → AreAllLed births (rows ++ row ∷ [])
     → MayFollow (players words births) (rows ++ row ∷ []) (chart_at far sent (players words births) rows) (chart_at far sent (players words births) (rows ++ row ∷ []))
 
--- Where all rest and each group is led, so they do by this chart.
+-- Where all rest and each group that was ever led is led, so they do by this chart.
 abbrev pub QuietChartsRest : Type 0
 QuietChartsRest =
     (words : ℕ → ℕ → ℕ × ℕ) (births : List (Seat Player)) (far sent : ℕ) (rows : Rows) → Each (λ seat. IsResting (value player_table seat rows)) births → AreAllLed births rows
     → RestsCalm births (chart_at far sent (players words births) []) (chart_at far sent (players words births) rows) rows
+
+-- Each group that is led after some of the rows stands once among their names.
+abbrev pub LedStandOnce : Type 0
+LedStandOnce = (births : List (Seat Player)) (rows : Rows) (n : ℕ) (group : Draw) → n ≤ length rows → is_led births (take n rows) group ≡ true → StandsOnce group (names_at births rows)
