@@ -1,3 +1,4 @@
 mod Begins
 mod Covered
+pub mod Given
 mod Lines

@@ -1,31 +1,26 @@
 -- The lines of a calm scenario at its budget end quiet: by what is owed where there is an order, and else as those of a plain one.
-use Rattle.std.proofs.Common.{◌≡◌, ℕ, ◌+◌, ◌*◌, ◌≤◌, true, Bool, cond, List, [], ◌∷◌, length, map, inl, inr, refl, sym, ◌∙◌, ap, subst, arith, ◌^◌, ◌&&◌, leb}
+use Rattle.std.proofs.Common.{◌≡◌, ℕ, ◌+◌, ◌*◌, ◌≤◌, true, Bool, cond, List, [], ◌∷◌, length, map, inl, inr, refl, sym, ◌∙◌, ap, subst, arith, mul_comm}
 use Rattle.std.specs.List.{count_by}
-use Rattle.std.proofs.lemmas.Bool.{cases_lt, and_from, le-leb, lt-ltb}
+use Rattle.std.proofs.lemmas.Bool.{cases_lt}
 use Rattle.std.proofs.lemmas.List.Sums.{sum_by-cons}
-use Rattle.std.proofs.Math.Nat.{mul-le-mul_left}
+use Rattle.std.proofs.Math.Nat.{mul-add, mul-le-mul_left}
 use Rattle.sc_base.specs.Among.{Each}
 use Rattle.sc_actor.specs.declared.schedules.Line.{Line}
 use Rattle.sc_actor.specs.declared.schedules.Line.TheVariants as line
-use Rattle.sc_cmd.specs.declared.orders.Order.{Order}
-use Rattle.sc_cmd.specs.declared.orders.Order.TheVariants.{Join, Leave, Split, Merge, Repart, Migrate}
 use Rattle.sc_cmd.specs.declared.orders.OrderLine.{OrderLine}
 use Rattle.sc_orderly_law.specs.Owing.{HasRoom}
-use Rattle.sc_orderly_law.specs.Timely.{gives_order as order_line, orders_given, AreGivenSo}
-use Rattle.sc_paxos_words.proofs.ListLemmas.{Each-from_All}
-use Rattle.sc_scenario.specs.Valid.{IsUpTo, IsBoundedOrder, IsBoundedLine, ValidScenariosAreBounded}
+use Rattle.sc_orderly_law.specs.Timely.{gives_order as order_line, orders_given}
+use Rattle.sc_scenario.specs.Valid.{ValidScenariosAreBounded}
 use Rattle.sc_scenario.specs.declared.scenarios.Scenario.{Scenario}
 use Rattle.sc_scenario.specs.declared.scenarios.SchedLine.{SchedLine}
 use Rattle.sc_scenario.specs.declared.scenarios.SchedLine.TheVariants.{Go, Deliver, Drop, Again, Tick, Crash, Told, Settle, Free, Storm}
 use Rattle.sc_sound.specs.Players.{births, line_of, schedule, as_nodes}
 use Rattle.sc_whole_law.proofs.Seats.{all_apart}
-use Rattle.sc_calm_law.specs.Charts.{players}
-use Rattle.sc_calm_law.specs.Keeping.{KeepCalm}
-use Rattle.sc_calm_law.specs.Resting.{births_owe, RestCalm, KeptCalmEndsQuiet}
+use Rattle.sc_calm_law.specs.Resting.{births_owe, KeptCalmEndsQuiet}
 use Rattle.sc_budget_law.specs.Budget.{requests_of, budget_of, AllowsDeliveries}
 use Rattle.sc_budget_law.specs.Calm.{gives_order, orders_of, calm_budget_of, AllowsCalmly, CalmLinesAreSpaced}
 use Rattle.sc_budget_law.specs.Laws.{PlainLinesEndQuiet}
-use Rattle.sc_calm_answers_law.specs.Lines.{names_nodes, may_be_given, CalmLinesEndQuiet}
+use Rattle.sc_calm_answers_law.specs.Lines.{calm_deliveries_of, CalmLinesEndQuiet}
 use Rattle.sc_calm_answers_law.proofs.Covered.{births_covered}
 
 -- one more that passes counts one more
@@ -90,36 +85,14 @@ plain_budget scenario none =
     let plain : (requests + 0) * (32 + 8 * (groups + 0)) ≡ requests * (32 + 8 * (groups + 0)) = ap (λ n. n * (32 + 8 * (groups + 0))) (let e : requests + 0 ≡ requests = omega arith in e) in
     omega (arith, less, same, shorter, plain)
 
--- ---- orders
-
-up_to : (most n : ℕ) → IsUpTo most n → (leb 1 n && leb n most) ≡ true
-up_to most n is = and_from (leb 1 n) (leb n most) (le-leb 1 n is.0) (le-leb n most is.1)
-
-named : (nodes : ℕ) (order : Order) → IsBoundedOrder nodes order → names_nodes nodes order ≡ true
-named nodes (Join node group) b = up_to nodes node b
-named nodes (Leave node group) b = up_to nodes node b
-named nodes (Split group at) b = lt-ltb at (2 ^ 32) b
-named nodes (Merge group) b = refl
-named nodes (Repart group at) b = lt-ltb at (2 ^ 32) b
-named nodes (Migrate group node) b = up_to nodes node b
-
-given_so : (scenario : Scenario) (lines : List SchedLine) → Each (IsBoundedLine scenario.nodes scenario.clients) lines → AreGivenSo (may_be_given scenario) (map line_of lines)
-given_so scenario [] bounded = tt
-given_so scenario (Told node order ∷ lines) bounded = (
-  (let b = bounded.0 in
-      and_from (leb 1 node && leb node scenario.nodes) (names_nodes scenario.nodes order.order && leb 1 order.number) (up_to scenario.nodes node b.0)
-      (and_from (names_nodes scenario.nodes order.order) (leb 1 order.number) (named scenario.nodes order.order b.1) (le-leb 1 order.number b.2))),
-  given_so scenario lines bounded.1,
-)
-given_so scenario (Go client ∷ lines) bounded = (tt, given_so scenario lines bounded.1)
-given_so scenario (Deliver who k ∷ lines) bounded = (tt, given_so scenario lines bounded.1)
-given_so scenario (Drop who k ∷ lines) bounded = (tt, given_so scenario lines bounded.1)
-given_so scenario (Again mail ∷ lines) bounded = (tt, given_so scenario lines bounded.1)
-given_so scenario (Tick who ∷ lines) bounded = (tt, given_so scenario lines bounded.1)
-given_so scenario (Crash node ∷ lines) bounded = (tt, given_so scenario lines bounded.1)
-given_so scenario (Settle most ∷ lines) bounded = (tt, given_so scenario lines bounded.1)
-given_so scenario (Free most workers ∷ lines) bounded = (tt, given_so scenario lines bounded.1)
-given_so scenario (Storm number most ∷ lines) bounded = (tt, given_so scenario lines bounded.1)
+-- what is owed at birth, and what all orders raise, is no more than all deliveries
+within_deliveries : (still raise orders budget : ℕ) → still + raise ≤ budget → still + orders * raise ≤ budget * (1 + orders)
+within_deliveries still raise orders budget within =
+    let less = mul-le-mul_left orders (let low : raise ≤ budget = omega (arith, within) in low) in
+    let parts = mul-add budget 1 orders in
+    let once : budget * 1 ≡ budget = grind arith in
+    let turned = mul_comm budget orders in
+    omega (arith, less, parts, once, turned, within)
 
 module _ (all_bounded : ValidScenariosAreBounded) (spaced : CalmLinesAreSpaced) (quiet : KeptCalmEndsQuiet) (plain : PlainLinesEndQuiet) where
   pub calm_end_quiet : CalmLinesEndQuiet
@@ -127,13 +100,13 @@ module _ (all_bounded : ValidScenariosAreBounded) (spaced : CalmLinesAreSpaced) 
     | inl some ↦ (
         let lines = spaced scenario calm in
         let given = orders_same scenario.lines in
+        let still = births_owe (charts []) (births as_nodes scenario) in
+        let raise : ℕ = 242 + 4 * (charts []).ways.most in
         let within = births_covered scenario (charts []) charted.first some in
-        quiet words (births as_nodes scenario) charts (may_be_given scenario) (schedule scenario) journal (all_apart scenario (all_bounded scenario valid))
-        (subst (KeepCalm (players words (births as_nodes scenario)) charts (may_be_given scenario)) (sym given) charted.keeps)
-        (subst (RestCalm words (births as_nodes scenario) charts (may_be_given scenario)) (sym given) charted.rests)
-        (given_so scenario scenario.lines (Each-from_All (IsBoundedLine scenario.nodes scenario.clients) scenario.lines (all_bounded scenario valid).lines))
+        quiet words (births as_nodes scenario) (schedule scenario) charts (calm_deliveries_of scenario) journal (all_apart scenario (all_bounded scenario valid)) charted.keeps charted.rests
         lines.0
-        (rooms_for (births_owe (charts []) (births as_nodes scenario) + (242 + 4 * (charts []).ways.most)) (calm_budget_of scenario) within (schedule scenario) lines.1)
+        (rooms_for (still + raise) (calm_budget_of scenario) within (schedule scenario) lines.1)
+        (subst (λ (n : ℕ). still + n * raise ≤ calm_deliveries_of scenario) (sym given) (within_deliveries still raise (orders_of scenario) (calm_budget_of scenario) within))
         lawful)
     | inr none ↦ (
         let zero_is : orders_of scenario ≡ 0 = omega (arith, none) in

@@ -1,3 +1,4 @@
 pub mod Begins
 pub mod Covered
+pub mod Given
 pub mod Lines

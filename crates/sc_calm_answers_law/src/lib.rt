@@ -4,6 +4,7 @@
 
 ghost use Rattle.sc_calm_answers_law.specs.Begins.{QuietJournalsBegin};
 ghost use Rattle.sc_calm_answers_law.specs.Covered.{BirthsAreCovered};
+ghost use Rattle.sc_calm_answers_law.specs.Given.{OrdersMayBeGiven};
 ghost use Rattle.sc_calm_answers_law.specs.Lines.{CalmLinesEndQuiet};
 
 use sc_budget_law::{calm_lines_are_spaced, plain_lines_end_quiet};
@@ -16,6 +17,15 @@ use sc_scenario::valid_scenarios_are_bounded;
 pub fn births_are_covered()
     ensures { BirthsAreCovered }
 {}
+
+/// In each lawful journal of a valid calm scenario each order that is told is one for a node of the
+/// scenario's, which names nodes and positions that there are.
+pub fn orders_may_be_given()
+    ensures { OrdersMayBeGiven }
+{
+    valid_scenarios_are_bounded();
+    calm_lines_are_spaced();
+}
 
 /// In each lawful journal of a valid calm scenario at its budget no line of deliveries is cut off,
 /// where there are charts by which each row finds what it needs and quiet journals rest.

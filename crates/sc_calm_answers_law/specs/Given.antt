@@ -1,0 +1,31 @@
+-- What orders a calm scenario gives.
+use Rattle.std.specs.Prelude.{ℕ, ◌^◌, ◌&&◌, nat_le, nat_lt, Bool, true, List}
+use Rattle.sc_cmd.specs.declared.orders.Order.{Order}
+use Rattle.sc_cmd.specs.declared.orders.Order.TheVariants.{Join, Leave, Split, Merge, Repart, Migrate}
+use Rattle.sc_cmd.specs.declared.orders.OrderLine.{OrderLine}
+use Rattle.sc_mail.specs.declared.bodies.Mail.{Mail}
+use Rattle.sc_actor.specs.declared.rows.Row.{Row}
+use Rattle.sc_orderly_law.specs.Timely.{AreToldSo}
+use Rattle.sc_scenario.specs.declared.scenarios.Scenario.{Scenario}
+use Rattle.sc_scenario.specs.Valid.{IsValid}
+use Rattle.sc_sound.specs.Players.{as_nodes, Lawful}
+use Rattle.sc_budget_law.specs.Calm.{IsCalmAtBudget}
+
+-- an order for a node of a scenario's that names nodes and positions that there are, with a number from 1 on
+abbrev pub names_nodes : ℕ → Order → Bool
+names_nodes nodes (Join node group) = nat_le 1 node && nat_le node nodes
+names_nodes nodes (Leave node group) = nat_le 1 node && nat_le node nodes
+names_nodes nodes (Split group at) = nat_lt at (2 ^ 32)
+names_nodes nodes (Merge group) = true
+names_nodes nodes (Repart group at) = nat_lt at (2 ^ 32)
+names_nodes nodes (Migrate group node) = nat_le 1 node && nat_le node nodes
+
+-- .. as its lines give them
+abbrev pub may_be_given : Scenario → ℕ → OrderLine → Bool
+may_be_given scenario node line = (nat_le 1 node && nat_le node scenario.nodes) && (names_nodes scenario.nodes line.order && nat_le 1 line.number)
+
+-- In each lawful journal of a valid calm scenario each order that is told is such a one.
+abbrev pub OrdersMayBeGiven : Type 0
+OrdersMayBeGiven =
+    (words : ℕ → ℕ → ℕ × ℕ) (scenario : Scenario) (journal : List (Row Mail OrderLine))
+    → IsValid scenario → IsCalmAtBudget scenario → Lawful as_nodes words scenario journal → AreToldSo (may_be_given scenario) journal
