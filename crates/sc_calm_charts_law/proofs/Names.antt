@@ -1,7 +1,7 @@
 -- The names of the groups that were led: more come behind those that there are, each led, and none comes twice.
 use Rattle.std.proofs.Common.{◌≡◌, ℕ, zero, suc, ◌≤◌, Bool, true, false, true≢false, ◌||◌, cond, List, [], ◌∷◌, ◌++◌, length, map, take, Option, Some, None, ◌⊎◌, inl, inr, refl, sym, ◌∙◌, ap, subst, arith, append_assoc, append-nil}
 use Rattle.std.specs.List.{list_any}
-use Rattle.std.proofs.lemmas.Bool.{cases_Bool, cases_lt, or_parts}
+use Rattle.std.proofs.lemmas.Bool.{cases_Bool, cases_lt, or_left, or_parts, or_right}
 use Rattle.std.proofs.lemmas.List.{length_push, take-append-le, take_all}
 use Rattle.sc_base.specs.Among.{Among, Each}
 use Rattle.sc_base.specs.Same.{same_draw}
@@ -180,6 +180,13 @@ module _ (rows : Rows) (group : Draw) where
 
   led_named : (births : List (Seat Player)) → is_led births rows group ≡ true → Among group (led_names births rows)
   led_named births led = Among-filter (λ name. is_led births rows name) (map name_of (all_replicas births rows)) group (any_named births led) led
+
+-- a group is led that one of the players leads
+pub led_by : (births : List (Seat Player)) (rows : Rows) (group : Draw) (seat : Seat Player) → Among seat births → leads group (value player_table seat rows) ≡ true → is_led births rows group ≡ true
+led_by [] rows group seat a led = absurd a
+led_by (x ∷ births) rows group seat (inl same) led =
+    or_left (leads group (value player_table x rows)) (is_led births rows group) (ap (λ (s : Seat Player). leads group (value player_table s rows)) same ∙ led)
+led_by (x ∷ births) rows group seat (inr a) led = or_right (leads group (value player_table x rows)) (is_led births rows group) (led_by births rows group seat a led)
 
 module _ (births : List (Seat Player)) (rows : Rows) where
   apart_upto : (n : ℕ) → AreApart (names_upto births rows n)
