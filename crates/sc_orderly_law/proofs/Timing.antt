@@ -209,14 +209,14 @@ module _ {A M O : Type 0} (s : System A M O) (lines : List (Line O)) (most : ℕ
           let o = raised raise (is_told row.event) (orders rows) (orders (rows ++ row ∷ [])) (count_push (λ (r : Row M O). is_told r.event) rows row (is_told row.event) refl) in
           omega (arith, lower, d, o, sum)
 
-      timely_by : (task : Task O) (event : Event O) → event ≡ row.event → IsCalmRow s rows row → ComesInTime s rows event → AreInTime s (rows ++ row ∷ [])
-      timely_by task event is calm comes = in_time_row s rows row timely calm (subst (λ (e : Event O). ComesInTime s rows e) is comes)
+      timely_by : (event : Event O) → event ≡ row.event → IsCalmRow s rows row → ComesInTime s rows event → AreInTime s (rows ++ row ∷ [])
+      timely_by event is calm comes = in_time_row s rows row timely calm (subst (λ (e : Event O). ComesInTime s rows e) is comes)
 
       go_step : (who : ℕ) (tasks : List (Task O)) (skipped : ℕ) → Allows s rows (Once (GoLine who)) row → IsClear s rows → AreTasksSpaced (still + raise) Goes tasks → IsStep rows row (Once (GoLine who) ∷ tasks) skipped
       go_step who tasks skipped may clear spaced =
           let go : Event O = Go in
           let is : go ≡ row.event = acts-event s rows who go row (unless-some (has_gone rows who) (acts s rows who Go) row may) in
-          let t = timely_by (Once (GoLine who)) Go is (allows_calm s rows (Once (GoLine who)) row tt may) clear in
+          let t = timely_by Go is (allows_calm s rows (Once (GoLine who)) row tt may) clear in
           let untold : is_told row.event ≡ false = subst (λ (e : Event O). is_told e ≡ false) is refl in
           let lower = measure.lowers rows row lawful t low in
           let none : cond (is_told row.event) raise 0 ≡ 0 = ap (λ b. cond b raise 0) untold in
@@ -227,7 +227,7 @@ module _ {A M O : Type 0} (s : System A M O) (lines : List (Line O)) (most : ℕ
       told_step : (who : ℕ) (order : O) (tasks : List (Task O)) (skipped : ℕ) → Allows s rows (Once (ToldLine who order)) row → is_quiet s rows ≡ true → AreTasksSpaced (still + raise) AnOrder tasks → IsStep rows row (Once (ToldLine who order) ∷ tasks) skipped
       told_step who order tasks skipped may quiet spaced =
           let is : Told order ≡ row.event = acts-event s rows who (Told order) row (unless-some (has_crashed rows who) (acts s rows who (Told order)) row may) in
-          let t = timely_by (Once (ToldLine who order)) (Told order) is (allows_calm s rows (Once (ToldLine who order)) row tt may) quiet in
+          let t = timely_by (Told order) is (allows_calm s rows (Once (ToldLine who order)) row tt may) quiet in
           let lower = measure.lowers rows row lawful t low in
           let more : cond (is_told row.event) raise 0 ≡ raise = subst (λ (e : Event O). cond (is_told e) raise 0 ≡ raise) is refl in
           let now = measure.quiet rows before timely low quiet in
