@@ -34,7 +34,7 @@ use Rattle.sc_calm_orders_law.proofs.Errands.{errands-none}
 use Rattle.sc_calm_rows_law.specs.Turns.{IsSeat, with_event}
 use Rattle.sc_calm_scenes_law.specs.Asked.{IsAsking, IsWaiting, Expects}
 use Rattle.sc_calm_scenes_law.specs.Counted.{IsOrdered}
-use Rattle.sc_calm_scenes_law.specs.Found.{LeaderFinds, BesideFinds, FindsReplica, AtLeader, AtAnother, NodeFinds, FindsFlight, Late, Leaves, Changed, Opened, Voted, Aborted, Decided, Heard, Ended, FindsQuiet, ByLeader, ByAnother, FindsOrder, FoundOrdersKeep, FoundOrdersGoThrough}
+use Rattle.sc_calm_scenes_law.specs.Found.{LeaderFinds, BesideFinds, FindsReplica, AtLeader, AtAnother, NodeFinds, FindsFlight, Late, Leaves, Changed, Opened, Voted, Aborted, Decided, Heard, Ended, FindsQuiet, ByLeader, ByAnother, FindsOrder, FoundOrdersStep, FoundOrdersKeep, FoundOrdersGoThrough}
 use Rattle.sc_calm_scenes_law.specs.Kept.{KeepsStage, ComesTo, ComesToLeader, ComesBeside, ComesToNone}
 use Rattle.sc_calm_scenes_law.specs.Scenes.{scene_at}
 use Rattle.sc_calm_scenes_law.specs.Taken.{IsTaking}
@@ -242,9 +242,16 @@ module _ (words : ℕ → ℕ → ℕ × ℕ) (births : List (Seat Player)) (row
   player_keeps event timely finds (Node node) is = node_keeps event timely finds node is
   player_keeps event timely finds (Client client) is = others_keep.client words births rows seat event client born timely is (finds.client client is)
 
+found_keeps : (words : ℕ → ℕ → ℕ × ℕ) (births : List (Seat Player)) (rows : Rows) (seat : Seat Player) (event : Event OrderLine) → IsSeat births seat → AreInTime (players words births) (with_event rows seat event)
+    → FindsOrder words births rows seat event → KeepsStage births rows seat event
+found_keeps words births rows seat event born timely finds = player_keeps words births rows seat born event timely finds (value player_table seat rows) refl
+
+pub found_step : FoundOrdersStep
+found_step words births rows seat event born timely finds stage a = found_keeps words births rows seat event born timely finds (stage, a)
+
 pub found_keep : FoundOrdersKeep
-found_keep words births rows seat event born timely finds = player_keeps words births rows seat born event timely finds (value player_table seat rows) refl
+found_keep words births rows seat event born timely finds under = (let to = found_keeps words births rows seat event born timely finds under in (to.0, to.1))
 
 pub found_through : FoundOrdersGoThrough
 found_through words scenario journal bounded timely finds =
-    go_through words (births as_nodes scenario) journal timely (scenarios_still scenario bounded) (λ rows seat event born t. found_keep words (births as_nodes scenario) rows seat event born t (finds rows seat event born t))
+    go_through words (births as_nodes scenario) journal timely (scenarios_still scenario bounded) (λ rows seat event born t. found_keeps words (births as_nodes scenario) rows seat event born t (finds rows seat event born t))
