@@ -14,4 +14,5 @@ pub mod Parts
 pub mod Reaching
 pub mod Taking
 pub mod Turning
+pub mod Untouched
 pub mod Viewing

@@ -25,7 +25,7 @@ use Rattle.sc_node_table.specs.Transactions.{standing_vote, noted_outcome}
 use Rattle.sc_sound.specs.Players.{Player}
 use Rattle.sc_calm_law.specs.Totals.{Rows}
 use Rattle.sc_calm_orders_law.specs.Scenes.{Turn, is_watch, Asking, Bound, Work}
-use Rattle.sc_calm_orders_law.specs.Stages.{Stage, IsAt, IsUnderWay}
+use Rattle.sc_calm_orders_law.specs.Stages.{Stage, Still, IsAt, IsUnderWay}
 use Rattle.sc_calm_orders_law.specs.Follows.{IsStepOf}
 use Rattle.sc_calm_orders_law.specs.Parts.{bond_of, works}
 use Rattle.sc_calm_orders_law.specs.Running.{IsIdle}
@@ -46,11 +46,22 @@ IsEventOf sent Crash group = ⊥
 IsEventOf sent (Drop mail) group = ⊥
 IsEventOf sent (Again mail) group = ⊥
 
--- from this stage a row goes to another by a step of its group
+-- an order is told
+abbrev pub IsTelling : Event OrderLine → Type 0
+IsTelling (Told line) = Unit {0}
+IsTelling (Deliver number) = ⊥
+IsTelling Tick = ⊥
+IsTelling Go = ⊥
+IsTelling Crash = ⊥
+IsTelling (Drop mail) = ⊥
+IsTelling (Again mail) = ⊥
+
+-- from this stage a row goes to another by a step of its group; and only an order leads on from where nothing is under way
 pub record GoesBy (rows : Rows) (event : Event OrderLine) (stage later : Stage) : Type 0 where
   pub group : Draw
   pub step : IsStepOf group stage later
   pub of : IsEventOf (mails rows) event group
+  pub begins : stage ≡ Still → IsTelling event
 
 -- the stage that stands after a row is that before it, or such a one
 abbrev pub StageAfter : List (Seat Player) → Rows → Seat Player → Event OrderLine → Stage → Type 0
