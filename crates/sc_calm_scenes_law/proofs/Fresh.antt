@@ -1,68 +1,46 @@
 -- The groups that an order has not touched stay as they were, row by row.
-use Rattle.std.proofs.Common.{◌≡◌, ℕ, eqb, Bool, true, false, cond, List, [], ◌∷◌, ◌++◌, ◌||◌, not, nat_lt, length, drop, Option, Some, None, ◌⊎◌, inl, inr, refl, sym, ◌∙◌, ap, subst}
-use Rattle.std.specs.Option.{option_map}
-use Rattle.std.proofs.lemmas.Bool.{cases_Bool, cond-true, cond-false, cond_both, eq-eqb, eqb-true}
-use Rattle.sc_base.specs.Among.{Among, Each}
+use Rattle.std.proofs.Common.{◌≡◌, ℕ, eqb, Bool, true, false, cond, List, [], ◌∷◌, ◌++◌, ◌&&◌, ◌||◌, not, nat_lt, length, drop, Option, Some, None, ◌⊎◌, inl, inr, refl, sym, ◌∙◌, ap, subst}
+use Rattle.std.proofs.lemmas.Bool.{cases_Bool, eq-eqb, eqb-true}
 use Rattle.sc_base.specs.declared.names.Draw.{Draw}
-use Rattle.sc_cmd.specs.declared.cores.Base.{Base}
 use Rattle.sc_cmd.specs.declared.orders.OrderLine.{OrderLine}
-use Rattle.sc_cmd.specs.declared.orders.OrderRefusal.TheVariants.{NotLeader}
-use Rattle.sc_cmd.specs.declared.orders.ToldResult.TheVariants.{Refused}
 use Rattle.sc_mail.specs.declared.bodies.Mail.{Mail}
 use Rattle.sc_mail.specs.declared.bodies.MailBody.{MailBody}
 use Rattle.sc_mail.specs.declared.bodies.MailBody.TheVariants.{Request, Answer, Prepare, Promise, Accept, Accepted, Nack, Learn, Ask, Install, TxPrepare, TxVote, TxOutcome, TxElsewhere, TxWatch, TxWatched, Told as ToldMail}
 use Rattle.sc_mail.specs.declared.roles.Role.TheVariants.{Node, Client}
 use Rattle.sc_actor.specs.declared.actors.Seat.{Seat}
 use Rattle.sc_actor.specs.declared.rows.Event.{Event}
-use Rattle.sc_actor.specs.declared.rows.Event.TheVariants.{Deliver, Told}
 use Rattle.sc_actor.specs.declared.rows.Input.{Input}
-use Rattle.sc_actor.specs.declared.rows.Input.TheVariants.{Got, Told as ToldInput}
-use Rattle.sc_actor.specs.Mail.{mails, numbered, is_delivery}
+use Rattle.sc_actor.specs.Mail.{mails, is_delivery}
 use Rattle.sc_actor.specs.Replay.{value, acted, input_of}
 use Rattle.sc_actor.specs.System.{System, row_of}
-use Rattle.sc_orderly_law.specs.Orderly.{rest, mail_for, is_born, taken}
+use Rattle.sc_orderly_law.specs.Orderly.{rest, mail_for, taken}
 use Rattle.sc_orderly_law.specs.Timely.{AreInTime}
 use Rattle.sc_orderly_law.proofs.InTime.{in_time_before, in_time_tidy, last_in_time}
-use Rattle.sc_orderly_law.proofs.Resting.{quiet-empty, is_born-from, rest-calm, takes_first}
-use Rattle.sc_node_table.specs.Node.{NodeState, replica_of, with_replica, with_new, with_made, with_born, with_children, group_of_mail, may_come, unknown, taken_by, routed, on_mail, absent, group_of_order, ordered_of, on_order}
-use Rattle.sc_node_table.specs.Mails.{sent, told_desk}
-use Rattle.sc_node_table.specs.Ordering.{ordered_row}
-use Rattle.sc_node_table.specs.Replica.{ReplicaState, Place, Executed, last_slot, name_of}
+use Rattle.sc_orderly_law.proofs.Resting.{rest-calm}
+use Rattle.sc_node_table.specs.Node.{NodeState, replica_of, with_made, group_of_mail, unknown, absent}
+use Rattle.sc_node_table.specs.Replica.{ReplicaState, Place, last_slot}
 use Rattle.sc_node_table.specs.Rows.{mailed, made_by}
 use Rattle.sc_node_table.specs.Slots.{slots_ahead}
-use Rattle.sc_node_table.specs.Transactions.{standing_vote, sent_elsewhere}
+use Rattle.sc_node_table.specs.Transactions.{sent_elsewhere}
 use Rattle.sc_client_table.specs.Client.{Client as ClientState}
 use Rattle.sc_law_lemmas.proofs.Ways.{either_way}
 use Rattle.sc_sound.specs.Players.{Player, player_table}
-use Rattle.sc_following_law.specs.Following.{Mark, mark_of, marks_of}
+use Rattle.sc_following_law.specs.Following.{Mark, marks_of}
 use Rattle.sc_following_law.specs.Tables.{marks_for}
 use Rattle.sc_calm_law.specs.Charts.{players}
 use Rattle.sc_calm_law.specs.Totals.{Rows}
-use Rattle.sc_calm_law.proofs.OwedParties.{put_others}
-use Rattle.sc_calm_orders_law.specs.Scenes.{Errand, Question}
-use Rattle.sc_calm_orders_law.specs.Stages.{Stage, Still, IsAt}
+use Rattle.sc_calm_orders_law.specs.Scenes.{Errand}
 use Rattle.sc_calm_orders_law.specs.Parts.{errand_by}
 use Rattle.sc_calm_orders_law.proofs.Filing.{offer_is, watch_row_is}
-use Rattle.sc_calm_orders_law.proofs.Lists.{cases-draw}
-use Rattle.sc_calm_rows_law.specs.Groups.{replicas_of, view_at, marks_at}
+use Rattle.sc_calm_rows_law.specs.Groups.{view_at, marks_at}
 use Rattle.sc_calm_rows_law.specs.Turns.{IsSeat, with_event}
-use Rattle.sc_calm_rows_law.proofs.Hearing.{names_stay, others_hear_nothing, none_marked}
+use Rattle.sc_calm_rows_law.proofs.Hearing.{names_stay, others_hear_nothing}
 use Rattle.sc_calm_rows_law.proofs.Marking.{marks-append}
-use Rattle.sc_calm_rows_law.proofs.Turning.{found_name}
 use Rattle.sc_calm_rows_law.proofs.Viewing.{view_others, view_was, view_is, sent_is, new_others}
-use Rattle.sc_calm_scenes_law.specs.Scenes.{scene_at}
-use Rattle.sc_calm_scenes_law.specs.Taken.{IsTaking}
-use Rattle.sc_calm_scenes_law.specs.Turns.{IsOfGroup}
-use Rattle.sc_calm_scenes_law.specs.Kept.{ComesTo, ComesToLeader, StageAfter, GoesBy}
-use Rattle.sc_calm_scenes_law.specs.Found.{LeaderFinds, BesideFinds, FindsReplica, AtLeader, AtAnother, FindsOrder}
-use Rattle.sc_calm_scenes_law.specs.Fresh.{IsFresh, IsThere, IsNowhere, AreUntouched, IsOrderly, OfOrder, OfAgreement, OfNone, IsDelivered, after_all, AreDelivered, IsBegun, FreshGroupsStay}
-use Rattle.sc_calm_scenes_law.proofs.Found.{IsQuestion, leader_asked, found_step}
-use Rattle.sc_calm_scenes_law.proofs.Keeping.{after, row_of_comes}
-use Rattle.sc_calm_scenes_law.proofs.Left.{takes_one}
-use Rattle.sc_calm_scenes_law.proofs.Reaching.{errand_among}
-use Rattle.sc_calm_scenes_law.proofs.Taking.{errand_unknown, OneOf, all_children, each_is, now_is, was_is, all_sent, misses}
-use Rattle.sc_calm_scenes_law.proofs.Turning.{calm_is}
-use Rattle.sc_calm_scenes_law.proofs.Untouched.{Questions, taken_back, step_back, begun_other, fresh_errand}
+use Rattle.sc_calm_scenes_law.specs.Found.{BesideFinds}
+use Rattle.sc_calm_scenes_law.proofs.Found.{IsQuestion}
+use Rattle.sc_calm_scenes_law.proofs.Taking.{now_is, was_is, all_sent}
+use Rattle.sc_calm_scenes_law.proofs.Untouched.{Questions}
 
 none_some : {X : Type 0} {x : X} → None ≡ Some x → ⊥
 none_some e = cc
@@ -91,7 +69,7 @@ marks_less name true (mail ∷ mails) e = ap (marks_of name) (at_zero mails) ∙
     at_zero (x ∷ xs) = refl
 marks_less name false (mail ∷ mails) e = e
 
-listed_none : (o : Option Mark) (marks : List Mark) → (elim o [ None ↦ [] | Some m ↦ m ∷ [] ]) ++ marks ≡ [] → o ≡ None
+pub listed_none : (o : Option Mark) (marks : List Mark) → (elim o [ None ↦ [] | Some m ↦ m ∷ [] ]) ++ marks ≡ [] → o ≡ None
 listed_none None marks e = refl
 listed_none (Some m) marks e = cc
 
@@ -142,3 +120,100 @@ module _ (words : ℕ → ℕ → ℕ × ℕ) (births : List (Seat Player)) (row
     view = now_is births rows seat event node born is step o input does name ∙ (same ∙ sym (was_is births rows seat event node born is step o input does name));
     silent = λ who. ap (marks_for name who) (all_sent births rows seat event node born is step o input does) ∙ silent who;
   }
+
+-- ---- a delivery
+
+pub is_asked : (body : MailBody) → IsQuestion body ⊎ (IsQuestion body → ⊥)
+is_asked (TxPrepare tx offer) = inl tt
+is_asked (TxWatch tx watch) = inl tt
+is_asked (TxVote tx coord part vote) = inr (λ q. q)
+is_asked (TxWatched tx coord part vote) = inr (λ q. q)
+is_asked (TxOutcome tx part outcome) = inr (λ q. q)
+is_asked (TxElsewhere tx coord hint) = inr (λ q. q)
+is_asked (Accept group ballot slot command) = inr (λ q. q)
+is_asked (Accepted group ballot slot) = inr (λ q. q)
+is_asked (Learn group slot command) = inr (λ q. q)
+is_asked (Install group slot base sets) = inr (λ q. q)
+is_asked (Prepare group ballot from_slot) = inr (λ q. q)
+is_asked (Promise group ballot reports) = inr (λ q. q)
+is_asked (Nack group promised) = inr (λ q. q)
+is_asked (Ask group from_slot) = inr (λ q. q)
+is_asked (Request group client seq op) = inr (λ q. q)
+is_asked (Answer group seq answer) = inr (λ q. q)
+is_asked (ToldMail order result) = inr (λ q. q)
+
+abbrev AsksIn : Option (Draw × Errand) → Type 0
+AsksIn None = ⊥
+AsksIn (Some entry) = Questions entry.1
+
+-- a mail whose errand is a question is one
+pub asks_it : (from to : ℕ) (body : MailBody) (entry : Draw × Errand) → errand_by from to body ≡ Some entry → Questions entry.1 → IsQuestion body
+asks_it from to (TxPrepare tx offer) entry e q = tt
+asks_it from to (TxWatch tx watch) entry e q = tt
+asks_it from to (TxVote tx coord part vote) entry e q = absurd (subst AsksIn (sym e) q)
+asks_it from to (TxWatched tx coord part vote) entry e q = absurd (subst AsksIn (sym e) q)
+asks_it from to (TxOutcome tx part outcome) entry e q = absurd (subst AsksIn (sym e) q)
+asks_it from to (TxElsewhere tx coord hint) entry e q = absurd (subst AsksIn (sym e) q)
+asks_it from to (Accept group ballot slot command) entry e q = absurd cc
+asks_it from to (Accepted group ballot slot) entry e q = absurd cc
+asks_it from to (Learn group slot command) entry e q = absurd cc
+asks_it from to (Install group slot base sets) entry e q = absurd cc
+asks_it from to (Prepare group ballot from_slot) entry e q = absurd cc
+asks_it from to (Promise group ballot reports) entry e q = absurd cc
+asks_it from to (Nack group promised) entry e q = absurd cc
+asks_it from to (Ask group from_slot) entry e q = absurd cc
+asks_it from to (Request group client seq op) entry e q = absurd cc
+asks_it from to (Answer group seq answer) entry e q = absurd cc
+asks_it from to (ToldMail order result) entry e q = absurd cc
+
+-- one that a replica beside the leader takes is sent on, and the replica stays
+pub aside_is : (mail : Mail) (r : ReplicaState) (body : MailBody) → IsQuestion body → BesideFinds mail r body → (tx : Draw) × (coord : Draw) × ((mailed mail.from body (r, [])).0 ≡ sent_elsewhere mail.from tx coord (r, []))
+aside_is mail r (TxPrepare tx offer) q f = (tx, offer.coord, offer_is r false mail.from tx offer f.1.0 f.1.1)
+aside_is mail r (TxWatch tx watch) q f = (tx, watch.coord, watch_row_is r false mail.from tx watch f.1.0 f.1.1)
+aside_is mail r (TxVote tx coord part vote) q f = absurd q
+aside_is mail r (TxWatched tx coord part vote) q f = absurd q
+aside_is mail r (TxOutcome tx part outcome) q f = absurd q
+aside_is mail r (TxElsewhere tx coord hint) q f = absurd q
+aside_is mail r (Accept group ballot slot command) q f = absurd q
+aside_is mail r (Accepted group ballot slot) q f = absurd q
+aside_is mail r (Learn group slot command) q f = absurd q
+aside_is mail r (Install group slot base sets) q f = absurd q
+aside_is mail r (Prepare group ballot from_slot) q f = absurd q
+aside_is mail r (Promise group ballot reports) q f = absurd q
+aside_is mail r (Nack group promised) q f = absurd q
+aside_is mail r (Ask group from_slot) q f = absurd q
+aside_is mail r (Request group client seq op) q f = absurd q
+aside_is mail r (Answer group seq answer) q f = absurd q
+aside_is mail r (ToldMail order result) q f = absurd q
+
+-- where there is no replica, another group's stay, and nothing of its agreement is sent
+module _ (name group : Draw) (ne : name ≡ group → ⊥) (node : NodeState) (from : ℕ) where
+  abbrev pub Apart : NodeState × List Mail → Type 0
+  Apart step = (replica_of name step.0.replicas ≡ replica_of name node.replicas) × ((who : ℕ) → marks_for name who step.1 ≡ [])
+
+  answers_apart : (body : MailBody) → Apart (node, absent node.me from body)
+  answers_apart body = (refl, λ who. others_hear_nothing.missed name who node.me from body)
+
+  pub unknown_apart : (body : MailBody) → group_of_mail body ≡ Some group → Apart (unknown from body node)
+  unknown_apart (Install named slot base sets) e =
+      let same : Some named ≡ Some group = e in
+      let own : named ≡ group = cc in
+      let place : Place = made_by node.me from named slot base sets in
+      either_way Apart (not (eqb (length sets) slots_ahead) || nat_lt last_slot slot) (node, []) (with_made place node) (refl, λ who. refl)
+      (new_others name place.0 node.replicas (λ i. ne (sym i ∙ (names_stay.made node.me from named slot base sets ∙ own))), λ who. others_hear_nothing.made name who node.me from named slot base sets (λ i. ne (sym i ∙ own)))
+  unknown_apart (TxPrepare tx offer) e = answers_apart (TxPrepare tx offer)
+  unknown_apart (TxWatch tx watch) e = answers_apart (TxWatch tx watch)
+  unknown_apart (TxVote tx coord part vote) e = answers_apart (TxVote tx coord part vote)
+  unknown_apart (TxWatched tx coord part vote) e = answers_apart (TxWatched tx coord part vote)
+  unknown_apart (TxOutcome tx part outcome) e = answers_apart (TxOutcome tx part outcome)
+  unknown_apart (TxElsewhere tx coord hint) e = answers_apart (TxElsewhere tx coord hint)
+  unknown_apart (Accept named ballot slot command) e = answers_apart (Accept named ballot slot command)
+  unknown_apart (Accepted named ballot slot) e = answers_apart (Accepted named ballot slot)
+  unknown_apart (Learn named slot command) e = answers_apart (Learn named slot command)
+  unknown_apart (Prepare named ballot from_slot) e = answers_apart (Prepare named ballot from_slot)
+  unknown_apart (Promise named ballot reports) e = answers_apart (Promise named ballot reports)
+  unknown_apart (Nack named promised) e = answers_apart (Nack named promised)
+  unknown_apart (Ask named from_slot) e = answers_apart (Ask named from_slot)
+  unknown_apart (Request named client seq op) e = answers_apart (Request named client seq op)
+  unknown_apart (Answer named seq answer) e = answers_apart (Answer named seq answer)
+  unknown_apart (ToldMail order result) e = answers_apart (ToldMail order result)

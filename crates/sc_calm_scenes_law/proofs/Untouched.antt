@@ -1,9 +1,9 @@
 -- Which steps leave a group untouched: what is so after a step was so before it, and only a question that is sent on is of such a group.
-use Rattle.std.proofs.Common.{◌≡◌, ℕ, List, [], ◌∷◌, ◌++◌, inl, inr, refl, sym, ◌∙◌, ap, subst}
+use Rattle.std.proofs.Common.{◌≡◌, ℕ, inl, inr, refl, sym, ◌∙◌, ap, subst}
 use Rattle.sc_base.specs.Among.{Among}
 use Rattle.sc_base.specs.declared.names.Draw.{Draw}
 use Rattle.sc_calm_orders_law.specs.Scenes.{Turn, First, Lone, Next, Errand, Question, Elsewhere, Reply, Result, Scene}
-use Rattle.sc_calm_orders_law.specs.Stages.{Deal, Stage, Still, Ordered, Asks, SentOn, Weighs, Replied, Recorded, Closes, ClosesBoth, heard, parties_of, IsAt}
+use Rattle.sc_calm_orders_law.specs.Stages.{Stage, Still, Ordered, Asks, SentOn, Weighs, Replied, Recorded, Closes, ClosesBoth, heard, parties_of, IsAt}
 use Rattle.sc_calm_orders_law.specs.Follows.{closed, IsTaken, OfQuestion, OfVote, OfOutcome, LastTakes, OneTakes, TwoTakes, LastFreed, OneFreed, TwoFreed, IsStepOf, ByRest, ByOrder, ByChange, ByDeal, ByPassing, ByAsking, ByTaking, ByVote, ByNo, ByHearing, ByDeciding, ByEnd}
 use Rattle.sc_calm_orders_law.proofs.Lists.{tokens, found}
 use Rattle.sc_calm_orders_law.proofs.Moves.{errands_of, no-errand}
@@ -48,9 +48,6 @@ step_back group stage later name (ByDeciding s) on f = absurd (closed_none s.dea
 step_back group stage later name (ByEnd (LastFreed tx party e l g a)) on f = absurd (subst (λ x. IsFresh x name) a f)
 step_back group stage later name (ByEnd (OneFreed tx one two e l g a)) on f = absurd (subst (λ x. IsFresh x name) a f)
 step_back group stage later name (ByEnd (TwoFreed tx one two e l g a)) on f = absurd (subst (λ x. IsFresh x name) a f)
-
-
-
 
 -- by an order: the group that is told it is not
 pub begun_other : (group : Draw) (later : Stage) (name : Draw) → IsStepOf group Still later → IsFresh later name → name ≡ group → ⊥

@@ -7,6 +7,7 @@ ghost use Rattle.sc_calm_scenes_law.specs.Begun.{ScenariosBeginStill};
 ghost use Rattle.sc_calm_scenes_law.specs.Counted.{OrdersKeep, VotesKeep};
 ghost use Rattle.sc_calm_scenes_law.specs.Fitting.{EntriesFit};
 ghost use Rattle.sc_calm_scenes_law.specs.Found.{FoundOrdersGoThrough, FoundOrdersKeep, FoundOrdersStep};
+ghost use Rattle.sc_calm_scenes_law.specs.Fresh.{FreshGroupsStay};
 ghost use Rattle.sc_calm_scenes_law.specs.Kept.{AsidesKeep, LeadersKeep};
 ghost use Rattle.sc_calm_scenes_law.specs.Kinds.{AsidesAre, AsidesStay, EntriesAre, LeadersAre};
 ghost use Rattle.sc_calm_scenes_law.specs.Making.{StatesKeep};
@@ -153,4 +154,10 @@ pub fn found_orders_keep()
 /// of its rows finds that.
 pub fn found_orders_go_through()
     ensures { FoundOrdersGoThrough }
+{}
+
+/// A group that an order has not touched so far has the replicas that it had in the quiet before
+/// the order, no mail of its agreement is under way, and what it is delivered is an errand.
+pub fn fresh_groups_stay()
+    ensures { FreshGroupsStay }
 {}
