@@ -1,5 +1,5 @@
 -- A delivery leaves the groups that an order has not touched as they were; so does the order, and so all deliveries behind it.
-use Rattle.std.proofs.Common.{◌≡◌, ℕ, Bool, true, false, List, [], ◌∷◌, Option, Some, None, inl, inr, refl, sym, ◌∙◌, ap, subst}
+use Rattle.std.proofs.Common.{◌≡◌, ◌⊎◌, ℕ, Bool, true, false, List, [], ◌∷◌, Option, Some, None, inl, inr, refl, sym, ◌∙◌, ap, subst}
 use Rattle.std.specs.Option.{option_map}
 use Rattle.std.proofs.lemmas.Bool.{cond-true, cond-false}
 use Rattle.sc_base.specs.declared.names.Draw.{Draw}
@@ -15,7 +15,8 @@ use Rattle.sc_actor.specs.declared.rows.Event.TheVariants.{Deliver, Told}
 use Rattle.sc_actor.specs.declared.rows.Input.TheVariants.{Got, Told as ToldInput}
 use Rattle.sc_actor.specs.Mail.{mails, numbered}
 use Rattle.sc_actor.specs.Replay.{value, input_of}
-use Rattle.sc_actor.specs.System.{System, row_of}
+use Rattle.sc_actor.specs.System.{System, row_of, numbers_of}
+use Rattle.sc_calm_rows_law.proofs.Viewing.{view_was}
 use Rattle.sc_orderly_law.specs.Orderly.{IsCalmRow, is_born}
 use Rattle.sc_orderly_law.proofs.InTime.{in_time_before, in_time_tidy, last_in_time}
 use Rattle.sc_orderly_law.proofs.Resting.{TakesFirst, quiet-empty, is_born-from, takes_first}
@@ -33,25 +34,27 @@ use Rattle.sc_calm_law.specs.Charts.{players}
 use Rattle.sc_calm_law.specs.Totals.{Rows}
 use Rattle.sc_calm_law.proofs.OwedParties.{put_others}
 use Rattle.sc_calm_orders_law.specs.Scenes.{Errand}
-use Rattle.sc_calm_orders_law.specs.Stages.{Stage, Still, IsAt}
+use Rattle.sc_calm_orders_law.specs.Stages.{Deal, Asks, Stage, Still, IsAt}
 use Rattle.sc_calm_orders_law.specs.Parts.{errand_by}
 use Rattle.sc_calm_orders_law.proofs.Lists.{cases-draw}
 use Rattle.sc_calm_rows_law.specs.Groups.{view_at}
 use Rattle.sc_calm_rows_law.specs.Turns.{with_event}
 use Rattle.sc_calm_rows_law.proofs.Hearing.{names_stay, others_hear_nothing, none_marked}
 use Rattle.sc_calm_rows_law.proofs.Turning.{found_name}
-use Rattle.sc_calm_scenes_law.specs.Scenes.{scene_at}
+use Rattle.sc_calm_scenes_law.specs.Scenes.{is_running, lead_of, scene_at}
+use Rattle.sc_calm_orders_law.specs.Follows.{ByTaking}
+use Rattle.sc_calm_scenes_law.proofs.Newest.{lead_runs}
 use Rattle.sc_calm_scenes_law.specs.Taken.{IsTaking}
 use Rattle.sc_calm_scenes_law.specs.Kept.{ComesTo, StageAfter}
 use Rattle.sc_calm_scenes_law.specs.Found.{BesideFinds, FindsReplica, AtLeader, AtAnother}
-use Rattle.sc_calm_scenes_law.specs.Fresh.{IsFresh, IsThere, IsNowhere, AreUntouched, IsOrderly, OfOrder, OfAgreement, OfNone, IsDelivered, after_all, AreDelivered, IsBegun, FreshGroupsStay}
+use Rattle.sc_calm_scenes_law.specs.Fresh.{IsFresh, IsThere, AreThere, IsNowhere, AreUntouched, IsOrderly, OfOrder, OfAgreement, OfNone, IsDelivered, after_all, AreDelivered, IsBegun, FreshGroupsStay}
 use Rattle.sc_calm_scenes_law.proofs.Found.{IsQuestion, leader_asked, found_step}
-use Rattle.sc_calm_scenes_law.proofs.Keeping.{row_of_comes}
+use Rattle.sc_calm_scenes_law.proofs.Keeping.{taken_on, row_of_comes}
 use Rattle.sc_calm_scenes_law.proofs.Left.{takes_one}
 use Rattle.sc_calm_scenes_law.proofs.Reaching.{errand_among}
 use Rattle.sc_calm_scenes_law.proofs.Taking.{errand_unknown, OneOf, all_children, each_is}
 use Rattle.sc_calm_scenes_law.proofs.Turning.{calm_is}
-use Rattle.sc_calm_scenes_law.proofs.Untouched.{taken_back, step_back, begun_other, fresh_errand}
+use Rattle.sc_calm_scenes_law.proofs.Untouched.{taken_back, step_back, step_there, begun_other, begun_there, fresh_errand}
 use Rattle.sc_calm_scenes_law.proofs.Fresh.{Leaves, left_view, left_marks, client_leaves, node_leaves, listed_none, is_asked, asks_it, aside_is, unknown_apart}
 
 none_some : {X : Type 0} {x : X} → None ≡ Some x → ⊥
@@ -102,11 +105,12 @@ module _ (words : ℕ → ℕ → ℕ × ℕ) (births : List (Seat Player)) (qui
 
   -- ---- the stage after it
 
-  finish : (later : Stage) → IsAt later (scene_at births (with_event rows seat event)) → ((name : Draw) → IsFresh later name → IsThere births quiet name → IsFresh stage name × Left name) → Done
-  finish later a all = (
+  finish : (later : Stage) → IsAt later (scene_at births (with_event rows seat event)) → AreThere births quiet later → ((name : Draw) → IsFresh later name → IsThere births quiet name → IsFresh stage name × Left name) → Done
+  finish later a there all = (
     later,
     record {
       stands = a;
+      parties = there;
       views = λ name f t who. (let l = all name f t in left_view words births rows seat event d.seated d.timely name l.1 who ∙ u.views name l.0 t who);
       marks = λ name f t who born. (let l = all name f t in left_marks words births rows seat event d.seated d.timely name l.1 who (u.marks name l.0 t who born));
     },
@@ -115,11 +119,21 @@ module _ (words : ℕ → ℕ → ℕ × ℕ) (births : List (Seat Player)) (qui
   found : StageAfter births rows seat event stage
   found = found_step words births rows seat event d.seated d.timely d.finds stage u.stands
 
+  -- whom a stage after it asks is there
+  asked_there : (later : Stage) → IsAt later (scene_at births (with_event rows seat event)) → (deal : Deal) (to : ℕ) → later ≡ Asks deal to → IsThere births quiet deal.asked
+  asked_there later a deal to e = d.asked deal to (subst (λ x. IsAt x (scene_at births (with_event rows seat event))) e a)
+
+  found_there : AreThere births quiet found.0
+  found_there = elim found.2 [
+    | inl e ↦ subst (AreThere births quiet) (sym e) u.parties
+    | inr g ↦ step_there births quiet g.group stage found.0 g.step g.begins (asked_there found.0 found.1) u.parties
+  ]
+
   fresh_before : (name : Draw) → IsFresh found.0 name → IsFresh stage name
   fresh_before name f = elim found.2 [ inl e ↦ subst (λ x. IsFresh x name) e f | inr g ↦ step_back g.group stage found.0 name g.step g.begins f ]
 
   by_found : ((name : Draw) → IsFresh stage name → IsThere births quiet name → Left name) → Done
-  by_found all = finish found.0 found.1 (λ name f t. (let b = fresh_before name f in (b, all name b t)))
+  by_found all = finish found.0 found.1 found_there (λ name f t. (let b = fresh_before name f in (b, all name b t)))
 
   -- ---- by who takes it
 
@@ -189,7 +203,7 @@ module _ (words : ℕ → ℕ → ℕ × ℕ) (births : List (Seat Player)) (qui
         comes_by : (c : ComesTo words births rows seat number mail group r) → c.node ≡ node → FindsReplica births rows seat number mail group r → Done
         comes_by c same (AtLeader leads f) = elim (is_asked mail.body) [
           | inl q ↦ (let to = leader_asked words births rows seat number mail group r (record { comes = c; leads = leads }) mail.body q refl f (stage, u.stands) in
-              finish to.0 to.1 (λ name fr th. (let b = taken_back group stage to.0 name to.2 fr in (b.0, other_leaves name b.1 th))))
+              finish to.0 to.1 (step_there births quiet group stage to.0 (ByTaking to.2) (taken_on group stage to.0 to.2) (asked_there to.0 to.1) u.parties) (λ name fr th. (let b = taken_back group stage to.0 name to.2 fr in (b.0, other_leaves name b.1 th))))
           | inr other ↦ by_found (λ name fr th. elim (cases-draw name group) [ inl i ↦ absurd (other (asked c same name i fr th)) | inr ne ↦ other_leaves name ne th ])
         ]
         comes_by c same (AtAnother beside f) =
@@ -230,10 +244,14 @@ module _ (words : ℕ → ℕ → ℕ × ℕ) (births : List (Seat Player)) (qui
   abbrev Kept : Draw → Type 0
   Kept name = Leaves words births quiet seat told b.seated b.timely name
 
-  ordered_leaves : (node : NodeState) → value player_table seat quiet ≡ Node node → (name : Draw) → (name ≡ group → ⊥) → (o : Option ReplicaState) → replica_of group node.replicas ≡ o → Kept name
-  ordered_leaves node is name ne None here =
+  -- where there is none, it is refused
+  none_leaves_it : (node : NodeState) → value player_table seat quiet ≡ Node node → (name : Draw) → replica_of group node.replicas ≡ None → Kept name
+  none_leaves_it node is name here =
       node_leaves words births quiet seat told b.seated b.timely node is (node, told_desk node.me line.number (Refused (NotLeader None)) []) (Some (ToldInput line)) refl
       (ap (λ (x : NodeState × List Mail). (Node x.0, x.1)) (ap (λ o. ordered_of o line node) here)) name refl (λ who. none_marked name who (told_desk node.me line.number (Refused (NotLeader None)) []) (refl, tt))
+
+  ordered_leaves : (node : NodeState) → value player_table seat quiet ≡ Node node → (name : Draw) → (name ≡ group → ⊥) → (o : Option ReplicaState) → replica_of group node.replicas ≡ o → Kept name
+  ordered_leaves node is name ne None here = none_leaves_it node is name here
   ordered_leaves node is name ne (Some r) here =
       let own = found_name group node.replicas r here in
       let step : NodeState × List Mail = ordered_of (Some r) line node in
@@ -258,11 +276,39 @@ module _ (words : ℕ → ℕ → ℕ × ℕ) (births : List (Seat Player)) (qui
   leaves : (name : Draw) → IsFresh found_first.0 name → Kept name
   leaves name f = player_leaves (value player_table seat quiet) refl name (fresh_other name f)
 
+  -- who is told it has a replica of the group, or leaves that as it is
+  told_there : (player : Player) → value player_table seat quiet ≡ player → IsThere births quiet group ⊎ ((who : ℕ) → view_at births (with_event quiet seat told) group who ≡ view_at births quiet group who)
+  told_there (Client client) is = inr (left_view words births quiet seat told b.seated b.timely group (client_leaves words births quiet seat told b.seated b.timely client is group (input_of (mails quiet) told) refl))
+  told_there (Node node) is = by (replica_of group node.replicas) refl
+    where
+      by : (o : Option ReplicaState) → replica_of group node.replicas ≡ o → IsThere births quiet group ⊎ ((who : ℕ) → view_at births (with_event quiet seat told) group who ≡ view_at births quiet group who)
+      by (Some r) here = inl (seat.who, r, view_was births quiet seat told group b.seated (Node node) is ∙ here)
+      by None here = inr (left_view words births quiet seat told b.seated b.timely group (none_leaves_it node is group here))
+
+  runs_there : (at : ℕ → Option ReplicaState) (chief : ℕ) (o : Option ReplicaState) → at chief ≡ o → is_running o ≡ true → (node : ℕ) × (r : ReplicaState) × (at node ≡ Some r)
+  runs_there at chief None e runs = absurd cc
+  runs_there at chief (Some r) e runs = (chief, r, e)
+
+  led_there : (chief : ℕ) → lead_of (view_at births (with_event quiet seat told) group) (numbers_of births) ≡ Some chief → IsThere births quiet group
+  led_there chief e = elim (told_there (value player_table seat quiet) refl) [
+    | inl there ↦ there
+    | inr same ↦ (let runs = lead_runs (view_at births (with_event quiet seat told) group) (numbers_of births) chief e in
+        runs_there (view_at births quiet group) chief (view_at births (with_event quiet seat told) group chief) (sym (same chief)) runs)
+  ]
+
+  first_there : AreThere births quiet found_first.0
+  first_there = elim found_first.2 [
+    | inl e ↦ subst (AreThere births quiet) (sym e) tt
+    | inr g ↦ begun_there births quiet g.group found_first.0 g.step (λ chief work e.
+        subst (IsThere births quiet) g.of (led_there chief (ap (scene_at births (with_event quiet seat told)).lead g.of ∙ (subst (λ x. IsAt x (scene_at births (with_event quiet seat told))) e found_first.1).leads.0)))
+  ]
+
   pub begun_so : (stage : Stage) × AreUntouched words births quiet (with_event quiet seat told) stage
   begun_so = (
     found_first.0,
     record {
       stands = found_first.1;
+      parties = first_there;
       views = λ name f t who. left_view words births quiet seat told b.seated b.timely name (leaves name f) who;
       marks = λ name f t who born. left_marks words births quiet seat told b.seated b.timely name (leaves name f) who
           (ap (marks_of name) (quiet-empty (players words births) quiet who (in_time_tidy (players words births) quiet (in_time_before (players words births) quiet (row_of player_table seat quiet told) b.timely)) born b.calm));

@@ -48,7 +48,7 @@ pub record IsOnward (Is : Step) : Type 0 where
   pub step : (group : Draw) (before after : Stage) → Is group before after → IsStepOf group before after
   pub on : (group : Draw) (before after : Stage) → Is group before after → before ≡ Still → ⊥
 
-taken_on : (group : Draw) (before after : Stage) → IsTaken group before after → before ≡ Still → ⊥
+pub taken_on : (group : Draw) (before after : Stage) → IsTaken group before after → before ≡ Still → ⊥
 taken_on group before after (OfQuestion s) still = (let e = s.before_is in cc)
 taken_on group before after (OfVote s) still = (let e = s.before_is in cc)
 taken_on group before after (OfOutcome (LastTakes tx party e l g a)) still = cc

@@ -1,13 +1,16 @@
 -- Which steps leave a group untouched: what is so after a step was so before it, and only a question that is sent on is of such a group.
-use Rattle.std.proofs.Common.{◌≡◌, ℕ, inl, inr, refl, sym, ◌∙◌, ap, subst}
-use Rattle.sc_base.specs.Among.{Among}
+use Rattle.std.proofs.Common.{◌≡◌, ℕ, true, List, ◌⊎◌, inl, inr, refl, sym, ◌∙◌, ap, subst}
+use Rattle.sc_base.specs.Among.{Among, Each}
 use Rattle.sc_base.specs.declared.names.Draw.{Draw}
-use Rattle.sc_calm_orders_law.specs.Scenes.{Turn, First, Lone, Next, Errand, Question, Elsewhere, Reply, Result, Scene}
-use Rattle.sc_calm_orders_law.specs.Stages.{Stage, Still, Ordered, Asks, SentOn, Weighs, Replied, Recorded, Closes, ClosesBoth, heard, parties_of, IsAt}
+use Rattle.sc_calm_orders_law.specs.Scenes.{Turn, First, Lone, Next, Errand, Question, Elsewhere, Reply, Result, Work, Opens, Scene}
+use Rattle.sc_calm_orders_law.specs.Stages.{Deal, Stage, Still, Ordered, Asks, SentOn, Weighs, Replied, Recorded, Closes, ClosesBoth, heard, parties_of, IsAt}
 use Rattle.sc_calm_orders_law.specs.Follows.{closed, IsTaken, OfQuestion, OfVote, OfOutcome, LastTakes, OneTakes, TwoTakes, LastFreed, OneFreed, TwoFreed, IsStepOf, ByRest, ByOrder, ByChange, ByDeal, ByPassing, ByAsking, ByTaking, ByVote, ByNo, ByHearing, ByDeciding, ByEnd}
 use Rattle.sc_calm_orders_law.proofs.Lists.{tokens, found}
 use Rattle.sc_calm_orders_law.proofs.Moves.{errands_of, no-errand}
-use Rattle.sc_calm_scenes_law.specs.Fresh.{IsHeard, IsFresh}
+use Rattle.sc_actor.specs.declared.actors.Seat.{Seat}
+use Rattle.sc_sound.specs.Players.{Player}
+use Rattle.sc_calm_law.specs.Totals.{Rows}
+use Rattle.sc_calm_scenes_law.specs.Fresh.{IsHeard, IsFresh, IsThere, AreThere}
 
 -- none is, once an outcome is under way
 closed_none : (tx asked : Draw) (turn : Turn) (host : ℕ) (name : Draw) → IsFresh (closed tx asked turn host) name → ⊥
@@ -65,6 +68,90 @@ begun_other group later name (ByDeciding s) f = (let e = s.before_is in absurd c
 begun_other group later name (ByEnd (LastFreed tx party e l g a)) f = absurd cc
 begun_other group later name (ByEnd (OneFreed tx one two e l g a)) f = absurd cc
 begun_other group later name (ByEnd (TwoFreed tx one two e l g a)) f = absurd cc
+
+-- ---- the groups that have a part
+
+module _ (births : List (Seat Player)) (quiet : Rows) where
+  abbrev There : Stage → Type 0
+  There stage = AreThere births quiet stage
+
+  closed_there : (tx asked : Draw) (turn : Turn) (host : ℕ) → IsThere births quiet asked → Each (λ party. IsThere births quiet party.0) (heard tx turn) → There (closed tx asked turn host)
+  closed_there tx asked First host a h = (a, tt)
+  closed_there tx asked Lone host a h = (a, tt)
+  closed_there tx asked (Next part node) host a h = (h.0, (a, tt))
+
+  unheard_there : (tx : Draw) (turn : Turn) → (turn ≡ First) ⊎ (turn ≡ Lone) → Each (λ party. IsThere births quiet party.0) (heard tx turn)
+  unheard_there tx turn (inl e) = subst (λ t. Each (λ party. IsThere births quiet party.0) (heard tx t)) (sym e) tt
+  unheard_there tx turn (inr e) = subst (λ t. Each (λ party. IsThere births quiet party.0) (heard tx t)) (sym e) tt
+
+  -- by a step they stay there, if a group that is asked is
+  pub step_there : (group : Draw) (stage later : Stage) → IsStepOf group stage later → (stage ≡ Still → ⊥) → ((deal : Deal) (to : ℕ) → later ≡ Asks deal to → IsThere births quiet deal.asked) → There stage → There later
+  step_there group stage later (ByRest e) on asked t = subst There (sym e) t
+  step_there group stage later (ByOrder s) on asked t = absurd (on s.before_is)
+  step_there group stage later (ByChange s) on asked t = subst There (sym s.after_is) tt
+  step_there group stage later (ByDeal s) on asked t =
+      let was : There (Ordered group s.deal.chief (Opens s.deal.tx)) = subst There s.before_is t in
+      subst There (sym s.after_is) (subst (IsThere births quiet) (sym s.coord_is) was.0, (asked s.deal s.to s.after_is, unheard_there s.deal.tx s.deal.turn s.turn_is))
+  step_there group stage later (ByPassing s) on asked t =
+      let was : There (Asks s.deal s.to) = subst There s.before_is t in
+      subst There (sym s.after_is) was
+  step_there group stage later (ByAsking s) on asked t =
+      let was : There (SentOn s.deal) = subst There s.before_is t in
+      subst There (sym s.after_is) was
+  step_there group stage later (ByTaking (OfQuestion s)) on asked t =
+      let was : There (Asks s.deal s.to) = subst There s.before_is t in
+      subst There (sym s.after_is) was
+  step_there group stage later (ByTaking (OfVote s)) on asked t =
+      let was : There (Replied s.deal s.agreed s.host) = subst There s.before_is t in
+      subst There (sym s.after_is) was
+  step_there group stage later (ByTaking (OfOutcome (LastTakes tx party e l g a))) on asked t =
+      let was : There (Closes tx party) = subst There e t in
+      subst There (sym a) was
+  step_there group stage later (ByTaking (OfOutcome (OneTakes tx one two e l g a))) on asked t =
+      let was : There (ClosesBoth tx one two) = subst There e t in
+      subst There (sym a) was
+  step_there group stage later (ByTaking (OfOutcome (TwoTakes tx one two e l g a))) on asked t =
+      let was : There (ClosesBoth tx one two) = subst There e t in
+      subst There (sym a) was
+  step_there group stage later (ByVote s) on asked t =
+      let was : There (Weighs s.deal s.host) = subst There s.before_is t in
+      subst There (sym s.after_is) was
+  step_there group stage later (ByNo s) on asked t = subst There (sym s.after_is) tt
+  step_there group stage later (ByHearing s) on asked t =
+      let was : There (Recorded s.deal true s.host) = subst There s.before_is t in
+      subst There (sym s.after_is)
+      (subst (IsThere births quiet) (sym s.coord_same) was.0, (asked s.next s.to s.after_is, subst (λ u. Each (λ party. IsThere births quiet party.0) (heard s.next.tx u)) (sym s.turn_is) (was.1.0, tt)))
+  step_there group stage later (ByDeciding s) on asked t =
+      let was : There (Recorded s.deal true s.host) = subst There s.before_is t in
+      subst There (sym s.after_is) (closed_there s.deal.tx s.deal.asked s.deal.turn s.host was.1.0 was.1.1)
+  step_there group stage later (ByEnd (LastFreed tx party e l g a)) on asked t = subst There (sym a) tt
+  step_there group stage later (ByEnd (OneFreed tx one two e l g a)) on asked t =
+      let was : There (ClosesBoth tx one two) = subst There e t in
+      subst There (sym a) was.1
+  step_there group stage later (ByEnd (TwoFreed tx one two e l g a)) on asked t =
+      let was : There (ClosesBoth tx one two) = subst There e t in
+      subst There (sym a) (was.0, tt)
+
+  -- by an order they are, if the group that is told it is where its leader is
+  pub begun_there : (group : Draw) (later : Stage) → IsStepOf group Still later → ((chief : ℕ) (work : Work) → later ≡ Ordered group chief work → IsThere births quiet group) → There later
+  begun_there group later (ByRest e) there = subst There (sym e) tt
+  begun_there group later (ByOrder s) there = subst There (sym s.after_is) (there s.chief s.work s.after_is, tt)
+  begun_there group later (ByChange s) there = (let e = s.before_is in absurd cc)
+  begun_there group later (ByDeal s) there = (let e = s.before_is in absurd cc)
+  begun_there group later (ByPassing s) there = (let e = s.before_is in absurd cc)
+  begun_there group later (ByAsking s) there = (let e = s.before_is in absurd cc)
+  begun_there group later (ByTaking (OfQuestion s)) there = (let e = s.before_is in absurd cc)
+  begun_there group later (ByTaking (OfVote s)) there = (let e = s.before_is in absurd cc)
+  begun_there group later (ByTaking (OfOutcome (LastTakes tx party e l g a))) there = absurd cc
+  begun_there group later (ByTaking (OfOutcome (OneTakes tx one two e l g a))) there = absurd cc
+  begun_there group later (ByTaking (OfOutcome (TwoTakes tx one two e l g a))) there = absurd cc
+  begun_there group later (ByVote s) there = (let e = s.before_is in absurd cc)
+  begun_there group later (ByNo s) there = (let e = s.before_is in absurd cc)
+  begun_there group later (ByHearing s) there = (let e = s.before_is in absurd cc)
+  begun_there group later (ByDeciding s) there = (let e = s.before_is in absurd cc)
+  begun_there group later (ByEnd (LastFreed tx party e l g a)) there = absurd cc
+  begun_there group later (ByEnd (OneFreed tx one two e l g a)) there = absurd cc
+  begun_there group later (ByEnd (TwoFreed tx one two e l g a)) there = absurd cc
 
 -- ---- what is under way for such a group
 

@@ -19,7 +19,7 @@ use Rattle.sc_following_law.specs.Following.{Mark, mark_of}
 use Rattle.sc_calm_law.specs.Charts.{players}
 use Rattle.sc_calm_law.specs.Totals.{Rows}
 use Rattle.sc_calm_orders_law.specs.Scenes.{Turn, First, Lone, Next, Errand}
-use Rattle.sc_calm_orders_law.specs.Stages.{Stage, Still, Ordered, Asks, SentOn, Weighs, Replied, Recorded, Closes, ClosesBoth, IsAt}
+use Rattle.sc_calm_orders_law.specs.Stages.{Deal, Stage, Still, Ordered, Asks, SentOn, Weighs, Replied, Recorded, Closes, ClosesBoth, parties_of, IsAt}
 use Rattle.sc_calm_orders_law.specs.Parts.{errand_by}
 use Rattle.sc_calm_rows_law.specs.Groups.{view_at, marks_at}
 use Rattle.sc_calm_rows_law.specs.Turns.{IsSeat, with_event}
@@ -55,9 +55,14 @@ IsThere births rows name = (node : ℕ) × (r : ReplicaState) × (view_at births
 abbrev pub IsNowhere : List (Seat Player) → Rows → Draw → Type 0
 IsNowhere births rows name = (node : ℕ) → view_at births rows name node ≡ None
 
--- At a stage that stands after some rows, each group that was there in the quiet before them and is untouched has the replicas that it had, and no mail of its agreement is under way.
+-- each group that has a part in a stage is there
+abbrev pub AreThere : List (Seat Player) → Rows → Stage → Type 0
+AreThere births rows stage = Each (λ party. IsThere births rows party.0) (parties_of stage)
+
+-- At a stage that stands after some rows, its groups were there in the quiet before them; and each group that was there in the quiet before them and is untouched has the replicas that it had, and no mail of its agreement is under way.
 pub record AreUntouched (words : ℕ → ℕ → ℕ × ℕ) (births : List (Seat Player)) (quiet rows : Rows) (stage : Stage) : Type 0 where
   pub stands : IsAt stage (scene_at births rows)
+  pub parties : AreThere births quiet stage
   pub views : (name : Draw) → IsFresh stage name → IsThere births quiet name → (who : ℕ) → view_at births rows name who ≡ view_at births quiet name who
   pub marks : (name : Draw) → IsFresh stage name → IsThere births quiet name → (who : ℕ) → is_born (players words births) who ≡ true → marks_at (players words births) rows name who ≡ []
 
@@ -69,7 +74,7 @@ pub data IsOrderly (from to : ℕ) (body : MailBody) : Type 0 where
   OfAgreement : (group : Draw) (mark : Mark) → group_of_mail body ≡ Some group → mark_of group from body ≡ Some mark → IsOrderly from to body
   OfNone : group_of_mail body ≡ None → IsOrderly from to body
 
--- A delivery in time that finds what an order needs, of such a mail; and a child that it makes is of a group that was nowhere in the quiet before the order.
+-- A delivery in time that finds what an order needs, of such a mail; a child that it makes is of a group that was nowhere in the quiet before the order, and a group that is asked after it was there.
 pub record IsDelivered (words : ℕ → ℕ → ℕ × ℕ) (births : List (Seat Player)) (quiet rows : Rows) (seat : Seat Player) (number : ℕ) : Type 0 where
   pub seated : IsSeat births seat
   pub timely : AreInTime (players words births) (with_event rows seat (Deliver number))
@@ -77,6 +82,7 @@ pub record IsDelivered (words : ℕ → ℕ → ℕ × ℕ) (births : List (Seat
   pub orderly : (mail : Mail) → numbered (mails rows) number ≡ Some mail → IsOrderly mail.from mail.to mail.body
   pub children : (mail : Mail) (group : Draw) (node : NodeState) (r : ReplicaState) → IsTaking words births rows seat number mail group node → replica_of group node.replicas ≡ Some r
       → Each (λ child. IsNowhere births quiet child.core.id) (mailed mail.from mail.body (r, [])).1
+  pub asked : (deal : Deal) (to : ℕ) → IsAt (Asks deal to) (scene_at births (with_event rows seat (Deliver number))) → IsThere births quiet deal.asked
 
 -- the rows after some deliveries, one after another
 abbrev pub after_all : Rows → List (Seat Player × ℕ) → Rows
