@@ -47,14 +47,14 @@ use Rattle.sc_calm_scenes_law.proofs.Newest.{lead_runs}
 use Rattle.sc_calm_scenes_law.specs.Taken.{IsTaking}
 use Rattle.sc_calm_scenes_law.specs.Kept.{ComesTo, StageAfter}
 use Rattle.sc_calm_scenes_law.specs.Found.{BesideFinds, FindsReplica, AtLeader, AtAnother}
-use Rattle.sc_calm_scenes_law.specs.Fresh.{IsFresh, IsThere, AreThere, IsNowhere, AreUntouched, IsOrderly, OfOrder, OfAgreement, OfNone, IsDelivered, after_all, AreDelivered, IsBegun, FreshGroupsStay}
+use Rattle.sc_calm_scenes_law.specs.Fresh.{IsFresh, IsThere, AreThere, IsNowhere, AreUntouched, IsOrderly, OfOrder, OfAgreement, OfNone, IsDelivered, after_all, AreDelivered, IsToldInQuiet, FreshGroupsStay}
 use Rattle.sc_calm_scenes_law.proofs.Found.{IsQuestion, leader_asked, found_step}
 use Rattle.sc_calm_scenes_law.proofs.Keeping.{taken_on, row_of_comes}
 use Rattle.sc_calm_scenes_law.proofs.Left.{takes_one}
 use Rattle.sc_calm_scenes_law.proofs.Reaching.{errand_among}
 use Rattle.sc_calm_scenes_law.proofs.Taking.{errand_unknown, OneOf, all_children, each_is}
 use Rattle.sc_calm_scenes_law.proofs.Turning.{calm_is}
-use Rattle.sc_calm_scenes_law.proofs.Untouched.{taken_back, step_back, step_there, begun_other, begun_there, fresh_errand}
+use Rattle.sc_calm_scenes_law.proofs.Untouched.{taken_back, step_back, step_there, begun_other, begun_there, fresh_errand, asked_fresh, sent_on_fresh}
 use Rattle.sc_calm_scenes_law.proofs.Fresh.{Leaves, left_view, left_marks, client_leaves, node_leaves, listed_none, is_asked, asks_it, aside_is, unknown_apart}
 
 none_some : {X : Type 0} {x : X} → None ≡ Some x → ⊥
@@ -234,7 +234,7 @@ module _ (words : ℕ → ℕ → ℕ × ℕ) (births : List (Seat Player)) (qui
 
 -- ---- the order
 
-module _ (words : ℕ → ℕ → ℕ × ℕ) (births : List (Seat Player)) (quiet : Rows) (seat : Seat Player) (line : OrderLine) (b : IsBegun words births quiet seat line) where
+module _ (words : ℕ → ℕ → ℕ × ℕ) (births : List (Seat Player)) (quiet : Rows) (seat : Seat Player) (line : OrderLine) (b : IsToldInQuiet words births quiet seat line) where
   abbrev told : Event OrderLine
   told = Told line
 
@@ -326,4 +326,6 @@ fresh_stay = record {
   goes_on = λ words births quiet rows seat number stage u d. delivered_so words births quiet rows seat number stage u d;
   through = λ words births quiet seat line turns b d. all_so words births quiet (with_event quiet seat (Told line)) turns (begun_so words births quiet seat line b) d;
   errands = λ words births quiet rows seat number stage name mail u d fresh there at named. own_errand words births quiet rows seat number stage u d name mail fresh there at named;
+  asked = asked_fresh;
+  sent_on = sent_on_fresh;
 }

@@ -2,7 +2,7 @@
 use Rattle.std.proofs.Common.{◌≡◌, ℕ, true, List, ◌⊎◌, inl, inr, refl, sym, ◌∙◌, ap, subst}
 use Rattle.sc_base.specs.Among.{Among, Each}
 use Rattle.sc_base.specs.declared.names.Draw.{Draw}
-use Rattle.sc_calm_orders_law.specs.Scenes.{Turn, First, Lone, Next, Errand, Question, Elsewhere, Reply, Result, Work, Opens, Scene}
+use Rattle.sc_calm_orders_law.specs.Scenes.{Turn, First, Lone, Next, Errand, Question, Elsewhere, Reply, Result, Work, Opens, Scene, IsNone}
 use Rattle.sc_calm_orders_law.specs.Stages.{Deal, Stage, Still, Ordered, Asks, SentOn, Weighs, Replied, Recorded, Closes, ClosesBoth, heard, parties_of, IsAt}
 use Rattle.sc_calm_orders_law.specs.Follows.{closed, IsTaken, OfQuestion, OfVote, OfOutcome, LastTakes, OneTakes, TwoTakes, LastFreed, OneFreed, TwoFreed, IsStepOf, ByRest, ByOrder, ByChange, ByDeal, ByPassing, ByAsking, ByTaking, ByVote, ByNo, ByHearing, ByDeciding, ByEnd}
 use Rattle.sc_calm_orders_law.proofs.Lists.{tokens, found}
@@ -68,6 +68,18 @@ begun_other group later name (ByDeciding s) f = (let e = s.before_is in absurd c
 begun_other group later name (ByEnd (LastFreed tx party e l g a)) f = absurd cc
 begun_other group later name (ByEnd (OneFreed tx one two e l g a)) f = absurd cc
 begun_other group later name (ByEnd (TwoFreed tx one two e l g a)) f = absurd cc
+
+-- the group that is asked is apart from the others
+unheard : (tx name : Draw) (turn : Turn) → IsNone name (heard tx turn) → IsHeard turn name → ⊥
+unheard tx name First none is = is
+unheard tx name Lone none is = is
+unheard tx name (Next part host) none is = none.0 is
+
+pub asked_fresh : (now : Scene) (deal : Deal) (to : ℕ) → IsAt (Asks deal to) now → IsFresh (Asks deal to) deal.asked
+asked_fresh now deal to a = ((λ e. a.apart.0.0 (sym e)), unheard deal.tx deal.asked deal.turn a.apart.1.0)
+
+pub sent_on_fresh : (now : Scene) (deal : Deal) → IsAt (SentOn deal) now → IsFresh (SentOn deal) deal.asked
+sent_on_fresh now deal a = ((λ e. a.apart.0.0 (sym e)), unheard deal.tx deal.asked deal.turn a.apart.1.0)
 
 -- ---- the groups that have a part
 

@@ -18,7 +18,7 @@ use Rattle.sc_sound.specs.Players.{Player}
 use Rattle.sc_following_law.specs.Following.{Mark, mark_of}
 use Rattle.sc_calm_law.specs.Charts.{players}
 use Rattle.sc_calm_law.specs.Totals.{Rows}
-use Rattle.sc_calm_orders_law.specs.Scenes.{Turn, First, Lone, Next, Errand}
+use Rattle.sc_calm_orders_law.specs.Scenes.{Turn, First, Lone, Next, Errand, Scene}
 use Rattle.sc_calm_orders_law.specs.Stages.{Deal, Stage, Still, Ordered, Asks, SentOn, Weighs, Replied, Recorded, Closes, ClosesBoth, parties_of, IsAt}
 use Rattle.sc_calm_orders_law.specs.Parts.{errand_by}
 use Rattle.sc_calm_rows_law.specs.Groups.{view_at, marks_at}
@@ -95,21 +95,23 @@ AreDelivered words births quiet rows [] = Unit {0}
 AreDelivered words births quiet rows (turn ∷ turns) = IsDelivered words births quiet rows turn.0 turn.1 × AreDelivered words births quiet (with_event rows turn.0 (Deliver turn.1)) turns
 
 -- an order is told in quiet, where nothing is under way
-pub record IsBegun (words : ℕ → ℕ → ℕ × ℕ) (births : List (Seat Player)) (quiet : Rows) (seat : Seat Player) (line : OrderLine) : Type 0 where
+pub record IsToldInQuiet (words : ℕ → ℕ → ℕ × ℕ) (births : List (Seat Player)) (quiet : Rows) (seat : Seat Player) (line : OrderLine) : Type 0 where
   pub seated : IsSeat births seat
   pub timely : AreInTime (players words births) (with_event quiet seat (Told line))
   pub still : IsAt Still (scene_at births quiet)
   pub calm : is_quiet (players words births) quiet ≡ true
   pub finds : FindsOrder words births quiet seat (Told line)
 
--- So it is from the order on: after it, after each delivery, and so after all; and what such a group is delivered is an errand.
+-- So it is from the order on: after it, after each delivery, and so after all; what such a group is delivered is an errand; and a group that is asked, and has not taken the question, is one.
 pub record FreshGroupsStay : Type 0 where
-  pub begins : (words : ℕ → ℕ → ℕ × ℕ) (births : List (Seat Player)) (quiet : Rows) (seat : Seat Player) (line : OrderLine) → IsBegun words births quiet seat line
+  pub begins : (words : ℕ → ℕ → ℕ × ℕ) (births : List (Seat Player)) (quiet : Rows) (seat : Seat Player) (line : OrderLine) → IsToldInQuiet words births quiet seat line
       → (stage : Stage) × AreUntouched words births quiet (with_event quiet seat (Told line)) stage
   pub goes_on : (words : ℕ → ℕ → ℕ × ℕ) (births : List (Seat Player)) (quiet rows : Rows) (seat : Seat Player) (number : ℕ) (stage : Stage) → AreUntouched words births quiet rows stage
       → IsDelivered words births quiet rows seat number → (later : Stage) × AreUntouched words births quiet (with_event rows seat (Deliver number)) later
-  pub through : (words : ℕ → ℕ → ℕ × ℕ) (births : List (Seat Player)) (quiet : Rows) (seat : Seat Player) (line : OrderLine) (turns : List (Seat Player × ℕ)) → IsBegun words births quiet seat line
+  pub through : (words : ℕ → ℕ → ℕ × ℕ) (births : List (Seat Player)) (quiet : Rows) (seat : Seat Player) (line : OrderLine) (turns : List (Seat Player × ℕ)) → IsToldInQuiet words births quiet seat line
       → AreDelivered words births quiet (with_event quiet seat (Told line)) turns → (stage : Stage) × AreUntouched words births quiet (after_all (with_event quiet seat (Told line)) turns) stage
   pub errands : (words : ℕ → ℕ → ℕ × ℕ) (births : List (Seat Player)) (quiet rows : Rows) (seat : Seat Player) (number : ℕ) (stage : Stage) (name : Draw) (mail : Mail) → AreUntouched words births quiet rows stage
       → IsDelivered words births quiet rows seat number → IsFresh stage name → IsThere births quiet name → numbered (mails rows) number ≡ Some mail → group_of_mail mail.body ≡ Some name
       → (entry : Draw × Errand) × (errand_by mail.from mail.to mail.body ≡ Some entry)
+  pub asked : (now : Scene) (deal : Deal) (to : ℕ) → IsAt (Asks deal to) now → IsFresh (Asks deal to) deal.asked
+  pub sent_on : (now : Scene) (deal : Deal) → IsAt (SentOn deal) now → IsFresh (SentOn deal) deal.asked
