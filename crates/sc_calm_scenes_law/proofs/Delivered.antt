@@ -47,7 +47,7 @@ use Rattle.sc_calm_scenes_law.proofs.Newest.{lead_runs}
 use Rattle.sc_calm_scenes_law.specs.Taken.{IsTaking}
 use Rattle.sc_calm_scenes_law.specs.Kept.{ComesTo, StageAfter}
 use Rattle.sc_calm_scenes_law.specs.Found.{BesideFinds, FindsReplica, AtLeader, AtAnother}
-use Rattle.sc_calm_scenes_law.specs.Fresh.{IsFresh, IsThere, AreThere, IsNowhere, AreUntouched, IsOrderly, OfOrder, OfAgreement, OfNone, IsDelivered, after_all, AreDelivered, IsToldInQuiet, FreshGroupsStay}
+use Rattle.sc_calm_scenes_law.specs.Fresh.{IsFresh, IsThere, AreThere, IsNowhere, AreUntouched, IsOrderly, OfOrder, OfAgreement, IsDelivered, after_all, AreDelivered, IsToldInQuiet, FreshGroupsStay}
 use Rattle.sc_calm_scenes_law.proofs.Found.{IsQuestion, leader_asked, found_step}
 use Rattle.sc_calm_scenes_law.proofs.Keeping.{taken_on, row_of_comes}
 use Rattle.sc_calm_scenes_law.proofs.Left.{takes_one}
@@ -79,7 +79,7 @@ module _ (words : ℕ → ℕ → ℕ × ℕ) (births : List (Seat Player)) (qui
   -- what an untouched group is delivered is an errand
   pub own_errand : (name : Draw) (mail : Mail) → IsFresh stage name → IsThere births quiet name → numbered (mails rows) number ≡ Some mail → group_of_mail mail.body ≡ Some name
       → (entry : Draw × Errand) × (errand_by mail.from mail.to mail.body ≡ Some entry)
-  own_errand name mail fresh there at named = by (d.orderly mail at)
+  own_errand name mail fresh there at named = by (d.orderly stage name mail u.stands fresh there at named)
     where
       born : is_born s seat.who ≡ true
       born = is_born-from s seat.who seat d.seated
@@ -95,13 +95,9 @@ module _ (words : ℕ → ℕ → ℕ × ℕ) (births : List (Seat Player)) (qui
           ap (λ (m : Mail). mark_of name m.from m.body) (sym same)
           ∙ listed_none (mark_of name first.mail.from first.mail.body) (marks_of name first.behind) (sym (ap (marks_of name) first.first) ∙ u.marks name fresh there seat.who born)
 
-      by : IsOrderly mail.from mail.to mail.body → (entry : Draw × Errand) × (errand_by mail.from mail.to mail.body ≡ Some entry)
+      by : IsOrderly name mail.from mail.to mail.body → (entry : Draw × Errand) × (errand_by mail.from mail.to mail.body ≡ Some entry)
       by (OfOrder entry e) = (entry, e)
-      by (OfAgreement group mark g m) =
-          (let e : Some group ≡ Some name = sym g ∙ named in
-          let is : group ≡ name = cc in
-          absurd (none_some (sym unmarked ∙ (ap (λ n. mark_of n mail.from mail.body) (sym is) ∙ m))))
-      by (OfNone e) = absurd (none_some (sym e ∙ named))
+      by (OfAgreement mark m) = absurd (none_some (sym unmarked ∙ m))
 
   -- ---- the stage after it
 

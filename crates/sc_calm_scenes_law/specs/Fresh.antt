@@ -68,18 +68,18 @@ pub record AreUntouched (words : ℕ → ℕ → ℕ × ℕ) (births : List (Sea
 
 -- ---- rows
 
--- a mail is an errand, or of the agreement of its group, or of no group
-pub data IsOrderly (from to : ℕ) (body : MailBody) : Type 0 where
-  OfOrder : (entry : Draw × Errand) → errand_by from to body ≡ Some entry → IsOrderly from to body
-  OfAgreement : (group : Draw) (mark : Mark) → group_of_mail body ≡ Some group → mark_of group from body ≡ Some mark → IsOrderly from to body
-  OfNone : group_of_mail body ≡ None → IsOrderly from to body
+-- a mail for a group is an errand, or of its agreement: no request or refusal, and it does not ask for entries
+pub data IsOrderly (group : Draw) (from to : ℕ) (body : MailBody) : Type 0 where
+  OfOrder : (entry : Draw × Errand) → errand_by from to body ≡ Some entry → IsOrderly group from to body
+  OfAgreement : (mark : Mark) → mark_of group from body ≡ Some mark → IsOrderly group from to body
 
--- A delivery in time that finds what an order needs, of such a mail; a child that it makes is of a group that was nowhere in the quiet before the order, and a group that is asked after it was there.
+-- A delivery in time that finds what an order needs: for an untouched group, of such a mail; a child that it makes is of a group that was nowhere in the quiet before the order, and a group that is asked after it was there.
 pub record IsDelivered (words : ℕ → ℕ → ℕ × ℕ) (births : List (Seat Player)) (quiet rows : Rows) (seat : Seat Player) (number : ℕ) : Type 0 where
   pub seated : IsSeat births seat
   pub timely : AreInTime (players words births) (with_event rows seat (Deliver number))
   pub finds : FindsOrder words births rows seat (Deliver number)
-  pub orderly : (mail : Mail) → numbered (mails rows) number ≡ Some mail → IsOrderly mail.from mail.to mail.body
+  pub orderly : (stage : Stage) (group : Draw) (mail : Mail) → IsAt stage (scene_at births rows) → IsFresh stage group → IsThere births quiet group → numbered (mails rows) number ≡ Some mail → group_of_mail mail.body ≡ Some group
+      → IsOrderly group mail.from mail.to mail.body
   pub children : (mail : Mail) (group : Draw) (node : NodeState) (r : ReplicaState) → IsTaking words births rows seat number mail group node → replica_of group node.replicas ≡ Some r
       → Each (λ child. IsNowhere births quiet child.core.id) (mailed mail.from mail.body (r, [])).1
   pub asked : (deal : Deal) (to : ℕ) → IsAt (Asks deal to) (scene_at births (with_event rows seat (Deliver number))) → IsThere births quiet deal.asked
