@@ -2,8 +2,9 @@
 use Rattle.std.proofs.Common.{◌≡◌, ℕ, Bool, true, false, List, [], ◌∷◌, Option, Some, inl, inr, refl, sym, ◌∙◌, ap, subst, cond}
 use Rattle.sc_base.specs.declared.names.Draw.{Draw}
 use Rattle.sc_calm_orders_law.specs.Scenes.{Turn, First, Lone, Next, is_watch, Unbound, Asking, Errand, Question, Reply, Work, Opens, Answers, Records, Ends, Here, free, Scene}
-use Rattle.sc_calm_orders_law.specs.Stages.{Deal, Still, Ordered, Asks, Weighs, Replied, coordinator, asked_one, bound_by, leads_of, IsOrder, IsVote, IsAt, IsUnderWay}
-use Rattle.sc_calm_orders_law.specs.Rows.{IsRow, Changed, Opened, Voted, Keeps}
+use Rattle.sc_calm_orders_law.specs.Stages.{Deal, Still, Ordered, Asks, Weighs, Replied, coordinator, asked_one, bound_by, leads_of, IsOrder, IsVote, IsAt}
+use Rattle.sc_calm_orders_law.specs.Rows.{IsRow, Changed, Opened, Voted}
+use Rattle.sc_calm_orders_law.specs.Follows.{Changes, BeginsDeal, Votes, Comes, StepsBy}
 use Rattle.sc_calm_orders_law.proofs.Lists.{AreOne, cases-draw, having}
 use Rattle.sc_calm_orders_law.proofs.Moves.{other-mailed, other-same, leads-stay, deal-goes}
 use Rattle.sc_calm_orders_law.proofs.Works.{AtEach, by-work, own-done}
@@ -17,8 +18,12 @@ second e = ap (λ p. p.1) e
 -- ---- an order that begins no transaction
 
 module _ (now after : Scene) (group : Draw) (taken : Option Errand) (sent : Draw → List Errand) (row : IsRow now after group taken sent) (d : Changed now after group taken sent) where
-  changed_over : (name : Draw) (chief : ℕ) (order : Work) → IsAt (Ordered name chief order) now → AreOne (name, order) (group, d.order) → IsUnderWay after
-  changed_over name chief order a e = (Still, record { parties = (tt, λ other none. all other); leads = tt; apart = tt; sound = tt })
+  changed_over : (name : Draw) (chief : ℕ) (order : Work) → IsAt (Ordered name chief order) now → AreOne (name, order) (group, d.order) → Comes Changes group (Ordered name chief order) after
+  changed_over name chief order a e = (
+    Still,
+    record { parties = (tt, λ other none. all other); leads = tt; apart = tt; sound = tt },
+    record { chief = chief; work = order; before_is = ap (λ n. Ordered n chief order) (first e); after_is = refl },
+  )
     where
       is : name ≡ group
       is = first e
@@ -32,7 +37,7 @@ module _ (now after : Scene) (group : Draw) (taken : Option Errand) (sent : Draw
         | inr ne ↦ other-same now after group taken sent row other ne (d.sends.1 other tt) ∙ a.parties.1 other ((λ i. ne (i ∙ is)), tt)
       ]
 
-  changed_at : AtEach d.order now group (IsUnderWay after)
+  changed_at : AtEach d.order now group (λ s. Comes Changes group s after)
   changed_at = record {
     ordered = changed_over;
     weighs = λ deal host a e. absurd (subst IsOrder (sym (second e)) d.is_order);
@@ -42,8 +47,8 @@ module _ (now after : Scene) (group : Draw) (taken : Option Errand) (sent : Draw
     two = λ tx one two a l e. absurd (subst IsOrder (sym (second e)) d.is_order);
   }
 
-pub changed-keeps : Keeps Changed
-changed-keeps now after group taken sent row d u = by-work d.order now after group taken (IsUnderWay after) d.executes u (changed_at now after group taken sent row d)
+pub changed-step : StepsBy Changed Changes
+changed-step now after group taken sent row d s a = by-work d.order now after group taken (λ s. Comes Changes group s after) d.executes s a (changed_at now after group taken sent row d)
 
 -- ---- an order that begins one
 
@@ -70,7 +75,14 @@ module _ (now after : Scene) (group : Draw) (taken : Option Errand) (sent : Draw
     rest : (other : Draw) → (other ≡ group → ⊥) → (other ≡ d.asked → ⊥) → after.at other ≡ free
     rest other c b = other-same now after group taken sent row other c (d.sends.1 other (b, tt)) ∙ a.parties.1 other ((λ i. c (i ∙ is)), tt)
 
-    opened_turn : (watch : Bool) → d.watch ≡ watch → IsUnderWay after
+    chief_is : chief ≡ d.chief
+    chief_is = (let f : Some chief ≡ Some d.chief = sym a.leads.0 ∙ (ap now.lead is ∙ d.led) in cc)
+
+    -- it was the order of that transaction
+    opened_by : Ordered name chief order ≡ Ordered group d.chief (Opens d.tx)
+    opened_by = ap (λ n. Ordered n chief order) is ∙ (ap (λ n. Ordered group n order) chief_is ∙ ap (Ordered group d.chief) (second e))
+
+    opened_turn : (watch : Bool) → d.watch ≡ watch → Comes BeginsDeal group (Ordered name chief order) after
     opened_turn true w = (
       Asks (begun Lone) d.node,
       record {
@@ -79,6 +91,7 @@ module _ (now after : Scene) (group : Draw) (taken : Option Errand) (sent : Draw
         apart = (((λ i. d.apart (sym i)), tt), (tt, tt));
         sound = tt;
       },
+      record { deal = begun Lone; to = d.node; before_is = opened_by; coord_is = refl; turn_is = inr refl; after_is = refl },
     )
     opened_turn false w = (
       Asks (begun First) d.node,
@@ -88,9 +101,10 @@ module _ (now after : Scene) (group : Draw) (taken : Option Errand) (sent : Draw
         apart = (((λ i. d.apart (sym i)), tt), (tt, tt));
         sound = tt;
       },
+      record { deal = begun First; to = d.node; before_is = opened_by; coord_is = refl; turn_is = inl refl; after_is = refl },
     )
 
-  opened_at : AtEach (Opens d.tx) now group (IsUnderWay after)
+  opened_at : AtEach (Opens d.tx) now group (λ s. Comes BeginsDeal group s after)
   opened_at = record {
     ordered = λ name chief order a e. opened_turn name chief order a e d.watch refl;
     weighs = λ deal host a e. (let f : Answers deal.tx deal.coord (is_watch deal.turn) deal.chief ≡ Opens d.tx = second e in absurd cc);
@@ -100,8 +114,8 @@ module _ (now after : Scene) (group : Draw) (taken : Option Errand) (sent : Draw
     two = λ tx one two a l e. (let f : Ends tx ≡ Opens d.tx = second e in absurd cc);
   }
 
-pub opened-keeps : Keeps Opened
-opened-keeps now after group taken sent row d u = by-work (Opens d.tx) now after group taken (IsUnderWay after) d.executes u (opened_at now after group taken sent row d)
+pub opened-step : StepsBy Opened BeginsDeal
+opened-step now after group taken sent row d s a = by-work (Opens d.tx) now after group taken (λ s. Comes BeginsDeal group s after) d.executes s a (opened_at now after group taken sent row d)
 
 -- ---- a vote
 
@@ -111,7 +125,7 @@ vote_ok Lone agreed w = w refl
 vote_ok (Next part host) agreed w = w refl
 
 module _ (now after : Scene) (group : Draw) (taken : Option Errand) (sent : Draw → List Errand) (row : IsRow now after group taken sent) (d : Voted now after group taken sent) where
-  voted_in : (deal : Deal) (host : ℕ) → IsAt (Weighs deal host) now → AreOne (deal.asked, Answers deal.tx deal.coord (is_watch deal.turn) deal.chief) (group, Answers d.tx d.coord d.watch d.by) → IsUnderWay after
+  voted_in : (deal : Deal) (host : ℕ) → IsAt (Weighs deal host) now → AreOne (deal.asked, Answers deal.tx deal.coord (is_watch deal.turn) deal.chief) (group, Answers d.tx d.coord d.watch d.by) → Comes Votes group (Weighs deal host) after
   voted_in deal host a e = (
     Replied deal d.agreed host,
     record {
@@ -125,6 +139,7 @@ module _ (now after : Scene) (group : Draw) (taken : Option Errand) (sent : Draw
       apart = a.apart;
       sound = vote_ok deal.turn d.agreed (λ w. d.willing (sym watch_is ∙ w));
     },
+    record { deal = deal; agreed = d.agreed; host = host; before_is = refl; asked_is = first e; after_is = refl },
   )
     where
       is : deal.asked ≡ group
@@ -153,7 +168,7 @@ module _ (now after : Scene) (group : Draw) (taken : Option Errand) (sent : Draw
           ∙ (ap (λ x. Reply deal.tx x d.agreed d.host d.by ∷ []) (sym watch_is)
           ∙ (ap (λ x. Reply deal.tx (is_watch deal.turn) d.agreed x d.by ∷ []) host_is ∙ ap (λ x. Reply deal.tx (is_watch deal.turn) d.agreed host x ∷ []) (sym by_is)))))
 
-  voted_at : AtEach (Answers d.tx d.coord d.watch d.by) now group (IsUnderWay after)
+  voted_at : AtEach (Answers d.tx d.coord d.watch d.by) now group (λ s. Comes Votes group s after)
   voted_at = record {
     ordered = λ name chief order a e. absurd (subst IsOrder (second e) a.sound);
     weighs = voted_in;
@@ -163,5 +178,5 @@ module _ (now after : Scene) (group : Draw) (taken : Option Errand) (sent : Draw
     two = λ tx one two a l e. (let f : Ends tx ≡ Answers d.tx d.coord d.watch d.by = second e in absurd cc);
   }
 
-pub voted-keeps : Keeps Voted
-voted-keeps now after group taken sent row d u = by-work (Answers d.tx d.coord d.watch d.by) now after group taken (IsUnderWay after) d.executes u (voted_at now after group taken sent row d)
+pub voted-step : StepsBy Voted Votes
+voted-step now after group taken sent row d s a = by-work (Answers d.tx d.coord d.watch d.by) now after group taken (λ s. Comes Votes group s after) d.executes s a (voted_at now after group taken sent row d)

@@ -3,8 +3,9 @@ use Rattle.std.proofs.Common.{◌≡◌, ℕ, Bool, true, false, List, [], ◌�
 use Rattle.sc_base.specs.Among.{Each}
 use Rattle.sc_base.specs.declared.names.Draw.{Draw}
 use Rattle.sc_calm_orders_law.specs.Scenes.{Turn, First, Lone, Next, is_watch, Unbound, Asking, Bound, Errand, Question, Result, Answers, Records, Ends, Here, free, Scene, IsNone, IsOnly}
-use Rattle.sc_calm_orders_law.specs.Stages.{Deal, Mailed, Filed, Party, Still, Asks, Recorded, Closes, ClosesBoth, coordinator, heard, heard_lead, bound_by, closing, party_of, IsOrder, IsAt, IsUnderWay}
-use Rattle.sc_calm_orders_law.specs.Rows.{IsRow, results, Aborted, Decided, Heard, Ended, Keeps}
+use Rattle.sc_calm_orders_law.specs.Stages.{Deal, Mailed, Filed, Party, Stage, Still, Asks, Recorded, Closes, ClosesBoth, coordinator, heard, heard_lead, bound_by, closing, party_of, IsOrder, IsAt}
+use Rattle.sc_calm_orders_law.specs.Rows.{IsRow, results, Aborted, Decided, Heard, Ended}
+use Rattle.sc_calm_orders_law.specs.Follows.{closed, Aborts, Hears, Decides, IsFreed, LastFreed, OneFreed, TwoFreed, Comes, StepsBy}
 use Rattle.sc_calm_orders_law.proofs.Lists.{AreOne, cases-draw, having}
 use Rattle.sc_calm_orders_law.proofs.Moves.{other-mailed, other-same, lead-stays}
 use Rattle.sc_calm_orders_law.proofs.Works.{AtEach, by-work, own-done}
@@ -18,8 +19,12 @@ none_heard tx name Lone e = tt
 none_heard tx name (Next part host) e = absurd cc
 
 module _ (now after : Scene) (group : Draw) (taken : Option Errand) (sent : Draw → List Errand) (row : IsRow now after group taken sent) (d : Aborted now after group taken sent) where
-  aborted_over : (deal : Deal) (agreed : Bool) (host : ℕ) → IsAt (Recorded deal agreed host) now → AreOne (deal.coord, Records deal.tx (is_watch deal.turn) agreed host) (group, Records d.tx false false d.by) → IsUnderWay after
-  aborted_over deal agreed host a e = (Still, record { parties = (tt, λ other none. all other); leads = tt; apart = tt; sound = tt })
+  aborted_over : (deal : Deal) (agreed : Bool) (host : ℕ) → IsAt (Recorded deal agreed host) now → AreOne (deal.coord, Records deal.tx (is_watch deal.turn) agreed host) (group, Records d.tx false false d.by) → Comes Aborts group (Recorded deal agreed host) after
+  aborted_over deal agreed host a e = (
+    Still,
+    record { parties = (tt, λ other none. all other); leads = tt; apart = tt; sound = tt },
+    record { deal = deal; agreed = agreed; host = host; before_is = refl; coord_is = first e; after_is = refl },
+  )
     where
       is : deal.coord ≡ group
       is = first e
@@ -43,7 +48,7 @@ module _ (now after : Scene) (group : Draw) (taken : Option Errand) (sent : Draw
         | inr ne ↦ other-same now after group taken sent row other ne (d.sends.1 other tt) ∙ was other ne
       ]
 
-  aborted_at : AtEach (Records d.tx false false d.by) now group (IsUnderWay after)
+  aborted_at : AtEach (Records d.tx false false d.by) now group (λ s. Comes Aborts group s after)
   aborted_at = record {
     ordered = λ name chief order a e. absurd (subst IsOrder (second e) a.sound);
     weighs = λ deal host a e. (let f : Answers deal.tx deal.coord (is_watch deal.turn) deal.chief ≡ Records d.tx false false d.by = second e in absurd cc);
@@ -53,8 +58,8 @@ module _ (now after : Scene) (group : Draw) (taken : Option Errand) (sent : Draw
     two = λ tx one two a l e. (let f : Ends tx ≡ Records d.tx false false d.by = second e in absurd cc);
   }
 
-pub aborted-keeps : Keeps Aborted
-aborted-keeps now after group taken sent row d u = by-work (Records d.tx false false d.by) now after group taken (IsUnderWay after) d.executes u (aborted_at now after group taken sent row d)
+pub aborted-step : StepsBy Aborted Aborts
+aborted-step now after group taken sent row d s a = by-work (Records d.tx false false d.by) now after group taken (λ s. Comes Aborts group s after) d.executes s a (aborted_at now after group taken sent row d)
 
 -- ---- a Yes that decides
 
@@ -103,9 +108,13 @@ module _ (now after : Scene) (group : Draw) (taken : Option Errand) (sent : Draw
     d_lead : after.lead deal.asked ≡ Some host
     d_lead = row.leads deal.asked host d_ne a.leads.1.0
 
+    -- which stage this was, and which one it leads to
+    d_step : (stage : Stage) → stage ≡ closed deal.tx deal.asked deal.turn host → Decides group (Recorded deal agreed host) stage
+    d_step stage e = record { deal = deal; host = host; before_is = ap (λ x. Recorded deal x host) d_agreed; coord_is = d_is; after_is = e }
+
     -- one party
-    d_single : IsOnly [] ((deal.asked, Result deal.tx host ∷ []) ∷ []) sent → ((other : Draw) → IsNone other (heard deal.tx deal.turn)) → IsUnderWay after
-    d_single only none = (
+    d_single : Closes deal.tx (record { group = deal.asked; host = host; leg = Mailed }) ≡ closed deal.tx deal.asked deal.turn host → IsOnly [] ((deal.asked, Result deal.tx host ∷ []) ∷ []) sent → ((other : Draw) → IsNone other (heard deal.tx deal.turn)) → Comes Decides group (Recorded deal agreed host) after
+    d_single to only none = (
       Closes deal.tx (record { group = deal.asked; host = host; leg = Mailed }),
       record {
         parties = (
@@ -119,12 +128,13 @@ module _ (now after : Scene) (group : Draw) (taken : Option Errand) (sent : Draw
         apart = (tt, tt);
         sound = tt;
       },
+      d_step (Closes deal.tx (record { group = deal.asked; host = host; leg = Mailed })) to,
     )
 
     -- the participant that was heard, and the watcher
-    d_both : (part : Draw) (node : ℕ) → IsOnly [] ((part, Result deal.tx node ∷ []) ∷ (deal.asked, Result deal.tx host ∷ []) ∷ []) sent → now.at part ≡ having (Bound deal.tx) [] [] → (part ≡ group → ⊥) → (part ≡ deal.asked → ⊥)
-        → now.lead part ≡ Some node → ((other : Draw) → (other ≡ part → ⊥) → IsNone other (heard deal.tx deal.turn)) → IsUnderWay after
-    d_both part node only was ne apart led none = (
+    d_both : (part : Draw) (node : ℕ) → deal.turn ≡ Next part node → IsOnly [] ((part, Result deal.tx node ∷ []) ∷ (deal.asked, Result deal.tx host ∷ []) ∷ []) sent → now.at part ≡ having (Bound deal.tx) [] [] → (part ≡ group → ⊥) → (part ≡ deal.asked → ⊥)
+        → now.lead part ≡ Some node → ((other : Draw) → (other ≡ part → ⊥) → IsNone other (heard deal.tx deal.turn)) → Comes Decides group (Recorded deal agreed host) after
+    d_both part node to only was ne apart led none = (
       ClosesBoth deal.tx (record { group = part; host = node; leg = Mailed }) (record { group = deal.asked; host = host; leg = Mailed }),
       record {
         parties = (
@@ -141,19 +151,20 @@ module _ (now after : Scene) (group : Draw) (taken : Option Errand) (sent : Draw
         apart = ((apart, tt), (tt, tt));
         sound = tt;
       },
+      d_step (closed deal.tx deal.asked (Next part node) host) (ap (λ x. closed deal.tx deal.asked x host) (sym to)),
     )
 
-    d_turns : (turn : Turn) → deal.turn ≡ turn → IsUnderWay after
-    d_turns First t = d_single (subst (λ x. IsOnly [] (results deal.tx deal.asked x host) sent) t d_results) (λ other. subst (λ x. IsNone other (heard deal.tx x)) (sym t) tt)
-    d_turns Lone t = d_single (subst (λ x. IsOnly [] (results deal.tx deal.asked x host) sent) t d_results) (λ other. subst (λ x. IsNone other (heard deal.tx x)) (sym t) tt)
-    d_turns (Next part node) t = d_both part node (subst (λ x. IsOnly [] (results deal.tx deal.asked x host) sent) t d_results)
+    d_turns : (turn : Turn) → deal.turn ≡ turn → Comes Decides group (Recorded deal agreed host) after
+    d_turns First t = d_single (ap (λ x. closed deal.tx deal.asked x host) (sym t)) (subst (λ x. IsOnly [] (results deal.tx deal.asked x host) sent) t d_results) (λ other. subst (λ x. IsNone other (heard deal.tx x)) (sym t) tt)
+    d_turns Lone t = d_single (ap (λ x. closed deal.tx deal.asked x host) (sym t)) (subst (λ x. IsOnly [] (results deal.tx deal.asked x host) sent) t d_results) (λ other. subst (λ x. IsNone other (heard deal.tx x)) (sym t) tt)
+    d_turns (Next part node) t = d_both part node t (subst (λ x. IsOnly [] (results deal.tx deal.asked x host) sent) t d_results)
         (subst (λ x. Each (λ entry. now.at entry.0 ≡ entry.1) (heard deal.tx x)) t a.parties.0.1.1).0
         (λ i. (subst (λ x. IsNone deal.coord (heard deal.tx x)) t a.apart.0.1).0 (d_is ∙ sym i))
         (λ i. (subst (λ x. IsNone deal.asked (heard deal.tx x)) t a.apart.1.0).0 (sym i))
         (subst (λ x. Each (λ lead. now.lead lead.0 ≡ Some lead.1) (heard_lead x)) t a.leads.1.1).0
         (λ other ne. subst (λ x. IsNone other (heard deal.tx x)) (sym t) (ne, tt))
 
-  decided_at : AtEach (Records d.tx (is_watch d.turn) true d.by) now group (IsUnderWay after)
+  decided_at : AtEach (Records d.tx (is_watch d.turn) true d.by) now group (λ s. Comes Decides group s after)
   decided_at = record {
     ordered = λ name chief order a e. absurd (subst IsOrder (second e) a.sound);
     weighs = λ deal host a e. (let f : Answers deal.tx deal.coord (is_watch deal.turn) deal.chief ≡ Records d.tx (is_watch d.turn) true d.by = second e in absurd cc);
@@ -163,8 +174,8 @@ module _ (now after : Scene) (group : Draw) (taken : Option Errand) (sent : Draw
     two = λ tx one two a l e. (let f : Ends tx ≡ Records d.tx (is_watch d.turn) true d.by = second e in absurd cc);
   }
 
-pub decided-keeps : Keeps Decided
-decided-keeps now after group taken sent row d u = by-work (Records d.tx (is_watch d.turn) true d.by) now after group taken (IsUnderWay after) d.executes u (decided_at now after group taken sent row d)
+pub decided-step : StepsBy Decided Decides
+decided-step now after group taken sent row d s a = by-work (Records d.tx (is_watch d.turn) true d.by) now after group taken (λ s. Comes Decides group s after) d.executes s a (decided_at now after group taken sent row d)
 
 -- ---- a Yes that is heard
 
@@ -212,7 +223,7 @@ module _ (now after : Scene) (group : Draw) (taken : Option Errand) (sent : Draw
     h_free : (other : Draw) → (other ≡ group → ⊥) → (other ≡ d.asked → ⊥) → now.at other ≡ free
     h_free other c b = a.parties.1 other ((λ i. c (i ∙ h_is)), ((λ i. b (i ∙ sym h_asked)), subst (λ x. IsNone other (heard deal.tx x)) h_turn tt))
 
-    heard_on : IsUnderWay after
+    heard_on : Comes Hears group (Recorded deal agreed host) after
     heard_on = (
       Asks h_deal d.node,
       record {
@@ -231,9 +242,23 @@ module _ (now after : Scene) (group : Draw) (taken : Option Errand) (sent : Draw
         apart = (((λ i. d.third.0 (sym i)), ((λ i. h_ne (sym i)), tt)), ((d.third.1, tt), (tt, tt)));
         sound = tt;
       },
+      record {
+        deal = deal;
+        host = host;
+        next = h_deal;
+        to = d.node;
+        before_is = ap (λ x. Recorded deal x host) h_agreed;
+        coord_is = h_is;
+        first = sym h_turn;
+        tx_same = h_tx;
+        coord_same = sym h_is;
+        chief_same = h_chief;
+        turn_is = ap (λ x. Next x d.by) h_asked ∙ ap (Next deal.asked) (sym h_by);
+        after_is = refl;
+      },
     )
 
-  heard_at : AtEach (Records d.tx false true d.by) now group (IsUnderWay after)
+  heard_at : AtEach (Records d.tx false true d.by) now group (λ s. Comes Hears group s after)
   heard_at = record {
     ordered = λ name chief order a e. absurd (subst IsOrder (second e) a.sound);
     weighs = λ deal host a e. (let f : Answers deal.tx deal.coord (is_watch deal.turn) deal.chief ≡ Records d.tx false true d.by = second e in absurd cc);
@@ -243,8 +268,8 @@ module _ (now after : Scene) (group : Draw) (taken : Option Errand) (sent : Draw
     two = λ tx one two a l e. (let f : Ends tx ≡ Records d.tx false true d.by = second e in absurd cc);
   }
 
-pub heard-keeps : Keeps Heard
-heard-keeps now after group taken sent row d u = by-work (Records d.tx false true d.by) now after group taken (IsUnderWay after) d.executes u (heard_at now after group taken sent row d)
+pub heard-step : StepsBy Heard Hears
+heard-step now after group taken sent row d s a = by-work (Records d.tx false true d.by) now after group taken (λ s. Comes Hears group s after) d.executes s a (heard_at now after group taken sent row d)
 
 -- ---- an outcome
 
@@ -256,7 +281,7 @@ module _ (now after : Scene) (group : Draw) (taken : Option Errand) (sent : Draw
   ended_other : (other : Draw) → (other ≡ group → ⊥) → after.at other ≡ now.at other
   ended_other other ne = other-same now after group taken sent row other ne (d.sends.1 other tt)
 
-  ended_last : (tx : Draw) (party : Party) → IsAt (Closes tx party) now → party.leg ≡ Filed → AreOne (party.group, Ends tx) (group, Ends d.tx) → IsUnderWay after
+  ended_last : (tx : Draw) (party : Party) → IsAt (Closes tx party) now → party.leg ≡ Filed → AreOne (party.group, Ends tx) (group, Ends d.tx) → Comes IsFreed group (Closes tx party) after
   ended_last tx party a leg e = (
     Still,
     record {
@@ -271,9 +296,10 @@ module _ (now after : Scene) (group : Draw) (taken : Option Errand) (sent : Draw
       apart = tt;
       sound = tt;
     },
+    LastFreed tx party refl leg (first e) refl,
   )
 
-  ended_one : (tx : Draw) (one two : Party) → IsAt (ClosesBoth tx one two) now → one.leg ≡ Filed → AreOne (one.group, Ends tx) (group, Ends d.tx) → IsUnderWay after
+  ended_one : (tx : Draw) (one two : Party) → IsAt (ClosesBoth tx one two) now → one.leg ≡ Filed → AreOne (one.group, Ends tx) (group, Ends d.tx) → Comes IsFreed group (ClosesBoth tx one two) after
   ended_one tx one two a leg e = (
     Closes tx two,
     record {
@@ -288,12 +314,13 @@ module _ (now after : Scene) (group : Draw) (taken : Option Errand) (sent : Draw
       apart = (tt, tt);
       sound = tt;
     },
+    OneFreed tx one two refl leg (first e) refl,
   )
     where
       ne_two : two.group ≡ group → ⊥
       ne_two i = a.apart.0.0 (first e ∙ sym i)
 
-  ended_two : (tx : Draw) (one two : Party) → IsAt (ClosesBoth tx one two) now → two.leg ≡ Filed → AreOne (two.group, Ends tx) (group, Ends d.tx) → IsUnderWay after
+  ended_two : (tx : Draw) (one two : Party) → IsAt (ClosesBoth tx one two) now → two.leg ≡ Filed → AreOne (two.group, Ends tx) (group, Ends d.tx) → Comes IsFreed group (ClosesBoth tx one two) after
   ended_two tx one two a leg e = (
     Closes tx one,
     record {
@@ -308,12 +335,13 @@ module _ (now after : Scene) (group : Draw) (taken : Option Errand) (sent : Draw
       apart = (tt, tt);
       sound = tt;
     },
+    TwoFreed tx one two refl leg (first e) refl,
   )
     where
       ne_one : one.group ≡ group → ⊥
       ne_one i = a.apart.0.0 (i ∙ sym (first e))
 
-  ended_at : AtEach (Ends d.tx) now group (IsUnderWay after)
+  ended_at : AtEach (Ends d.tx) now group (λ s. Comes IsFreed group s after)
   ended_at = record {
     ordered = λ name chief order a e. absurd (subst IsOrder (second e) a.sound);
     weighs = λ deal host a e. (let f : Answers deal.tx deal.coord (is_watch deal.turn) deal.chief ≡ Ends d.tx = second e in absurd cc);
@@ -323,5 +351,5 @@ module _ (now after : Scene) (group : Draw) (taken : Option Errand) (sent : Draw
     two = ended_two;
   }
 
-pub ended-keeps : Keeps Ended
-ended-keeps now after group taken sent row d u = by-work (Ends d.tx) now after group taken (IsUnderWay after) d.executes u (ended_at now after group taken sent row d)
+pub ended-step : StepsBy Ended IsFreed
+ended-step now after group taken sent row d s a = by-work (Ends d.tx) now after group taken (λ s. Comes IsFreed group s after) d.executes s a (ended_at now after group taken sent row d)

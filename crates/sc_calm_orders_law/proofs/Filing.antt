@@ -247,11 +247,11 @@ bound_by_lock core tx (Watching locked watch) e = (let l : locked ≡ tx = cc in
 -- ---- the rows
 
 module _ (r : ReplicaState) where
-  offer_is : (b : Bool) (from : ℕ) (tx : Draw) (offer : Offer) → r.running ≡ b → standing_vote r.group.core tx ≡ None → (mailed from (TxPrepare tx offer) (r, [])).0 ≡ cond b (act_queued (Prepared tx offer) (r, [])) (sent_elsewhere from tx offer.coord (r, []))
+  pub offer_is : (b : Bool) (from : ℕ) (tx : Draw) (offer : Offer) → r.running ≡ b → standing_vote r.group.core tx ≡ None → (mailed from (TxPrepare tx offer) (r, [])).0 ≡ cond b (act_queued (Prepared tx offer) (r, [])) (sent_elsewhere from tx offer.coord (r, []))
   unfolding mailed offer_row
   offer_is b from tx offer runs none = ap (λ o. offered_by o from tx offer (r, [])) none ∙ ap (λ x. cond x (act_queued (Prepared tx offer) (r, [])) (sent_elsewhere from tx offer.coord (r, []))) runs
 
-  watch_row_is : (b : Bool) (from : ℕ) (tx : Draw) (watch : Watch) → r.running ≡ b → standing_vote r.group.core tx ≡ None → (mailed from (TxWatch tx watch) (r, [])).0 ≡ cond b (act_queued (Watched tx watch) (r, [])) (sent_elsewhere from tx watch.coord (r, []))
+  pub watch_row_is : (b : Bool) (from : ℕ) (tx : Draw) (watch : Watch) → r.running ≡ b → standing_vote r.group.core tx ≡ None → (mailed from (TxWatch tx watch) (r, [])).0 ≡ cond b (act_queued (Watched tx watch) (r, [])) (sent_elsewhere from tx watch.coord (r, []))
   unfolding mailed watch_row
   watch_row_is b from tx watch runs none = ap (λ o. watched_by o from tx watch (r, [])) none ∙ ap (λ x. cond x (act_queued (Watched tx watch) (r, [])) (sent_elsewhere from tx watch.coord (r, []))) runs
 

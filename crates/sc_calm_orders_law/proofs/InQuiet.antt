@@ -1,7 +1,7 @@
 -- Where nothing is under way no order is.
-use Rattle.std.proofs.Common.{◌≡◌, ℕ, List, [], ◌∷◌, sym, ◌∙◌, ap}
+use Rattle.std.proofs.Common.{◌≡◌, ℕ, List, [], ◌∷◌, refl, sym, ◌∙◌, ap}
 use Rattle.sc_base.specs.declared.names.Draw.{Draw}
-use Rattle.sc_calm_orders_law.specs.Scenes.{Here, Scene}
+use Rattle.sc_calm_orders_law.specs.Scenes.{Turn, Unbound, Asking, Here, Scene}
 use Rattle.sc_calm_orders_law.specs.Stages.{Leg, Mailed, Filed, closing, Stage, Still, Ordered, Asks, SentOn, Weighs, Replied, Recorded, Closes, ClosesBoth, IsAt, IsQuiet}
 use Rattle.sc_calm_orders_law.specs.Rows.{QuietIsStill}
 
@@ -25,6 +25,25 @@ still_of now q (Closes tx party) a =
     absurd (closing_busy tx party.leg party.host (sym (ap (λ (h : Here). h.errands) a.parties.0.0) ∙ q.errands party.group) (sym (ap (λ (h : Here). h.work) a.parties.0.0) ∙ q.work party.group))
 still_of now q (ClosesBoth tx one two) a =
     absurd (closing_busy tx one.leg one.host (sym (ap (λ (h : Here). h.errands) a.parties.0.0) ∙ q.errands one.group) (sym (ap (λ (h : Here). h.work) a.parties.0.0) ∙ q.work one.group))
+
+asking_free : {tx asked : Draw} {turn : Turn} → Asking tx asked turn ≡ Unbound → ⊥
+asking_free e = absurd cc
+
+closing_free : (tx : Draw) (leg : Leg) (host : ℕ) → (closing tx leg host).bond ≡ Unbound → ⊥
+closing_free tx Mailed host e = absurd cc
+closing_free tx Filed host e = absurd cc
+
+-- where no group has any part, no other stage stands
+pub still-only : (now : Scene) (stage : Stage) → IsAt stage now → IsAt Still now → stage ≡ Still
+still-only now Still a still = refl
+still-only now (Ordered group chief work) a still = absurd (cons_nil (sym (ap (λ (h : Here). h.work) a.parties.0.0) ∙ ap (λ (h : Here). h.work) (still.parties.1 group tt)))
+still-only now (Asks deal to) a still = absurd (asking_free (sym (ap (λ (h : Here). h.bond) a.parties.0.0) ∙ ap (λ (h : Here). h.bond) (still.parties.1 deal.coord tt)))
+still-only now (SentOn deal) a still = absurd (asking_free (sym (ap (λ (h : Here). h.bond) a.parties.0.0) ∙ ap (λ (h : Here). h.bond) (still.parties.1 deal.coord tt)))
+still-only now (Weighs deal host) a still = absurd (asking_free (sym (ap (λ (h : Here). h.bond) a.parties.0.0) ∙ ap (λ (h : Here). h.bond) (still.parties.1 deal.coord tt)))
+still-only now (Replied deal agreed host) a still = absurd (asking_free (sym (ap (λ (h : Here). h.bond) a.parties.0.0) ∙ ap (λ (h : Here). h.bond) (still.parties.1 deal.coord tt)))
+still-only now (Recorded deal agreed host) a still = absurd (asking_free (sym (ap (λ (h : Here). h.bond) a.parties.0.0) ∙ ap (λ (h : Here). h.bond) (still.parties.1 deal.coord tt)))
+still-only now (Closes tx party) a still = absurd (closing_free tx party.leg party.host (sym (ap (λ (h : Here). h.bond) a.parties.0.0) ∙ ap (λ (h : Here). h.bond) (still.parties.1 party.group tt)))
+still-only now (ClosesBoth tx one two) a still = absurd (closing_free tx one.leg one.host (sym (ap (λ (h : Here). h.bond) a.parties.0.0) ∙ ap (λ (h : Here). h.bond) (still.parties.1 one.group tt)))
 
 pub quiet-still : QuietIsStill
 quiet-still now q u = (let s = still_of now q u.0 u.1 in (s, λ group. ap (λ (h : Here). h.bond) (s.parties.1 group tt)))

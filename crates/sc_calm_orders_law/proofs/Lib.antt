@@ -2,6 +2,7 @@ pub mod Begun
 pub mod Decided
 pub mod Errands
 pub mod Filing
+pub mod Following
 pub mod InQuiet
 pub mod Lists
 pub mod Moves

@@ -3,8 +3,9 @@ use Rattle.std.proofs.Common.{◌≡◌, ℕ, Bool, List, [], ◌∷◌, ◌++�
 use Rattle.sc_base.specs.Among.{Among}
 use Rattle.sc_base.specs.declared.names.Draw.{Draw}
 use Rattle.sc_calm_orders_law.specs.Scenes.{is_watch, Unbound, Asking, Errand, Question, Elsewhere, Reply, Result, Work, Answers, Records, Ends, Here, Scene}
-use Rattle.sc_calm_orders_law.specs.Stages.{Deal, Leg, Mailed, Filed, Party, Stage, Still, Ordered, Asks, SentOn, Weighs, Replied, Recorded, Closes, ClosesBoth, coordinator, asked_one, heard_lead, bound_by, closing, party_of, parties_of, leads_of, IsAt, IsUnderWay}
-use Rattle.sc_calm_orders_law.specs.Rows.{IsRow, PassesOn, AsksOn, Files, work_for, Keeps}
+use Rattle.sc_calm_orders_law.specs.Stages.{Deal, Leg, Mailed, Filed, Party, Stage, Still, Ordered, Asks, SentOn, Weighs, Replied, Recorded, Closes, ClosesBoth, coordinator, asked_one, heard_lead, bound_by, closing, party_of, parties_of, leads_of, IsAt}
+use Rattle.sc_calm_orders_law.specs.Rows.{IsRow, PassesOn, AsksOn, Files, work_for}
+use Rattle.sc_calm_orders_law.specs.Follows.{filed_there, Passes, AsksAgain, LastTakes, OneTakes, TwoTakes, IsTaken, OfQuestion, OfVote, OfOutcome, Comes, StepsBy}
 use Rattle.sc_calm_orders_law.proofs.Lists.{AreOne, having, here-is, tokens, found}
 use Rattle.sc_calm_orders_law.proofs.Moves.{errands_of, other-mailed, other-same, own-taken, taken-there, lead-stays, leads-stay, deal-goes, no-errand, closing-errand}
 
@@ -29,7 +30,7 @@ module _ (now after : Scene) (group : Draw) (taken : Option Errand) (sent : Draw
   abbrev passed : Errand
   passed = Question d.tx d.coord d.watch d.by d.to
 
-  passes_goes : (deal : Deal) (to : ℕ) → IsAt (Asks deal to) now → AreOne (deal.asked, Question deal.tx deal.coord (is_watch deal.turn) deal.chief to) (group, passed) → IsUnderWay after
+  passes_goes : (deal : Deal) (to : ℕ) → IsAt (Asks deal to) now → AreOne (deal.asked, Question deal.tx deal.coord (is_watch deal.turn) deal.chief to) (group, passed) → Comes Passes group (Asks deal to) after
   passes_goes deal to a e = (
     SentOn deal,
     record {
@@ -40,6 +41,7 @@ module _ (now after : Scene) (group : Draw) (taken : Option Errand) (sent : Draw
       apart = a.apart;
       sound = tt;
     },
+    record { deal = deal; to = to; before_is = refl; asked_is = first e; after_is = refl },
   )
     where
       is : deal.asked ≡ group
@@ -74,7 +76,7 @@ module _ (now after : Scene) (group : Draw) (taken : Option Errand) (sent : Draw
   passes_not : (tx : Draw) (leg : Leg) (host : ℕ) (name : Draw) → (leg ≡ Mailed) × (AreOne (name, Result tx host) (group, passed)) → ⊥
   passes_not tx leg host name e = (let f : Result tx host ≡ Question d.tx d.coord d.watch d.by d.to = second e.1 in absurd cc)
 
-  passes_by : (s : Stage) → IsAt s now → Among (group, passed) (tokens errands_of (parties_of s)) → IsUnderWay after
+  passes_by : (s : Stage) → IsAt s now → Among (group, passed) (tokens errands_of (parties_of s)) → Comes Passes group s after
   passes_by Still a t = absurd t
   passes_by (Ordered name chief work) a t = absurd t
   passes_by (Asks deal to) a (inl e) = passes_goes deal to a e
@@ -92,8 +94,8 @@ module _ (now after : Scene) (group : Draw) (taken : Option Errand) (sent : Draw
         | inr r ↦ elim (closing-errand tx two.leg two.host two.group [] (group, passed) r) [ inl e ↦ absurd (passes_not tx two.leg two.host two.group e) | inr n ↦ absurd n ]
       ]
 
-pub passes-keep : Keeps PassesOn
-passes-keep now after group taken sent row d (s, a) =
+pub passes-step : StepsBy PassesOn Passes
+passes-step now after group taken sent row d s a =
     passes_by now after group taken sent row d s a (found errands_of now.at group (Question d.tx d.coord d.watch d.by d.to) (taken-there now after group taken sent row (Question d.tx d.coord d.watch d.by d.to) d.takes) (parties_of s) a.parties refl)
 
 -- ---- a question is asked elsewhere
@@ -102,7 +104,7 @@ module _ (now after : Scene) (group : Draw) (taken : Option Errand) (sent : Draw
   abbrev sent_on : Errand
   sent_on = Elsewhere d.tx d.to
 
-  asks_goes : (deal : Deal) → IsAt (SentOn deal) now → AreOne (deal.coord, Elsewhere deal.tx deal.chief) (group, sent_on) → IsUnderWay after
+  asks_goes : (deal : Deal) → IsAt (SentOn deal) now → AreOne (deal.coord, Elsewhere deal.tx deal.chief) (group, sent_on) → Comes AsksAgain group (SentOn deal) after
   asks_goes deal a e = (
     Asks deal d.node,
     record {
@@ -113,6 +115,7 @@ module _ (now after : Scene) (group : Draw) (taken : Option Errand) (sent : Draw
       apart = a.apart;
       sound = tt;
     },
+    record { deal = deal; to = d.node; before_is = refl; coord_is = first e; after_is = refl },
   )
     where
       is : deal.coord ≡ group
@@ -159,7 +162,7 @@ module _ (now after : Scene) (group : Draw) (taken : Option Errand) (sent : Draw
   asks_not : (tx : Draw) (leg : Leg) (host : ℕ) (name : Draw) → (leg ≡ Mailed) × (AreOne (name, Result tx host) (group, sent_on)) → ⊥
   asks_not tx leg host name e = (let f : Result tx host ≡ Elsewhere d.tx d.to = second e.1 in absurd cc)
 
-  asks_by : (s : Stage) → IsAt s now → Among (group, sent_on) (tokens errands_of (parties_of s)) → IsUnderWay after
+  asks_by : (s : Stage) → IsAt s now → Among (group, sent_on) (tokens errands_of (parties_of s)) → Comes AsksAgain group s after
   asks_by Still a t = absurd t
   asks_by (Ordered name chief work) a t = absurd t
   asks_by (Asks deal to) a (inl e) = (let f : Question deal.tx deal.coord (is_watch deal.turn) deal.chief to ≡ Elsewhere d.tx d.to = second e in absurd cc)
@@ -177,14 +180,11 @@ module _ (now after : Scene) (group : Draw) (taken : Option Errand) (sent : Draw
         | inr r ↦ elim (closing-errand tx two.leg two.host two.group [] (group, sent_on) r) [ inl e ↦ absurd (asks_not tx two.leg two.host two.group e) | inr n ↦ absurd n ]
       ]
 
-pub asks-keep : Keeps AsksOn
-asks-keep now after group taken sent row d (s, a) =
+pub asks-step : StepsBy AsksOn AsksAgain
+asks-step now after group taken sent row d s a =
     asks_by now after group taken sent row d s a (found errands_of now.at group (Elsewhere d.tx d.to) (taken-there now after group taken sent row (Elsewhere d.tx d.to) d.takes) (parties_of s) a.parties refl)
 
 -- ---- what a leader takes
-
-abbrev now_filed : Party → Party
-now_filed party = record party { leg = Filed }
 
 module _ (now after : Scene) (group : Draw) (taken : Option Errand) (sent : Draw → List Errand) (row : IsRow now after group taken sent) (d : Files now after group taken sent) where
   none : (other : Draw) → sent other ≡ []
@@ -201,7 +201,7 @@ module _ (now after : Scene) (group : Draw) (taken : Option Errand) (sent : Draw
   own h only work is one idle e w = took now after group taken sent row d.bond h d.errand (work ∷ []) only is one d.takes
       (d.work ∙ (ap (λ l. l ++ d.filed ∷ []) (ap (λ (k : Here). k.work) is ∙ idle) ∙ ap (λ x. x ∷ []) (filed only work e w))) (none group)
 
-  weighs : (deal : Deal) (to : ℕ) → IsAt (Asks deal to) now → AreOne (deal.asked, Question deal.tx deal.coord (is_watch deal.turn) deal.chief to) (group, d.errand) → IsUnderWay after
+  weighs : (deal : Deal) (to : ℕ) → IsAt (Asks deal to) now → AreOne (deal.asked, Question deal.tx deal.coord (is_watch deal.turn) deal.chief to) (group, d.errand) → Comes IsTaken group (Asks deal to) after
   weighs deal to a e = (
     Weighs deal d.host,
     record {
@@ -218,12 +218,13 @@ module _ (now after : Scene) (group : Draw) (taken : Option Errand) (sent : Draw
       apart = a.apart;
       sound = tt;
     },
+    OfQuestion (record { deal = deal; to = to; host = d.host; before_is = refl; asked_is = first e; after_is = refl }),
   )
     where
       is : deal.asked ≡ group
       is = first e
 
-  records : (deal : Deal) (agreed : Bool) (host : ℕ) → IsAt (Replied deal agreed host) now → AreOne (deal.coord, Reply deal.tx (is_watch deal.turn) agreed host deal.chief) (group, d.errand) → IsUnderWay after
+  records : (deal : Deal) (agreed : Bool) (host : ℕ) → IsAt (Replied deal agreed host) now → AreOne (deal.coord, Reply deal.tx (is_watch deal.turn) agreed host deal.chief) (group, d.errand) → Comes IsTaken group (Replied deal agreed host) after
   records deal agreed host a e = (
     Recorded deal agreed host,
     record {
@@ -237,6 +238,7 @@ module _ (now after : Scene) (group : Draw) (taken : Option Errand) (sent : Draw
       apart = a.apart;
       sound = a.sound;
     },
+    OfVote (record { deal = deal; agreed = agreed; host = host; before_is = refl; coord_is = first e; after_is = refl }),
   )
     where
       is : deal.coord ≡ group
@@ -247,40 +249,43 @@ module _ (now after : Scene) (group : Draw) (taken : Option Errand) (sent : Draw
   ends tx party was leg e = ap after.at (first e) ∙ own (closing tx Mailed party.host) (Result tx party.host) (Ends tx)
       (ap now.at (sym (first e)) ∙ (was ∙ ap (λ l. closing tx l party.host) leg)) refl refl (second e) refl
 
-  closes : (tx : Draw) (party : Party) → IsAt (Closes tx party) now → (party.leg ≡ Mailed) × (AreOne (party.group, Result tx party.host) (group, d.errand)) → IsUnderWay after
+  closes : (tx : Draw) (party : Party) → IsAt (Closes tx party) now → (party.leg ≡ Mailed) × (AreOne (party.group, Result tx party.host) (group, d.errand)) → Comes IsTaken group (Closes tx party) after
   closes tx party a e = (
-    Closes tx (now_filed party),
+    Closes tx (filed_there party),
     record {
       parties = ((ends tx party a.parties.0.0 e.0 e.1, tt), λ name n. other name (λ i. n.0 (i ∙ sym (first e.1))) ∙ a.parties.1 name n);
       leads = leads-stay now after group taken sent row d.leads (leads_of (Closes tx party)) a.leads;
       apart = a.apart;
       sound = tt;
     },
+    OfOutcome (LastTakes tx party refl e.0 (first e.1) refl),
   )
 
-  closes_one : (tx : Draw) (one two : Party) → IsAt (ClosesBoth tx one two) now → (one.leg ≡ Mailed) × (AreOne (one.group, Result tx one.host) (group, d.errand)) → IsUnderWay after
+  closes_one : (tx : Draw) (one two : Party) → IsAt (ClosesBoth tx one two) now → (one.leg ≡ Mailed) × (AreOne (one.group, Result tx one.host) (group, d.errand)) → Comes IsTaken group (ClosesBoth tx one two) after
   closes_one tx one two a e = (
-    ClosesBoth tx (now_filed one) two,
+    ClosesBoth tx (filed_there one) two,
     record {
       parties = ((ends tx one a.parties.0.0 e.0 e.1, (other two.group (λ i. a.apart.0.0 (first e.1 ∙ sym i)) ∙ a.parties.0.1.0, tt)), λ name n. other name (λ i. n.0 (i ∙ sym (first e.1))) ∙ a.parties.1 name n);
       leads = leads-stay now after group taken sent row d.leads (leads_of (ClosesBoth tx one two)) a.leads;
       apart = a.apart;
       sound = tt;
     },
+    OfOutcome (OneTakes tx one two refl e.0 (first e.1) refl),
   )
 
-  closes_two : (tx : Draw) (one two : Party) → IsAt (ClosesBoth tx one two) now → (two.leg ≡ Mailed) × (AreOne (two.group, Result tx two.host) (group, d.errand)) → IsUnderWay after
+  closes_two : (tx : Draw) (one two : Party) → IsAt (ClosesBoth tx one two) now → (two.leg ≡ Mailed) × (AreOne (two.group, Result tx two.host) (group, d.errand)) → Comes IsTaken group (ClosesBoth tx one two) after
   closes_two tx one two a e = (
-    ClosesBoth tx one (now_filed two),
+    ClosesBoth tx one (filed_there two),
     record {
       parties = ((other one.group (λ i. a.apart.0.0 (i ∙ sym (first e.1))) ∙ a.parties.0.0, (ends tx two a.parties.0.1.0 e.0 e.1, tt)), λ name n. other name (λ i. n.1.0 (i ∙ sym (first e.1))) ∙ a.parties.1 name n);
       leads = leads-stay now after group taken sent row d.leads (leads_of (ClosesBoth tx one two)) a.leads;
       apart = a.apart;
       sound = tt;
     },
+    OfOutcome (TwoTakes tx one two refl e.0 (first e.1) refl),
   )
 
-  files_by : (s : Stage) → IsAt s now → Among (group, d.errand) (tokens errands_of (parties_of s)) → IsUnderWay after
+  files_by : (s : Stage) → IsAt s now → Among (group, d.errand) (tokens errands_of (parties_of s)) → Comes IsTaken group s after
   files_by Still a t = absurd t
   files_by (Ordered name chief work) a t = absurd t
   files_by (Asks deal to) a (inl e) = weighs deal to a e
@@ -298,6 +303,6 @@ module _ (now after : Scene) (group : Draw) (taken : Option Errand) (sent : Draw
         | inr r ↦ elim (closing-errand tx two.leg two.host two.group [] (group, d.errand) r) [ inl e ↦ closes_two tx one two a e | inr n ↦ absurd n ]
       ]
 
-pub files-keep : Keeps Files
-files-keep now after group taken sent row d (s, a) =
+pub files-step : StepsBy Files IsTaken
+files-step now after group taken sent row d s a =
     files_by now after group taken sent row d s a (found errands_of now.at group d.errand (taken-there now after group taken sent row d.errand d.takes) (parties_of s) a.parties refl)

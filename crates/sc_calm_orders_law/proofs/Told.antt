@@ -1,10 +1,11 @@
 -- A row that does nothing of an order, and one that takes an order where none is under way.
-use Rattle.std.proofs.Common.{◌≡◌, List, [], ◌∷◌, ◌++◌, inl, inr, sym, ◌∙◌, ap, append-nil}
+use Rattle.std.proofs.Common.{◌≡◌, List, [], ◌∷◌, ◌++◌, inl, inr, refl, sym, ◌∙◌, ap, append-nil}
 use Rattle.sc_base.specs.Among.{Each}
 use Rattle.sc_base.specs.declared.names.Draw.{Draw}
 use Rattle.sc_calm_orders_law.specs.Scenes.{Unbound, Here, free}
 use Rattle.sc_calm_orders_law.specs.Stages.{Ordered, parties_of, leads_of}
-use Rattle.sc_calm_orders_law.specs.Rows.{RestsKeep, OrdersBegin}
+use Rattle.sc_calm_orders_law.specs.Rows.{Rests, IsTold}
+use Rattle.sc_calm_orders_law.specs.Follows.{Stays, Begins, StepsBy, BeginsBy}
 use Rattle.sc_calm_orders_law.proofs.Lists.{cases-draw, having, here-is}
 use Rattle.sc_calm_orders_law.proofs.Moves.{other-same, own-idle, leads-stay}
 
@@ -12,8 +13,8 @@ each_same : (value after : Draw → Here) (named : List (Draw × Here)) → ((na
 each_same value after [] same e = tt
 each_same value after (entry ∷ named) same e = (same entry.0 ∙ e.0, each_same value after named same e.1)
 
-pub rests-keep : RestsKeep
-rests-keep now after group taken sent row d (s, a) = (
+pub rests-step : StepsBy Rests Stays
+rests-step now after group taken sent row d s a = (
   s,
   record {
     parties = (each_same now.at after.at (parties_of s) all a.parties.0, λ name none. all name ∙ a.parties.1 name none);
@@ -21,6 +22,7 @@ rests-keep now after group taken sent row d (s, a) = (
     apart = a.apart;
     sound = a.sound;
   },
+  refl,
 )
   where
     own : after.at group ≡ now.at group
@@ -33,8 +35,8 @@ rests-keep now after group taken sent row d (s, a) = (
       | inr ne ↦ other-same now after group taken sent row name ne (d.sends.1 name tt)
     ]
 
-pub orders-begin : OrdersBegin
-orders-begin now after group taken sent row d a = (
+pub told-step : BeginsBy IsTold Begins
+told-step now after group taken sent row d a = (
   Ordered group d.chief d.order,
   record {
     parties = ((own, tt), λ name none. other-same now after group taken sent row name none.0 (d.sends.1 name tt) ∙ a.parties.1 name tt);
@@ -42,6 +44,7 @@ orders-begin now after group taken sent row d a = (
     apart = (tt, tt);
     sound = d.is_order;
   },
+  record { chief = d.chief; work = d.order; before_is = refl; after_is = refl },
 )
   where
     was : now.at group ≡ free

@@ -3,21 +3,21 @@ use Rattle.std.proofs.Common.{◌≡◌, ℕ, Bool, List, [], ◌∷◌, ◌++�
 use Rattle.sc_base.specs.Among.{Among}
 use Rattle.sc_base.specs.declared.names.Draw.{Draw}
 use Rattle.sc_calm_orders_law.specs.Scenes.{is_watch, Bond, Errand, Work, Answers, Records, Ends, Here, Scene}
-use Rattle.sc_calm_orders_law.specs.Stages.{Deal, Filed, Party, Stage, Still, Ordered, Asks, SentOn, Weighs, Replied, Recorded, Closes, ClosesBoth, party_of, parties_of, IsAt, IsUnderWay}
+use Rattle.sc_calm_orders_law.specs.Stages.{Deal, Filed, Party, Stage, Still, Ordered, Asks, SentOn, Weighs, Replied, Recorded, Closes, ClosesBoth, party_of, parties_of, IsAt}
 use Rattle.sc_calm_orders_law.specs.Rows.{IsRow, Executes}
 use Rattle.sc_calm_orders_law.proofs.Lists.{AreOne, having, here-is, tokens, found}
 use Rattle.sc_calm_orders_law.proofs.Moves.{work_of, own-idle, no-work, closing-work}
 
--- what is to be shown at each stage at which a group may have this work
-pub record AtEach (work : Work) (now : Scene) (group : Draw) (P : Type 0) : Type 0 where
-  pub ordered : (name : Draw) (chief : ℕ) (order : Work) → IsAt (Ordered name chief order) now → AreOne (name, order) (group, work) → P
-  pub weighs : (deal : Deal) (host : ℕ) → IsAt (Weighs deal host) now → AreOne (deal.asked, Answers deal.tx deal.coord (is_watch deal.turn) deal.chief) (group, work) → P
-  pub recorded : (deal : Deal) (agreed : Bool) (host : ℕ) → IsAt (Recorded deal agreed host) now → AreOne (deal.coord, Records deal.tx (is_watch deal.turn) agreed host) (group, work) → P
-  pub closes : (tx : Draw) (party : Party) → IsAt (Closes tx party) now → party.leg ≡ Filed → AreOne (party.group, Ends tx) (group, work) → P
-  pub one : (tx : Draw) (one two : Party) → IsAt (ClosesBoth tx one two) now → one.leg ≡ Filed → AreOne (one.group, Ends tx) (group, work) → P
-  pub two : (tx : Draw) (one two : Party) → IsAt (ClosesBoth tx one two) now → two.leg ≡ Filed → AreOne (two.group, Ends tx) (group, work) → P
+-- what is to be shown of each stage at which a group may have this work
+pub record AtEach (work : Work) (now : Scene) (group : Draw) (P : Stage → Type 0) : Type 0 where
+  pub ordered : (name : Draw) (chief : ℕ) (order : Work) → IsAt (Ordered name chief order) now → AreOne (name, order) (group, work) → P (Ordered name chief order)
+  pub weighs : (deal : Deal) (host : ℕ) → IsAt (Weighs deal host) now → AreOne (deal.asked, Answers deal.tx deal.coord (is_watch deal.turn) deal.chief) (group, work) → P (Weighs deal host)
+  pub recorded : (deal : Deal) (agreed : Bool) (host : ℕ) → IsAt (Recorded deal agreed host) now → AreOne (deal.coord, Records deal.tx (is_watch deal.turn) agreed host) (group, work) → P (Recorded deal agreed host)
+  pub closes : (tx : Draw) (party : Party) → IsAt (Closes tx party) now → party.leg ≡ Filed → AreOne (party.group, Ends tx) (group, work) → P (Closes tx party)
+  pub one : (tx : Draw) (one two : Party) → IsAt (ClosesBoth tx one two) now → one.leg ≡ Filed → AreOne (one.group, Ends tx) (group, work) → P (ClosesBoth tx one two)
+  pub two : (tx : Draw) (one two : Party) → IsAt (ClosesBoth tx one two) now → two.leg ≡ Filed → AreOne (two.group, Ends tx) (group, work) → P (ClosesBoth tx one two)
 
-at_each : (work : Work) (now : Scene) (group : Draw) (P : Type 0) → AtEach work now group P → (s : Stage) → IsAt s now → Among (group, work) (tokens work_of (parties_of s)) → P
+at_each : (work : Work) (now : Scene) (group : Draw) (P : Stage → Type 0) → AtEach work now group P → (s : Stage) → IsAt s now → Among (group, work) (tokens work_of (parties_of s)) → P s
 at_each work now group P c Still a t = absurd t
 at_each work now group P c (Ordered name chief order) a (inl e) = c.ordered name chief order a e
 at_each work now group P c (Ordered name chief order) a (inr t) = absurd t
@@ -36,8 +36,8 @@ at_each work now group P c (ClosesBoth tx one two) a t =
     ]
 
 -- a group whose work is executed has it at one of these stages
-pub by-work : (work : Work) (now after : Scene) (group : Draw) (taken : Option Errand) (P : Type 0) → Executes work now after group taken → IsUnderWay now → AtEach work now group P → P
-by-work work now after group taken P x (s, a) c =
+pub by-work : (work : Work) (now after : Scene) (group : Draw) (taken : Option Errand) (P : Stage → Type 0) → Executes work now after group taken → (s : Stage) → IsAt s now → AtEach work now group P → P s
+by-work work now after group taken P x s a c =
     at_each work now group P c s a (found work_of now.at group work (subst (Among work) (sym x.had) (inl refl)) (parties_of s) a.parties refl)
 
 -- .. after which it has none, and no errand if it had none and is sent none

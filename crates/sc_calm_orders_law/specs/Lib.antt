@@ -1,5 +1,6 @@
 pub mod Parts
 pub mod Rows
+pub mod Follows
 pub mod Scenes
 pub mod Stages
 pub mod Tables

@@ -4,9 +4,17 @@
 #![tactic(auto)]
 
 ghost use Rattle.sc_calm_orders_law.specs.Entries.{EndsLeave, OrdersLeave, RecordsLeave, VotesLeave, WatchRecordsLeave};
+ghost use Rattle.sc_calm_orders_law.specs.Follows.{RowsStep};
 ghost use Rattle.sc_calm_orders_law.specs.Rows.{EntriesKeep, FilesKeep, OrdersBegin, QuestionsKeep, QuietIsStill, RestsKeep};
 ghost use Rattle.sc_calm_orders_law.specs.Running.{EntriesRunAlone, PromisesKeepWork, TablesOrder, TablesRest, VotesCountAlone};
 ghost use Rattle.sc_calm_orders_law.specs.Tables.{PumpsKeepWork, TablesAskOn, TablesFile, TablesPass};
+
+/// Each kind of row is one step: a row that does nothing of an order leaves its stage, a leader that
+/// is told one begins it, a question goes out, on and out again, is taken, and voted on; a vote is
+/// taken, and ends the order, is heard or decides; and an outcome is taken, and frees its party.
+pub fn rows_step()
+    ensures { RowsStep }
+{}
 
 /// Where no order is under way, one that a leader takes begins to be: its command stands at the
 /// leader, and no group is bound.

@@ -19,26 +19,28 @@ use Rattle.sc_paxos_words.specs.declared.flights.Flight.{Flight}
 use Rattle.sc_sound.specs.Players.{Player}
 use Rattle.sc_calm_law.specs.Totals.{Rows}
 use Rattle.sc_calm_orders_law.specs.Scenes.{First, Lone, Next, is_watch, Bond, Unbound, Asking, Errand, Question, Reply, Work, Opens, Answers, Records, Ends}
-use Rattle.sc_calm_orders_law.specs.Stages.{bound_by, IsAt, Still, IsUnderWay}
-use Rattle.sc_calm_orders_law.specs.Rows.{Kind, Keeps, Rests, Changed, Opened, Voted, Aborted, Decided, Heard, Ended, results}
+use Rattle.sc_calm_orders_law.specs.Stages.{bound_by, Stage, IsAt, Still}
+use Rattle.sc_calm_orders_law.specs.Follows as Follow
+use Rattle.sc_calm_orders_law.specs.Follows.{Step, Changes, BeginsDeal, Votes, Aborts, Hears, IsFreed, LastFreed, OneFreed, TwoFreed, ByOrder, ByChange, ByDeal, ByVote, ByNo, ByHearing, ByDeciding, ByEnd, StepsBy}
+use Rattle.sc_calm_orders_law.specs.Rows.{Kind, Changed, Opened, Voted, Aborted, Decided, Heard, Ended, results}
 use Rattle.sc_calm_orders_law.specs.Parts.{work_by, works_in, works_flying, works_ready, works, bond_of, errands_for}
 use Rattle.sc_calm_orders_law.specs.Entries.{EntryLeaves}
 use Rattle.sc_calm_orders_law.specs.Running.{FliesLone, Decides, RunsAlone}
 use Rattle.sc_calm_orders_law.specs.Tables.{Works, MayFile}
-use Rattle.sc_calm_orders_law.proofs.Begun.{changed-keeps, opened-keeps, voted-keeps}
+use Rattle.sc_calm_orders_law.proofs.Begun.{changed-step, opened-step, voted-step}
 use Rattle.sc_calm_orders_law.proofs.Counting.{votes-count-alone}
-use Rattle.sc_calm_orders_law.proofs.Decided.{aborted-keeps, decided-keeps, heard-keeps, ended-keeps}
+use Rattle.sc_calm_orders_law.proofs.Decided.{aborted-step, decided-step, heard-step, ended-step}
 use Rattle.sc_calm_orders_law.proofs.Ordering.{tables-order}
 use Rattle.sc_calm_orders_law.proofs.Runs.{entries-run-alone}
-use Rattle.sc_calm_orders_law.proofs.Told.{rests-keep, orders-begin}
+use Rattle.sc_calm_orders_law.proofs.Told.{told-step}
 use Rattle.sc_calm_rows_law.specs.Turns.{with_event}
 use Rattle.sc_calm_scenes_law.specs.Scenes.{scene_at}
 use Rattle.sc_calm_scenes_law.specs.Turns.{errands_sent, IsSceneKind, IsOfGroup, IsTablesRow, LeadsAlone}
 use Rattle.sc_calm_scenes_law.specs.Kinds.{Stays, IsEntrysRow}
-use Rattle.sc_calm_scenes_law.specs.Kept.{KeepsStage, IsBeside, Led, Unled}
+use Rattle.sc_calm_scenes_law.specs.Kept.{StageAfter, KeepsStage, IsBeside, Led, Unled}
 use Rattle.sc_calm_scenes_law.specs.Counted.{IsCounting, IsEntry, StaysIn, VotesKeep, IsOrdered, OrdersKeep}
 use Rattle.sc_calm_scenes_law.proofs.Doing.{only_as, asides_stay, asides_are, leaders_are, entries_are}
-use Rattle.sc_calm_scenes_law.proofs.Keeping.{keeps_by, after, row_of_comes, errand_is, lead_rests}
+use Rattle.sc_calm_scenes_law.proofs.Keeping.{IsOnward, rests_by, steps_by, event_of, after, row_of_comes, errand_is, lead_rests}
 use Rattle.sc_calm_scenes_law.proofs.Taking.{rows_taken}
 use Rattle.sc_calm_scenes_law.proofs.Turning.{rows_are}
 
@@ -85,41 +87,47 @@ module _ (words : ℕ → ℕ → ℕ × ℕ) (births : List (Seat Player)) (row
   counted : Works (works r) [] r made ⊎ Decides flight r made
   counted = subst (λ b. Works (works r) [] r (mailed mail.from b (r, [])).0 ⊎ Decides flight r (mailed mail.from b (r, [])).0) (sym c.body) (votes-count-alone mail.from c.named c.ballot c.slot flight r c.flies)
 
-  vote_by : (Does : Kind) → Keeps Does → (Decides flight r made → IsSceneKind Does births rows seat event group) → KeepsStage births rows seat event
-  vote_by Does keeps does = elim counted [
+  vote_by : (Does : Kind) (Is : Step) → StepsBy Does Is → IsOnward Is → (Decides flight r made → IsSceneKind Does births rows seat event group) → KeepsStage births rows seat event
+  vote_by Does Is steps onward does = elim counted [
     | inl works_so ↦ lead_rests words births rows seat number mail group r c.comes (Accepted c.named c.ballot c.slot) c.body refl (subst (λ b. Works (works r) [] r (mailed mail.from b (r, [])).0) c.body works_so)
-    | inr d ↦ keeps_by Does keeps words births rows seat event group (row_of_comes words births rows seat number mail group r c.comes.comes).0 (does d)
+    | inr d ↦ steps_by Does Is steps onward words births rows seat event group (row_of_comes words births rows seat number mail group r c.comes.comes).0
+        (event_of words births rows seat number mail group c.comes.comes.node c.comes.comes.taking) (does d)
   ]
+
+freed_on : (group : Draw) (before after : Stage) → IsFreed group before after → before ≡ Still → ⊥
+freed_on group before after (LastFreed tx party e l g a) still = cc
+freed_on group before after (OneFreed tx one two e l g a) still = cc
+freed_on group before after (TwoFreed tx one two e l g a) still = cc
 
 pub votes_keep : VotesKeep
 votes_keep = record {
   changed = λ words births rows seat number mail group flight r order c e is.
-      vote_by words births rows seat number mail group flight r c Changed changed-keeps (λ d.
+      vote_by words births rows seat number mail group flight r c Changed Changes changed-step (record { step = λ g b a. ByChange; on = λ g b a s still. (let e = s.before_is in cc) }) (λ d.
       entries_are.changed births rows seat (Deliver number) group order r (made words births rows seat number mail group flight r c) (entry_row words births rows seat number mail group flight r c order (bond_of r.group.core) [] e d) is);
   opened = λ words births rows seat number mail group flight r tx asked watch node c e stays apart.
-      vote_by words births rows seat number mail group flight r c Opened opened-keeps (λ d.
+      vote_by words births rows seat number mail group flight r c Opened BeginsDeal opened-step (record { step = λ g b a. ByDeal; on = λ g b a s still. (let e = s.before_is in cc) }) (λ d.
       entries_are.opened births rows seat (Deliver number) group tx asked watch node r (made words births rows seat number mail group flight r c)
       (entry_row words births rows seat number mail group flight r c (Opens tx) (Asking tx asked (cond watch Lone First)) ((asked, Question tx group watch seat.who node ∷ []) ∷ []) e d)
       (runs_on words births rows seat number mail group flight r c (Opens tx) e.work_is d stays) apart);
   voted = λ words births rows seat number mail group flight r tx coord watch agreed by c e unbound stays willing.
-      vote_by words births rows seat number mail group flight r c Voted voted-keeps (λ d.
+      vote_by words births rows seat number mail group flight r c Voted Votes voted-step (record { step = λ g b a. ByVote; on = λ g b a s still. (let e = s.before_is in cc) }) (λ d.
       entries_are.voted births rows seat (Deliver number) group tx coord watch agreed by r (made words births rows seat number mail group flight r c)
       (entry_row words births rows seat number mail group flight r c (Answers tx coord watch by) (bound_by agreed tx) ((coord, Reply tx watch agreed seat.who by ∷ []) ∷ []) e d) unbound
       (runs_on words births rows seat number mail group flight r c (Answers tx coord watch by) e.work_is d stays) willing);
   aborted = λ words births rows seat number mail group flight r tx by c e.
-      vote_by words births rows seat number mail group flight r c Aborted aborted-keeps (λ d.
+      vote_by words births rows seat number mail group flight r c Aborted Aborts aborted-step (record { step = λ g b a. ByNo; on = λ g b a s still. (let e = s.before_is in cc) }) (λ d.
       entries_are.aborted births rows seat (Deliver number) group tx by r (made words births rows seat number mail group flight r c) (entry_row words births rows seat number mail group flight r c (Records tx false false by) Unbound [] e d));
   decided = λ words births rows seat number mail group flight r tx asked turn by c e asking.
-      vote_by words births rows seat number mail group flight r c Decided decided-keeps (λ d.
+      vote_by words births rows seat number mail group flight r c Decided Follow.Decides decided-step (record { step = λ g b a. ByDeciding; on = λ g b a s still. (let e = s.before_is in cc) }) (λ d.
       entries_are.decided births rows seat (Deliver number) group tx asked turn by r (made words births rows seat number mail group flight r c)
       (entry_row words births rows seat number mail group flight r c (Records tx (is_watch turn) true by) Unbound (results tx asked turn by) e d) asking);
   heard = λ words births rows seat number mail group flight r tx asked watcher by node c e asking stays third.
-      vote_by words births rows seat number mail group flight r c Heard heard-keeps (λ d.
+      vote_by words births rows seat number mail group flight r c Heard Hears heard-step (record { step = λ g b a. ByHearing; on = λ g b a s still. (let e = s.before_is in cc) }) (λ d.
       entries_are.heard births rows seat (Deliver number) group tx asked watcher by node r (made words births rows seat number mail group flight r c)
       (entry_row words births rows seat number mail group flight r c (Records tx false true by) (Asking tx watcher (Next asked by)) ((watcher, Question tx group true seat.who node ∷ []) ∷ []) e d) asking
       (runs_on words births rows seat number mail group flight r c (Records tx false true by) e.work_is d stays) third);
   ended = λ words births rows seat number mail group flight r tx c e.
-      vote_by words births rows seat number mail group flight r c Ended ended-keeps (λ d.
+      vote_by words births rows seat number mail group flight r c Ended IsFreed ended-step (record { step = λ g b a. ByEnd; on = freed_on }) (λ d.
       entries_are.ended births rows seat (Deliver number) group tx r (made words births rows seat number mail group flight r c) (entry_row words births rows seat number mail group flight r c (Ends tx) Unbound [] e d));
 }
 
@@ -138,13 +146,14 @@ module _ (words : ℕ → ℕ → ℕ × ℕ) (births : List (Seat Player)) (row
   row : IsOfGroup words births rows seat told group × IsTablesRow births rows seat told group r place
   row = rows_taken.ordered words births rows seat line node r o.seated o.timely o.is_node o.here
 
-  led_by : LeadsAlone births rows group seat.who r → MayFile r → IsAt Still (scene_at births rows) → (w : Option OrderRefusal) → untaken node.draws line r ≡ w → IsUnderWay (scene_at births (with_event rows seat told))
+  led_by : LeadsAlone births rows group seat.who r → MayFile r → IsAt Still (scene_at births rows) → (w : Option OrderRefusal) → untaken node.draws line r ≡ w → StageAfter births rows seat told Still
   led_by leads may still None e =
       let t = tables-order.taken node.draws line r may e in
-      orders-begin (scene_at births rows) (scene_at births (with_event rows seat told)) group None (errands_sent rows seat told) (rows_are words births rows seat told group row.0)
-      (leaders_are.told births rows seat told group t.0 r place (record { leads = leads; table = row.1; works_so = t.3 }) may.idle t.1 refl) still
+      let to = told-step (scene_at births rows) (scene_at births (with_event rows seat told)) group None (errands_sent rows seat told) (rows_are words births rows seat told group row.0)
+      (leaders_are.told births rows seat told group t.0 r place (record { leads = leads; table = row.1; works_so = t.3 }) may.idle t.1 refl) still in
+      (to.0, to.1, inr (record { group = group; step = ByOrder to.2; of = refl; begins = λ e. tt }))
   led_by leads may still (Some why) e =
-      keeps_by Rests rests-keep words births rows seat told group row.0
+      rests_by words births rows seat told group row.0
       (leaders_are.rests births rows seat told group r place (record { leads = leads; table = row.1; works_so = tables-order.refused node.draws line why r e }) refl) (Still, still)
 
   stays_by : IsBeside births rows seat told group place → Stays births rows seat told group
@@ -153,7 +162,7 @@ module _ (words : ℕ → ℕ → ℕ × ℕ) (births : List (Seat Player)) (row
 
   refused_by : (why : OrderRefusal) → IsBeside births rows seat told group place → untaken node.draws line r ≡ Some why → KeepsStage births rows seat told
   refused_by why beside e =
-      keeps_by Rests rests-keep words births rows seat told group row.0
+      rests_by words births rows seat told group row.0
       (asides_are.rests births rows seat told group (stays_by beside) refl
       (only_as [] (λ n. errands_for n place.1) (errands_sent rows seat told) (λ n. ap (errands_for n) row.1.sends) (tables-order.refused node.draws line why r e).sends))
 

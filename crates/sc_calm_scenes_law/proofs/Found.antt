@@ -26,15 +26,17 @@ use Rattle.sc_node_table.specs.Rows.{mailed, request_row, requested, call_refusa
 use Rattle.sc_sound.specs.Players.{Player, player_table, births, as_nodes}
 use Rattle.sc_calm_law.specs.Charts.{players}
 use Rattle.sc_calm_law.specs.Totals.{Rows}
-use Rattle.sc_calm_orders_law.specs.Scenes.{Unbound, Bound, Errand, Question, Elsewhere, Reply, Result, Here, IsOnly}
+use Rattle.sc_calm_orders_law.specs.Scenes.{Unbound, Bound, Errand, Question, Elsewhere, Reply, Result, Answers, Here, IsOnly}
+use Rattle.sc_calm_orders_law.specs.Follows.{IsTaken, Comes}
 use Rattle.sc_calm_orders_law.specs.Stages.{IsUnderWay}
 use Rattle.sc_calm_orders_law.specs.Tables.{IsUnbound, MayFile}
 use Rattle.sc_calm_orders_law.specs.Parts.{bond_of, errand_by, errands_for, is_yes, is_cast_yes}
+use Rattle.sc_calm_orders_law.proofs.Filing.{tables-file}
 use Rattle.sc_calm_orders_law.proofs.Errands.{errands-none}
 use Rattle.sc_calm_rows_law.specs.Turns.{IsSeat, with_event}
 use Rattle.sc_calm_scenes_law.specs.Asked.{IsAsking, IsWaiting, Expects}
 use Rattle.sc_calm_scenes_law.specs.Counted.{IsOrdered}
-use Rattle.sc_calm_scenes_law.specs.Found.{LeaderFinds, BesideFinds, FindsReplica, AtLeader, AtAnother, NodeFinds, FindsFlight, Late, Leaves, Changed, Opened, Voted, Aborted, Decided, Heard, Ended, FindsQuiet, ByLeader, ByAnother, FindsOrder, FoundOrdersKeep, FoundOrdersGoThrough}
+use Rattle.sc_calm_scenes_law.specs.Found.{LeaderFinds, BesideFinds, FindsReplica, AtLeader, AtAnother, NodeFinds, FindsFlight, Late, Leaves, Changed, Opened, Voted, Aborted, Decided, Heard, Ended, FindsQuiet, ByLeader, ByAnother, FindsOrder, FoundOrdersStep, FoundOrdersKeep, FoundOrdersGoThrough}
 use Rattle.sc_calm_scenes_law.specs.Kept.{KeepsStage, ComesTo, ComesToLeader, ComesBeside, ComesToNone}
 use Rattle.sc_calm_scenes_law.specs.Scenes.{scene_at}
 use Rattle.sc_calm_scenes_law.specs.Taken.{IsTaking}
@@ -42,7 +44,7 @@ use Rattle.sc_calm_scenes_law.proofs.Asked.{asked_keep}
 use Rattle.sc_calm_scenes_law.proofs.Begun.{scenarios_still}
 use Rattle.sc_calm_scenes_law.proofs.Counting.{votes_keep, orders_keep}
 use Rattle.sc_calm_scenes_law.proofs.Joining.{states_keep}
-use Rattle.sc_calm_scenes_law.proofs.Keeping.{row_of_comes, leaders_keep, asides_keep, lead_rests, aside_rests}
+use Rattle.sc_calm_scenes_law.proofs.Keeping.{row_of_comes, leaders_keep, asides_keep, lead_rests, lead_takes, aside_rests}
 use Rattle.sc_calm_scenes_law.proofs.Left.{takes_one}
 use Rattle.sc_calm_scenes_law.proofs.Others.{others_keep}
 use Rattle.sc_calm_scenes_law.proofs.Over.{begin_in_quiet, go_through}
@@ -64,6 +66,12 @@ module _ (r : ReplicaState) (stopped : r.running ≡ false) where
       by name (Some into) running e = errands-none name r.me (client_actor client) (Answer (name_of r) seq (Says.Gone into)) [] refl
       by name None true e = absurd cc
       by name None false e = errands-none name r.me (client_actor client) (Answer (name_of r) seq (Says.NotLeader r.hint)) [] refl
+
+-- a coordinator's question
+abbrev pub IsQuestion : MailBody → Type 0
+IsQuestion (TxPrepare tx offer) = Unit {0}
+IsQuestion (TxWatch tx watch) = Unit {0}
+IsQuestion body = ⊥
 
 module _ (words : ℕ → ℕ → ℕ × ℕ) (births : List (Seat Player)) (rows : Rows) (seat : Seat Player) (number : ℕ) (mail : Mail) (group : Draw) where
   -- mail of no group comes to none
@@ -105,6 +113,33 @@ module _ (words : ℕ → ℕ → ℕ × ℕ) (births : List (Seat Player)) (row
 
     may : IsUnbound r → waiting.work ≡ [] → MayFile r
     may unbound none = record { running = c.leads.running; unbound = unbound; idle = sym (tell.led births rows group seat.who r c.leads).1.1 ∙ none }
+
+    -- a question that it takes is its work
+    pub leader_asked : (body : MailBody) → IsQuestion body → mail.body ≡ body → LeaderFinds births rows seat number mail group r body → (under : IsUnderWay (scene_at births rows))
+        → Comes IsTaken group under.0 (scene_at births (with_event rows seat (Deliver number)))
+    leader_asked (TxPrepare tx offer) q e f under =
+        (let w : IsWaiting Unbound waiting = expected (offer.part, Question tx offer.coord false offer.by mail.to) (ap (errand_by mail.from mail.to) e) under in
+        lead_takes words births rows seat number mail group r c (TxPrepare tx offer) e (Question tx offer.coord false offer.by mail.to) (Answers tx offer.coord false offer.by) refl refl (may f.0 w.work).idle
+        (tables-file.offer mail.from tx offer r (may f.0 w.work) f.1) under)
+    leader_asked (TxWatch tx watch) q e f under =
+        (let w : IsWaiting Unbound waiting = expected (watch.part, Question tx watch.coord true watch.by mail.to) (ap (errand_by mail.from mail.to) e) under in
+        lead_takes words births rows seat number mail group r c (TxWatch tx watch) e (Question tx watch.coord true watch.by mail.to) (Answers tx watch.coord true watch.by) refl refl (may f.0 w.work).idle
+        (tables-file.watch mail.from tx watch r (may f.0 w.work) f.1) under)
+    leader_asked (TxVote tx coord party vote) q e f under = absurd q
+    leader_asked (TxWatched tx coord party vote) q e f under = absurd q
+    leader_asked (TxOutcome tx party outcome) q e f under = absurd q
+    leader_asked (TxElsewhere tx coord hint) q e f under = absurd q
+    leader_asked (Accept named ballot slot command) q e f under = absurd q
+    leader_asked (Prepare named ballot from_slot) q e f under = absurd q
+    leader_asked (Nack named ballot) q e f under = absurd q
+    leader_asked (Promise named ballot reports) q e f under = absurd q
+    leader_asked (Accepted named ballot slot) q e f under = absurd q
+    leader_asked (Learn named slot command) q e f under = absurd q
+    leader_asked (Install named slot base sets) q e f under = absurd q
+    leader_asked (Ask named slot) q e f under = absurd q
+    leader_asked (Request named client seq op) q e f under = absurd q
+    leader_asked (Answer named seq answer) q e f under = absurd q
+    leader_asked (ToldMail order result) q e f under = absurd q
 
     leader_found : (body : MailBody) → mail.body ≡ body → LeaderFinds births rows seat number mail group r body → KeepsStage births rows seat (Deliver number)
     leader_found (TxPrepare tx offer) e f under =
@@ -242,9 +277,16 @@ module _ (words : ℕ → ℕ → ℕ × ℕ) (births : List (Seat Player)) (row
   player_keeps event timely finds (Node node) is = node_keeps event timely finds node is
   player_keeps event timely finds (Client client) is = others_keep.client words births rows seat event client born timely is (finds.client client is)
 
+found_keeps : (words : ℕ → ℕ → ℕ × ℕ) (births : List (Seat Player)) (rows : Rows) (seat : Seat Player) (event : Event OrderLine) → IsSeat births seat → AreInTime (players words births) (with_event rows seat event)
+    → FindsOrder words births rows seat event → KeepsStage births rows seat event
+found_keeps words births rows seat event born timely finds = player_keeps words births rows seat born event timely finds (value player_table seat rows) refl
+
+pub found_step : FoundOrdersStep
+found_step words births rows seat event born timely finds stage a = found_keeps words births rows seat event born timely finds (stage, a)
+
 pub found_keep : FoundOrdersKeep
-found_keep words births rows seat event born timely finds = player_keeps words births rows seat born event timely finds (value player_table seat rows) refl
+found_keep words births rows seat event born timely finds under = (let to = found_keeps words births rows seat event born timely finds under in (to.0, to.1))
 
 pub found_through : FoundOrdersGoThrough
 found_through words scenario journal bounded timely finds =
-    go_through words (births as_nodes scenario) journal timely (scenarios_still scenario bounded) (λ rows seat event born t. found_keep words (births as_nodes scenario) rows seat event born t (finds rows seat event born t))
+    go_through words (births as_nodes scenario) journal timely (scenarios_still scenario bounded) (λ rows seat event born t. found_keeps words (births as_nodes scenario) rows seat event born t (finds rows seat event born t))

@@ -23,9 +23,7 @@ use Rattle.sc_node_table.specs.Rows.{made_by, looked_up}
 use Rattle.sc_node_table.specs.Slots.{slots_ahead}
 use Rattle.sc_sound.specs.Players.{Player, player_table}
 use Rattle.sc_calm_law.specs.Totals.{Rows}
-use Rattle.sc_calm_orders_law.specs.Rows.{Rests}
 use Rattle.sc_calm_orders_law.specs.Parts.{errand_by, errands_for}
-use Rattle.sc_calm_orders_law.proofs.Told.{rests-keep}
 use Rattle.sc_calm_rows_law.specs.Groups.{view_at}
 use Rattle.sc_calm_rows_law.specs.Turns.{with_event, IsWholeState}
 use Rattle.sc_calm_rows_law.proofs.Hearing.{names_stay}
@@ -37,7 +35,7 @@ use Rattle.sc_calm_scenes_law.specs.Kinds.{Stays}
 use Rattle.sc_calm_scenes_law.specs.Kept.{KeepsStage, ComesToNone}
 use Rattle.sc_calm_scenes_law.specs.Making.{MayJoin, Led, Unled, StatesKeep}
 use Rattle.sc_calm_scenes_law.proofs.Doing.{who_or, others_same, asides_are}
-use Rattle.sc_calm_scenes_law.proofs.Keeping.{keeps_by}
+use Rattle.sc_calm_scenes_law.proofs.Keeping.{rests_by}
 use Rattle.sc_calm_scenes_law.proofs.Taking.{now_is, was_is, all_sent}
 use Rattle.sc_calm_scenes_law.proofs.Viewing.{tell}
 
@@ -107,7 +105,7 @@ states_by words births rows seat number mail group slot base sets c body may mem
     let rests = made_rests node.me mail.from group slot base sets member in
     let own : name_of place.0 ≡ group = names_stay.made node.me mail.from group slot base sets in
     let none : errand_taken (mails rows) (Deliver number) ≡ None = ap errand_in t.sent ∙ ap (errand_by mail.from mail.to) body in
-    keeps_by Rests rests-keep words births rows seat (Deliver number) group
+    rests_by words births rows seat (Deliver number) group
     (record {
       seated = t.seated;
       timely = t.timely;

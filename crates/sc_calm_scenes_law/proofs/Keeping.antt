@@ -1,5 +1,5 @@
 -- That an order stays under way: by the laws of tables, and the kinds of rows.
-use Rattle.std.proofs.Common.{◌≡◌, ℕ, Bool, true, false, List, [], ◌∷◌, Some, None, refl, sym, ◌∙◌, ap, subst}
+use Rattle.std.proofs.Common.{◌≡◌, ℕ, Bool, true, false, List, [], ◌∷◌, Some, None, inl, inr, refl, sym, ◌∙◌, ap, subst}
 use Rattle.std.specs.Option.{option_map}
 use Rattle.sc_base.specs.declared.names.Draw.{Draw}
 use Rattle.sc_cmd.specs.declared.orders.OrderLine.{OrderLine}
@@ -10,38 +10,75 @@ use Rattle.sc_actor.specs.declared.actors.Seat.{Seat}
 use Rattle.sc_actor.specs.declared.rows.Event.{Event}
 use Rattle.sc_actor.specs.declared.rows.Event.TheVariants.{Deliver}
 use Rattle.sc_actor.specs.Mail.{mails}
-use Rattle.sc_node_table.specs.Node.{absent}
+use Rattle.sc_node_table.specs.Node.{NodeState, absent}
 use Rattle.sc_node_table.specs.Replica.{ReplicaState, Place, name_of}
 use Rattle.sc_node_table.specs.Rows.{mailed}
 use Rattle.sc_sound.specs.Players.{Player}
 use Rattle.sc_calm_law.specs.Totals.{Rows}
 use Rattle.sc_calm_orders_law.specs.Scenes.{Asking, is_watch, Turn, Errand, Question, Elsewhere, Reply, Result, Work, Answers, Records, Ends, IsOnly}
-use Rattle.sc_calm_orders_law.specs.Rows.{Kind, Keeps, Rests, PassesOn, AsksOn, Files, work_for}
+use Rattle.sc_calm_orders_law.specs.Rows.{Kind, Rests, PassesOn, AsksOn, Files, work_for}
+use Rattle.sc_calm_orders_law.specs.Stages.{Stage, Still, IsUnderWay}
+use Rattle.sc_calm_orders_law.specs.Follows.{Step, Passes, AsksAgain, IsTaken, OfQuestion, OfVote, OfOutcome, LastTakes, OneTakes, TwoTakes, Comes, IsStepOf, ByPassing, ByAsking, ByTaking, StepsBy}
 use Rattle.sc_calm_orders_law.specs.Parts.{bond_of, is_yes, is_cast_yes, works, errand_by, errands_for}
 use Rattle.sc_calm_orders_law.specs.Tables.{Works}
 use Rattle.sc_calm_orders_law.proofs.Filing.{tables-file, tables-pass, tables-ask-on}
-use Rattle.sc_calm_orders_law.proofs.Questions.{passes-keep, asks-keep, files-keep}
+use Rattle.sc_calm_orders_law.proofs.Questions.{passes-step, asks-step, files-step}
 use Rattle.sc_calm_orders_law.proofs.Resting.{tables-rest, promises-keep}
-use Rattle.sc_calm_orders_law.proofs.Told.{rests-keep}
+use Rattle.sc_calm_orders_law.proofs.Told.{rests-step}
 use Rattle.sc_calm_rows_law.specs.Turns.{with_event}
 use Rattle.sc_calm_rows_law.proofs.Turning.{found_name}
 use Rattle.sc_calm_scenes_law.specs.Scenes.{scene_at, errand_in, taken_errand}
 use Rattle.sc_calm_scenes_law.specs.Turns.{errands_sent, IsSceneKind, IsOfGroup, IsTablesRow}
+use Rattle.sc_calm_scenes_law.specs.Taken.{IsTaking}
 use Rattle.sc_calm_scenes_law.specs.Kinds.{Stays, IsLeadsRow}
-use Rattle.sc_calm_scenes_law.specs.Kept.{KeepsStage, ComesTo, ComesToLeader, LeadersKeep, IsBeside, Led, Unled, ComesBeside, ComesToNone, AsidesKeep}
+use Rattle.sc_calm_scenes_law.specs.Kept.{IsEventOf, KeepsStage, ComesTo, ComesToLeader, LeadersKeep, IsBeside, Led, Unled, ComesBeside, ComesToNone, AsidesKeep}
 use Rattle.sc_calm_scenes_law.proofs.Doing.{only_as, asides_stay, asides_are, leaders_are}
 use Rattle.sc_calm_scenes_law.proofs.Taking.{takes, misses}
 use Rattle.sc_calm_scenes_law.proofs.Turning.{rows_are}
 
--- a row of such a kind keeps the stage
-pub keeps_by : (Does : Kind) → Keeps Does → (words : ℕ → ℕ → ℕ × ℕ) (births : List (Seat Player)) (rows : Rows) (seat : Seat Player) (event : Event OrderLine) (group : Draw)
-    → IsOfGroup words births rows seat event group → IsSceneKind Does births rows seat event group → KeepsStage births rows seat event
-keeps_by Does keeps words births rows seat event group of does =
-    keeps (scene_at births rows) (scene_at births (with_event rows seat event)) group (taken_errand (mails rows) event) (errands_sent rows seat event) (rows_are words births rows seat event group of) does
+-- a row that does nothing of the order leaves the stage
+pub rests_by : (words : ℕ → ℕ → ℕ × ℕ) (births : List (Seat Player)) (rows : Rows) (seat : Seat Player) (event : Event OrderLine) (group : Draw)
+    → IsOfGroup words births rows seat event group → IsSceneKind Rests births rows seat event group → KeepsStage births rows seat event
+rests_by words births rows seat event group of does under =
+    let to = rests-step (scene_at births rows) (scene_at births (with_event rows seat event)) group (taken_errand (mails rows) event) (errands_sent rows seat event) (rows_are words births rows seat event group of) does under.0 under.1 in
+    (to.0, to.1, inl to.2)
+
+-- a step of a row by which an order that is under way goes on
+pub record IsOnward (Is : Step) : Type 0 where
+  pub step : (group : Draw) (before after : Stage) → Is group before after → IsStepOf group before after
+  pub on : (group : Draw) (before after : Stage) → Is group before after → before ≡ Still → ⊥
+
+pub taken_on : (group : Draw) (before after : Stage) → IsTaken group before after → before ≡ Still → ⊥
+taken_on group before after (OfQuestion s) still = (let e = s.before_is in cc)
+taken_on group before after (OfVote s) still = (let e = s.before_is in cc)
+taken_on group before after (OfOutcome (LastTakes tx party e l g a)) still = cc
+taken_on group before after (OfOutcome (OneTakes tx one two e l g a)) still = cc
+taken_on group before after (OfOutcome (TwoTakes tx one two e l g a)) still = cc
+
+takes_on : IsOnward IsTaken
+takes_on = record { step = λ g b a. ByTaking; on = taken_on }
+
+asks_again : IsOnward AsksAgain
+asks_again = record { step = λ g b a. ByAsking; on = λ g b a s still. (let e = s.before_is in cc) }
+
+passes_on : IsOnward Passes
+passes_on = record { step = λ g b a. ByPassing; on = λ g b a s still. (let e = s.before_is in cc) }
+
+-- one that is a step goes to the stage that follows
+pub steps_by : (Does : Kind) (Is : Step) → StepsBy Does Is → IsOnward Is
+    → (words : ℕ → ℕ → ℕ × ℕ) (births : List (Seat Player)) (rows : Rows) (seat : Seat Player) (event : Event OrderLine) (group : Draw)
+    → IsOfGroup words births rows seat event group → IsEventOf (mails rows) event group → IsSceneKind Does births rows seat event group → KeepsStage births rows seat event
+steps_by Does Is steps onward words births rows seat event group of named does under =
+    let to = steps (scene_at births rows) (scene_at births (with_event rows seat event)) group (taken_errand (mails rows) event) (errands_sent rows seat event) (rows_are words births rows seat event group of) does under.0 under.1 in
+    (to.0, to.1, inr (record { group = group; step = onward.step group under.0 to.0 to.2; of = named; begins = λ still. absurd (onward.on group under.0 to.0 to.2 still) }))
 
 module _ (words : ℕ → ℕ → ℕ × ℕ) (births : List (Seat Player)) (rows : Rows) (seat : Seat Player) (number : ℕ) (mail : Mail) (group : Draw) where
   abbrev event : Event OrderLine
   event = Deliver number
+
+  -- its row is one of the mail's group
+  pub event_of : (node : NodeState) → IsTaking words births rows seat number mail group node → IsEventOf (mails rows) event group
+  event_of node t = (mail, t.sent, t.named)
 
   module _ (r : ReplicaState) where
     -- the row of the replica
@@ -65,14 +102,27 @@ module _ (words : ℕ → ℕ → ℕ × ℕ) (births : List (Seat Player)) (row
     pub lead_rests : ComesToLeader words births rows seat number mail group r → (body : MailBody) → mail.body ≡ body → option_map (λ entry. entry.1) (errand_by mail.from mail.to body) ≡ None
         → Works (works r) [] r (mailed mail.from body (r, [])).0 → KeepsStage births rows seat event
     lead_rests c body e none works_so =
-        keeps_by Rests rests-keep words births rows seat event group (row_of_comes c.comes).0
+        rests_by words births rows seat event group (row_of_comes c.comes).0
         (leaders_are.rests births rows seat event group r after (leads_row c (works r) [] body e works_so) (errand_is c.comes body e ∙ none))
+
+    -- the leader that takes a question, a vote or an outcome has it as its work
+    files_it : ComesToLeader words births rows seat number mail group r → (body : MailBody) → mail.body ≡ body → (errand : Errand) (filed : Work) → option_map (λ entry. entry.1) (errand_by mail.from mail.to body) ≡ Some errand
+        → work_for errand ≡ Some filed → works r ≡ [] → Works (filed ∷ []) [] r (mailed mail.from body (r, [])).0 → IsSceneKind Files births rows seat event group
+    files_it c body e errand filed takes_it files idle works_so =
+        leaders_are.files births rows seat event group errand filed r after (leads_row c (filed ∷ []) [] body e works_so) idle (errand_is c.comes body e ∙ takes_it) files
+
+    -- .. so the stage is that after it takes it
+    pub lead_takes : ComesToLeader words births rows seat number mail group r → (body : MailBody) → mail.body ≡ body → (errand : Errand) (filed : Work) → option_map (λ entry. entry.1) (errand_by mail.from mail.to body) ≡ Some errand
+        → work_for errand ≡ Some filed → works r ≡ [] → Works (filed ∷ []) [] r (mailed mail.from body (r, [])).0 → (under : IsUnderWay (scene_at births rows)) → Comes IsTaken group under.0 (scene_at births (with_event rows seat event))
+    lead_takes c body e errand filed takes_it files idle works_so under =
+        files-step (scene_at births rows) (scene_at births (with_event rows seat event)) group (taken_errand (mails rows) event) (errands_sent rows seat event)
+        (rows_are words births rows seat event group (row_of_comes c.comes).0) (files_it c body e errand filed takes_it files idle works_so) under.0 under.1
 
     lead_files : ComesToLeader words births rows seat number mail group r → (body : MailBody) → mail.body ≡ body → (errand : Errand) (filed : Work) → option_map (λ entry. entry.1) (errand_by mail.from mail.to body) ≡ Some errand
         → work_for errand ≡ Some filed → works r ≡ [] → Works (filed ∷ []) [] r (mailed mail.from body (r, [])).0 → KeepsStage births rows seat event
     lead_files c body e errand filed takes_it files idle works_so =
-        keeps_by Files files-keep words births rows seat event group (row_of_comes c.comes).0
-        (leaders_are.files births rows seat event group errand filed r after (leads_row c (filed ∷ []) [] body e works_so) idle (errand_is c.comes body e ∙ takes_it) files)
+        steps_by Files IsTaken files-step takes_on words births rows seat event group (row_of_comes c.comes).0 (event_of c.comes.node c.comes.taking)
+        (files_it c body e errand filed takes_it files idle works_so)
 
     lead_asks : ComesToLeader words births rows seat number mail group r → (tx coord asked : Draw) (turn : Turn) (to : ℕ) → mail.body ≡ TxElsewhere tx coord (Some to) → r.me ≡ seat.who → bond_of r.group.core ≡ Asking tx asked turn
         → Works (works r) ((asked, Question tx (name_of r) (is_watch turn) r.me to ∷ []) ∷ []) r (mailed mail.from (TxElsewhere tx coord (Some to)) (r, [])).0 → KeepsStage births rows seat event
@@ -80,7 +130,7 @@ module _ (words : ℕ → ℕ → ℕ × ℕ) (births : List (Seat Player)) (row
         let own : name_of r ≡ group = found_name group c.comes.node.replicas r c.comes.here in
         let named = subst (λ n. Works (works r) ((asked, Question tx n (is_watch turn) r.me to ∷ []) ∷ []) r (mailed mail.from (TxElsewhere tx coord (Some to)) (r, [])).0) own works_so in
         let whole = subst (λ n. Works (works r) ((asked, Question tx group (is_watch turn) n to ∷ []) ∷ []) r (mailed mail.from (TxElsewhere tx coord (Some to)) (r, [])).0) me named in
-        keeps_by AsksOn asks-keep words births rows seat event group (row_of_comes c.comes).0
+        steps_by AsksOn AsksAgain asks-step asks_again words births rows seat event group (row_of_comes c.comes).0 (event_of c.comes.node c.comes.taking)
         (leaders_are.asks births rows seat event group tx asked turn to mail.to r after (leads_row c (works r) ((asked, Question tx group (is_watch turn) seat.who to ∷ []) ∷ []) (TxElsewhere tx coord (Some to)) e whole) asking
         (errand_is c.comes (TxElsewhere tx coord (Some to)) e))
 
@@ -99,14 +149,14 @@ module _ (words : ℕ → ℕ → ℕ × ℕ) (births : List (Seat Player)) (row
     pub aside_rests : ComesBeside words births rows seat number mail group r → (body : MailBody) → mail.body ≡ body → option_map (λ entry. entry.1) (errand_by mail.from mail.to body) ≡ None
         → IsOnly [] [] (λ n. errands_for n (mailed mail.from body (r, [])).0.1) → KeepsStage births rows seat event
     aside_rests c body e none only =
-        keeps_by Rests rests-keep words births rows seat event group (row_of_comes c.comes).0
+        rests_by words births rows seat event group (row_of_comes c.comes).0
         (asides_are.rests births rows seat event group (stays_by c c.beside) (errand_is c.comes body e ∙ none) (sends_by c body e [] only))
 
     aside_passes : ComesBeside words births rows seat number mail group r → (body : MailBody) → mail.body ≡ body → (tx coord : Draw) (watch : Bool) (by : ℕ)
         → option_map (λ entry. entry.1) (errand_by mail.from mail.to body) ≡ Some (Question tx coord watch by mail.to) → by ≡ mail.from
         → IsOnly [] ((coord, Elsewhere tx mail.from ∷ []) ∷ []) (λ n. errands_for n (mailed mail.from body (r, [])).0.1) → KeepsStage births rows seat event
     aside_passes c body e tx coord watch by takes_it from only =
-        keeps_by PassesOn passes-keep words births rows seat event group (row_of_comes c.comes).0
+        steps_by PassesOn Passes passes-step passes_on words births rows seat event group (row_of_comes c.comes).0 (event_of c.comes.node c.comes.taking)
         (asides_are.passes births rows seat event group tx coord watch by mail.to (stays_by c c.beside) (errand_is c.comes body e ∙ takes_it)
         (subst (λ n. IsOnly [] ((coord, Elsewhere tx n ∷ []) ∷ []) (errands_sent rows seat event)) (sym from) (sends_by c body e ((coord, Elsewhere tx mail.from ∷ []) ∷ []) only)))
 
@@ -119,7 +169,7 @@ module _ (words : ℕ → ℕ → ℕ × ℕ) (births : List (Seat Player)) (row
       let row = misses words births rows seat number mail group c.node c.taking entry c.none has in
       let sends : (n : Draw) → errands_sent rows seat event n ≡ errands_for n (absent c.node.me mail.from body) = λ n. ap (errands_for n) (row.2 ∙ ap (absent c.node.me mail.from) e) in
       let sent = only_as ((coord, Elsewhere tx mail.from ∷ []) ∷ []) (λ n. errands_for n (absent c.node.me mail.from body)) (errands_sent rows seat event) sends (only c.node.me) in
-      keeps_by PassesOn passes-keep words births rows seat event group row.0
+      steps_by PassesOn Passes passes-step passes_on words births rows seat event group row.0 (event_of c.node c.taking)
       (asides_are.passes births rows seat event group tx coord watch by mail.to (asides_stay.missed births rows seat event group row.1)
       (ap (λ o. option_map (λ x. x.1) (errand_in o)) c.taking.sent ∙ (ap (option_map (λ x. x.1)) has ∙ ap Some is))
       (subst (λ n. IsOnly [] ((coord, Elsewhere tx n ∷ []) ∷ []) (errands_sent rows seat event)) (sym from) sent))

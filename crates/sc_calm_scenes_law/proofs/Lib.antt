@@ -1,9 +1,11 @@
 pub mod Asked
 pub mod Begun
 pub mod Counting
+pub mod Delivered
 pub mod Doing
 pub mod Fit
 pub mod Found
+pub mod Fresh
 pub mod Joining
 pub mod Keeping
 pub mod Left
@@ -14,4 +16,5 @@ pub mod Parts
 pub mod Reaching
 pub mod Taking
 pub mod Turning
+pub mod Untouched
 pub mod Viewing

@@ -31,9 +31,7 @@ use Rattle.sc_node_table.specs.Node.{NodeState, replica_of, group_of_mail, may_c
 use Rattle.sc_sound.specs.Players.{Player, player_table}
 use Rattle.sc_calm_law.specs.Charts.{players}
 use Rattle.sc_calm_law.specs.Totals.{Rows}
-use Rattle.sc_calm_orders_law.specs.Rows.{Rests}
 use Rattle.sc_calm_orders_law.specs.Parts.{errand_by, errand_for, errands_for}
-use Rattle.sc_calm_orders_law.proofs.Told.{rests-keep}
 use Rattle.sc_calm_rows_law.specs.Groups.{replicas_of}
 use Rattle.sc_calm_rows_law.specs.Turns.{IsSeat, with_event}
 use Rattle.sc_calm_rows_law.proofs.Viewing.{view_was, view_is, sent_is}
@@ -41,7 +39,7 @@ use Rattle.sc_calm_scenes_law.specs.Scenes.{errand_in, errand_taken}
 use Rattle.sc_calm_scenes_law.specs.Kept.{KeepsStage}
 use Rattle.sc_calm_scenes_law.specs.Resting.{OthersKeep}
 use Rattle.sc_calm_scenes_law.proofs.Doing.{asides_stay, asides_are}
-use Rattle.sc_calm_scenes_law.proofs.Keeping.{keeps_by}
+use Rattle.sc_calm_scenes_law.proofs.Keeping.{rests_by}
 
 -- mail none of which is an errand is nothing to any group
 no_errands : (name : Draw) (mails : List Mail) → Each (λ mail. errand_by mail.from mail.to mail.body ≡ None) mails → errands_for name mails ≡ []
@@ -129,7 +127,7 @@ module _ (words : ℕ → ℕ → ℕ × ℕ) (births : List (Seat Player)) (row
     (none : errand_taken (mails rows) event ≡ None) (o : Option (Input Mail OrderLine)) (e : input_of (mails rows) event ≡ o) where
   keeps_still : ((name : Draw) → replica_of name (replicas_of (acted player_table player o).0) ≡ replica_of name (replicas_of player)) → ((name : Draw) → errands_for name (acted player_table player o).1 ≡ []) → KeepsStage births rows seat event
   keeps_still same silent =
-      keeps_by Rests rests-keep words births rows seat event some_name
+      rests_by words births rows seat event some_name
       (record {
         seated = born;
         timely = timely;

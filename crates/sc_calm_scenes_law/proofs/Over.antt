@@ -31,9 +31,10 @@ use Rattle.sc_calm_law.specs.Charts.{players}
 use Rattle.sc_calm_law.specs.Totals.{Rows}
 use Rattle.sc_calm_orders_law.specs.Scenes.{Unbound, Errand}
 use Rattle.sc_calm_orders_law.specs.Parts.{bond_in as bond_by_lock, works_in, works_flying, works_ready, works, errand_by, errand_for, errands_for}
-use Rattle.sc_calm_orders_law.proofs.InQuiet.{quiet-still}
+use Rattle.sc_calm_orders_law.proofs.InQuiet.{still-only, quiet-still}
 use Rattle.sc_calm_rows_law.specs.Groups.{view_at}
 use Rattle.sc_calm_scenes_law.specs.Scenes.{is_running, lead_of, works_of, work_at, scene_at}
+use Rattle.sc_calm_scenes_law.specs.Kept.{StageAfter}
 use Rattle.sc_calm_scenes_law.specs.Quiet.{GoesToActor, HasNothing, QuietScenesAreOver, IsWork, WorksFlyLone, OrdersBeginInQuiet, OrdersGoThrough}
 use Rattle.sc_calm_scenes_law.proofs.Counting.{orders_keep}
 use Rattle.sc_calm_scenes_law.proofs.Left.{errands-append}
@@ -163,8 +164,9 @@ begin_in_quiet words births rows seat line node r o leads unbound goes rests und
     let before = in_time_before (players words births) rows (row_of player_table seat rows (Told line)) o.timely in
     let comes = (last_in_time (players words births) rows (row_of player_table seat rows (Told line)) o.timely).1 in
     let still = (quiet_over.over words births rows before comes goes rests under).0 in
-    orders_keep.led words births rows seat line node r o leads
-    (record { running = leads.running; unbound = unbound; idle = nothing_works r (rests (group_of_order line.order) seat.who r leads.is_there leads.running) }) still
+    subst (StageAfter births rows seat (Told line)) (sym (still-only (scene_at births rows) under.0 under.1 still))
+    (orders_keep.led words births rows seat line node r o leads
+    (record { running = leads.running; unbound = unbound; idle = nothing_works r (rests (group_of_order line.order) seat.who r leads.is_there leads.running) }) still)
 
 pub go_through : OrdersGoThrough
 go_through words births journal timely still keeps =
@@ -173,5 +175,5 @@ go_through words births journal timely still keeps =
     let calm = (last_in_time (players words births) rows row t).0 in
     let is = calm.row_is in
     let t' : AreInTime (players words births) (with_event rows calm.seat calm.event) = subst (λ (x : Row Mail OrderLine). AreInTime (players words births) (rows ++ x ∷ [])) is t in
-    subst (λ (x : Row Mail OrderLine). IsUnderWay (scene_at births (rows ++ x ∷ []))) (sym is) (keeps rows calm.seat calm.event calm.born t' under))
+    subst (λ (x : Row Mail OrderLine). IsUnderWay (scene_at births (rows ++ x ∷ []))) (sym is) (let to = keeps rows calm.seat calm.event calm.born t' under in (to.0, to.1)))
     journal timely

@@ -69,7 +69,7 @@ errand_group from to (Install group slot base sets) entry e = cc
 errand_group from to (ToldMail order result) entry e = cc
 
 -- a node without replica that gets an errand stays, and answers so
-errand_unknown : (from to : ℕ) (body : MailBody) (node : NodeState) (entry : Draw × Errand) → errand_by from to body ≡ Some entry → unknown from body node ≡ (node, absent node.me from body)
+pub errand_unknown : (from to : ℕ) (body : MailBody) (node : NodeState) (entry : Draw × Errand) → errand_by from to body ≡ Some entry → unknown from body node ≡ (node, absent node.me from body)
 errand_unknown from to (TxPrepare tx offer) node entry e = refl
 errand_unknown from to (TxWatch tx watch) node entry e = refl
 errand_unknown from to (TxElsewhere tx coord hint) node entry e = refl
@@ -98,7 +98,7 @@ own_group rows number mail group at named entry e =
 -- ---- children
 
 -- a replica of this name is as before, or one of these children's, made now
-abbrev OneOf : Draw → ℕ → List Base → Option ReplicaState → Option ReplicaState → Type 0
+abbrev pub OneOf : Draw → ℕ → List Base → Option ReplicaState → Option ReplicaState → Type 0
 OneOf name who children now before = (now ≡ before) ⊎ ((child : Base) × Among child children × (child.core.id ≡ name) × (before ≡ None) × (now ≡ Some (born_replica slots_ahead who child)))
 
 module _ (who : ℕ) where
@@ -133,7 +133,7 @@ module _ (who : ℕ) where
   then_of name child children now between before (inr (x, is, id, none, makes)) (inl f) = inr (x, first_of child children x is, id, none, f ∙ makes)
   then_of name child children now between before (inr (x, is, id, none, makes)) (inr (y, is', id', none', makes')) = (let bad : None ≡ Some (born_replica slots_ahead who x) = sym none' ∙ makes in cc)
 
-  all_children : (name : Draw) (children : List Base) (node : NodeState) → node.me ≡ who → OneOf name who children (replica_of name (with_children children node).replicas) (replica_of name node.replicas)
+  pub all_children : (name : Draw) (children : List Base) (node : NodeState) → node.me ≡ who → OneOf name who children (replica_of name (with_children children node).replicas) (replica_of name node.replicas)
   unfolding with_children
   all_children name [] node me = inl refl
   all_children name (child ∷ children) node me =
@@ -142,7 +142,7 @@ module _ (who : ℕ) where
 
 -- ---- rows
 
-each_is : {X : Type 0} (P : X → Type 0) (xs : List X) (x : X) → Each P xs → Among x xs → P x
+pub each_is : {X : Type 0} (P : X → Type 0) (xs : List X) (x : X) → Each P xs → Among x xs → P x
 each_is P [] x all is = absurd is
 each_is P (y ∷ ys) x all is = elim is [ inl e ↦ subst P e all.0 | inr more ↦ each_is P ys x all.1 more ]
 

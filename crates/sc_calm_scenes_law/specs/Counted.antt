@@ -24,7 +24,7 @@ use Rattle.sc_sound.specs.Players.{Player, player_table}
 use Rattle.sc_calm_law.specs.Charts.{players}
 use Rattle.sc_calm_law.specs.Totals.{Rows}
 use Rattle.sc_calm_orders_law.specs.Scenes.{Turn, First, Lone, Next, is_watch, Bond, Unbound, Asking, Errand, Question, Reply, Work, Opens, Answers, Records, Ends}
-use Rattle.sc_calm_orders_law.specs.Stages.{bound_by, IsOrder, IsAt, Still, IsUnderWay}
+use Rattle.sc_calm_orders_law.specs.Stages.{bound_by, IsOrder, IsAt, Still}
 use Rattle.sc_calm_orders_law.specs.Rows.{results}
 use Rattle.sc_calm_orders_law.specs.Parts.{work_by, bond_of}
 use Rattle.sc_calm_orders_law.specs.Entries.{EntryLeaves}
@@ -33,7 +33,7 @@ use Rattle.sc_calm_orders_law.specs.Tables.{MayFile}
 use Rattle.sc_calm_rows_law.specs.Turns.{IsSeat, with_event}
 use Rattle.sc_calm_scenes_law.specs.Scenes.{scene_at}
 use Rattle.sc_calm_scenes_law.specs.Turns.{NewestAreBound, LeadsAlone}
-use Rattle.sc_calm_scenes_law.specs.Kept.{KeepsStage, ComesToLeader, IsBeside}
+use Rattle.sc_calm_scenes_law.specs.Kept.{StageAfter, KeepsStage, ComesToLeader, IsBeside}
 
 -- a vote comes to the leader of a group, which has one command in flight, alone
 pub record IsCounting (words : ℕ → ℕ → ℕ × ℕ) (births : List (Seat Player)) (rows : Rows) (seat : Seat Player) (number : ℕ) (mail : Mail) (group : Draw) (flight : Flight Command) (r : ReplicaState) : Type 0 where
@@ -90,6 +90,6 @@ pub record IsOrdered (words : ℕ → ℕ → ℕ × ℕ) (births : List (Seat P
 -- Where nothing is under way, an order that the leader is told begins to be, or is refused; and one that is refused elsewhere changes nothing.
 pub record OrdersKeep : Type 0 where
   pub led : (words : ℕ → ℕ → ℕ × ℕ) (births : List (Seat Player)) (rows : Rows) (seat : Seat Player) (line : OrderLine) (node : NodeState) (r : ReplicaState) → IsOrdered words births rows seat line node r
-      → LeadsAlone births rows (group_of_order line.order) seat.who r → MayFile r → IsAt Still (scene_at births rows) → IsUnderWay (scene_at births (with_event rows seat (Told line)))
+      → LeadsAlone births rows (group_of_order line.order) seat.who r → MayFile r → IsAt Still (scene_at births rows) → StageAfter births rows seat (Told line) Still
   pub beside : (words : ℕ → ℕ → ℕ × ℕ) (births : List (Seat Player)) (rows : Rows) (seat : Seat Player) (line : OrderLine) (node : NodeState) (r : ReplicaState) (why : OrderRefusal) → IsOrdered words births rows seat line node r
       → IsBeside births rows seat (Told line) (group_of_order line.order) (ordered_row node.draws line (r, [])) → untaken node.draws line r ≡ Some why → KeepsStage births rows seat (Told line)

@@ -32,7 +32,7 @@ use Rattle.sc_sound.specs.Players.{Player, player_table, births, as_nodes}
 use Rattle.sc_calm_law.specs.Charts.{players}
 use Rattle.sc_calm_law.specs.Totals.{Rows}
 use Rattle.sc_calm_orders_law.specs.Scenes.{Turn, First, Lone, Next, is_watch, Unbound, Asking, Question, Reply, Work, Opens, Answers, Records, Ends}
-use Rattle.sc_calm_orders_law.specs.Stages.{bound_by, IsOrder, IsUnderWay}
+use Rattle.sc_calm_orders_law.specs.Stages.{bound_by, IsOrder, Stage, IsAt, IsUnderWay}
 use Rattle.sc_calm_orders_law.specs.Rows.{results}
 use Rattle.sc_calm_orders_law.specs.Parts.{bond_of, works, errand_by}
 use Rattle.sc_calm_orders_law.specs.Running.{IsIdle, FliesLone}
@@ -40,7 +40,7 @@ use Rattle.sc_calm_orders_law.specs.Tables.{IsUnbound, Works}
 use Rattle.sc_calm_rows_law.specs.Groups.{view_at}
 use Rattle.sc_calm_rows_law.specs.Turns.{IsSeat, with_event, IsWholeState}
 use Rattle.sc_calm_scenes_law.specs.Counted.{IsEntry, StaysIn, IsOrdered}
-use Rattle.sc_calm_scenes_law.specs.Kept.{KeepsStage, IsBeside}
+use Rattle.sc_calm_scenes_law.specs.Kept.{IsBeside, StageAfter}
 use Rattle.sc_calm_scenes_law.specs.Making.{MayJoin}
 use Rattle.sc_calm_scenes_law.specs.Quiet.{GoesToActor, HasNothing}
 use Rattle.sc_calm_scenes_law.specs.Scenes.{scene_at, errand_taken}
@@ -181,11 +181,17 @@ pub record FindsOrder (words : ℕ → ℕ → ℕ × ℕ) (births : List (Seat 
       → NodeFinds births rows seat number mail group mail.body
   pub told : (line : OrderLine) (node : NodeState) (r : ReplicaState) → event ≡ Told line → IsOrdered words births rows seat line node r → FindsQuiet words births rows seat line node r
 
--- A row that finds this keeps an order under way.
+-- A row that finds this leaves the stage that stands, or is a step of its group to the next one.
+abbrev pub FoundOrdersStep : Type 0
+FoundOrdersStep =
+    (words : ℕ → ℕ → ℕ × ℕ) (births : List (Seat Player)) (rows : Rows) (seat : Seat Player) (event : Event OrderLine) → IsSeat births seat → AreInTime (players words births) (with_event rows seat event)
+    → FindsOrder words births rows seat event → (stage : Stage) → IsAt stage (scene_at births rows) → StageAfter births rows seat event stage
+
+-- So it keeps an order under way.
 abbrev pub FoundOrdersKeep : Type 0
 FoundOrdersKeep =
     (words : ℕ → ℕ → ℕ × ℕ) (births : List (Seat Player)) (rows : Rows) (seat : Seat Player) (event : Event OrderLine) → IsSeat births seat → AreInTime (players words births) (with_event rows seat event)
-    → FindsOrder words births rows seat event → KeepsStage births rows seat event
+    → FindsOrder words births rows seat event → IsUnderWay (scene_at births rows) → IsUnderWay (scene_at births (with_event rows seat event))
 
 -- So an order stays under way through a journal of a bounded scenario that comes in time, each of whose rows finds this.
 abbrev pub FoundOrdersGoThrough : Type 0

@@ -1,5 +1,5 @@
 -- That an order stays under way, row by row: which mail its leader takes, and which comes to one that does not lead.
-use Rattle.std.specs.Prelude.{◌≡◌, ℕ, true, false, List, [], Option, Some, None}
+use Rattle.std.specs.Prelude.{◌≡◌, ℕ, true, false, List, [], Option, Some, None, ◌⊎◌}
 use Rattle.sc_base.specs.Among.{Each}
 use Rattle.sc_base.specs.declared.names.Ballot.{Ballot}
 use Rattle.sc_base.specs.declared.names.Draw.{Draw}
@@ -16,15 +16,17 @@ use Rattle.sc_mail.specs.declared.bodies.Mail.{Mail}
 use Rattle.sc_mail.specs.declared.bodies.MailBody.TheVariants.{Accept, Prepare, Promise, Nack, Learn, Install, TxPrepare, TxVote, TxOutcome, TxElsewhere, TxWatch, TxWatched}
 use Rattle.sc_actor.specs.declared.actors.Seat.{Seat}
 use Rattle.sc_actor.specs.declared.rows.Event.{Event}
-use Rattle.sc_actor.specs.declared.rows.Event.TheVariants.{Deliver}
-use Rattle.sc_node_table.specs.Node.{NodeState, replica_of}
+use Rattle.sc_actor.specs.declared.rows.Event.TheVariants.{Deliver, Tick, Go, Told, Crash, Drop, Again}
+use Rattle.sc_actor.specs.Mail.{mails, numbered}
+use Rattle.sc_node_table.specs.Node.{NodeState, replica_of, group_of_mail, group_of_order}
 use Rattle.sc_node_table.specs.Replica.{ReplicaState, Place, settled, listed}
 use Rattle.sc_node_table.specs.Rows.{mailed}
 use Rattle.sc_node_table.specs.Transactions.{standing_vote, noted_outcome}
 use Rattle.sc_sound.specs.Players.{Player}
 use Rattle.sc_calm_law.specs.Totals.{Rows}
 use Rattle.sc_calm_orders_law.specs.Scenes.{Turn, is_watch, Asking, Bound, Work}
-use Rattle.sc_calm_orders_law.specs.Stages.{IsUnderWay}
+use Rattle.sc_calm_orders_law.specs.Stages.{Stage, Still, IsAt, IsUnderWay}
+use Rattle.sc_calm_orders_law.specs.Follows.{IsStepOf}
 use Rattle.sc_calm_orders_law.specs.Parts.{bond_of, works}
 use Rattle.sc_calm_orders_law.specs.Running.{IsIdle}
 use Rattle.sc_calm_orders_law.specs.Tables.{IsUnbound, MayFile}
@@ -34,9 +36,40 @@ use Rattle.sc_calm_scenes_law.specs.Turns.{LeadsAlone}
 use Rattle.sc_calm_scenes_law.specs.Kinds.{IsUnled}
 use Rattle.sc_calm_scenes_law.specs.Taken.{MayBear, IsTaking}
 
--- an order that is under way before a row is so after it
+-- an event, where these were sent before it, is one of a group: it delivers a mail of it, or tells it an order
+abbrev pub IsEventOf : List Mail → Event OrderLine → Draw → Type 0
+IsEventOf sent (Deliver number) group = (mail : Mail) × (numbered sent number ≡ Some mail) × (group_of_mail mail.body ≡ Some group)
+IsEventOf sent (Told line) group = group_of_order line.order ≡ group
+IsEventOf sent Tick group = ⊥
+IsEventOf sent Go group = ⊥
+IsEventOf sent Crash group = ⊥
+IsEventOf sent (Drop mail) group = ⊥
+IsEventOf sent (Again mail) group = ⊥
+
+-- an order is told
+abbrev pub IsTelling : Event OrderLine → Type 0
+IsTelling (Told line) = Unit {0}
+IsTelling (Deliver number) = ⊥
+IsTelling Tick = ⊥
+IsTelling Go = ⊥
+IsTelling Crash = ⊥
+IsTelling (Drop mail) = ⊥
+IsTelling (Again mail) = ⊥
+
+-- from this stage a row goes to another by a step of its group; and only an order leads on from where nothing is under way
+pub record GoesBy (rows : Rows) (event : Event OrderLine) (stage later : Stage) : Type 0 where
+  pub group : Draw
+  pub step : IsStepOf group stage later
+  pub of : IsEventOf (mails rows) event group
+  pub begins : stage ≡ Still → IsTelling event
+
+-- the stage that stands after a row is that before it, or such a one
+abbrev pub StageAfter : List (Seat Player) → Rows → Seat Player → Event OrderLine → Stage → Type 0
+StageAfter births rows seat event stage = (later : Stage) × IsAt later (scene_at births (with_event rows seat event)) × ((later ≡ stage) ⊎ GoesBy rows event stage later)
+
+-- an order that is under way before a row is so after it, at that stage or one that follows
 abbrev pub KeepsStage : List (Seat Player) → Rows → Seat Player → Event OrderLine → Type 0
-KeepsStage births rows seat event = IsUnderWay (scene_at births rows) → IsUnderWay (scene_at births (with_event rows seat event))
+KeepsStage births rows seat event = (under : IsUnderWay (scene_at births rows)) → StageAfter births rows seat event under.0
 
 -- a mail comes to a node with a replica of its group, and the children that the row makes may be made
 pub record ComesTo (words : ℕ → ℕ → ℕ × ℕ) (births : List (Seat Player)) (rows : Rows) (seat : Seat Player) (number : ℕ) (mail : Mail) (group : Draw) (r : ReplicaState) : Type 0 where

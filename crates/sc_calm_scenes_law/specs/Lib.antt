@@ -3,6 +3,7 @@ pub mod Begun
 pub mod Counted
 pub mod Fitting
 pub mod Found
+pub mod Fresh
 pub mod Kept
 pub mod Kinds
 pub mod Making

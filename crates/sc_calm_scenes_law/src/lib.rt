@@ -6,7 +6,8 @@ ghost use Rattle.sc_calm_scenes_law.specs.Asked.{AnswersReachLeaders, AskedKeep}
 ghost use Rattle.sc_calm_scenes_law.specs.Begun.{ScenariosBeginStill};
 ghost use Rattle.sc_calm_scenes_law.specs.Counted.{OrdersKeep, VotesKeep};
 ghost use Rattle.sc_calm_scenes_law.specs.Fitting.{EntriesFit};
-ghost use Rattle.sc_calm_scenes_law.specs.Found.{FoundOrdersGoThrough, FoundOrdersKeep};
+ghost use Rattle.sc_calm_scenes_law.specs.Found.{FoundOrdersGoThrough, FoundOrdersKeep, FoundOrdersStep};
+ghost use Rattle.sc_calm_scenes_law.specs.Fresh.{FreshGroupsStay};
 ghost use Rattle.sc_calm_scenes_law.specs.Kept.{AsidesKeep, LeadersKeep};
 ghost use Rattle.sc_calm_scenes_law.specs.Kinds.{AsidesAre, AsidesStay, EntriesAre, LeadersAre};
 ghost use Rattle.sc_calm_scenes_law.specs.Making.{StatesKeep};
@@ -139,7 +140,12 @@ pub fn answers_reach_leaders()
 {}
 
 /// A row that finds what `FindsOrder` says, by the mail that it takes or the order that it tells,
-/// keeps an order under way.
+/// leaves the stage of an order, or is a step of its group to one that follows.
+pub fn found_orders_step()
+    ensures { FoundOrdersStep }
+{}
+
+/// So it keeps an order under way.
 pub fn found_orders_keep()
     ensures { FoundOrdersKeep }
 {}
@@ -148,4 +154,12 @@ pub fn found_orders_keep()
 /// of its rows finds that.
 pub fn found_orders_go_through()
     ensures { FoundOrdersGoThrough }
+{}
+
+/// A group that an order has not touched so far has the replicas that it had in the quiet before
+/// the order, no mail of its agreement is under way, and what it is delivered is an errand. The
+/// groups that have a part in the order were there in that quiet, and one that is asked, and has
+/// not taken the question, is untouched.
+pub fn fresh_groups_stay()
+    ensures { FreshGroupsStay }
 {}

@@ -1,4 +1,4 @@
-use Rattle.sc_calm_orders_law.proofs.Told.{orders-begin}
+use Rattle.sc_calm_orders_law.proofs.Following.{orders-begin}
 use Rattle.sc_calm_orders_law.proofs.orders_begin_alone.Goals as goal
 
 pub returns : goal.returns

@@ -1,4 +1,4 @@
-use Rattle.sc_calm_orders_law.proofs.Questions.{files-keep}
+use Rattle.sc_calm_orders_law.proofs.Following.{files-keep}
 use Rattle.sc_calm_orders_law.proofs.takings_keep_orders.Goals as goal
 
 pub returns : goal.returns
