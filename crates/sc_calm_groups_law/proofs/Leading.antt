@@ -39,9 +39,11 @@ use Rattle.sc_calm_rows_law.specs.Turns.{with_event, IsReplicasRow}
 use Rattle.sc_calm_rows_law.proofs.Leading.{steps_lead}
 use Rattle.sc_calm_rows_law.proofs.Scenes.{aside_mark, told_is, leads_here, named, row_to, taken}
 use Rattle.sc_calm_rows_law.proofs.Turning.{found_name, rows_replicas}
-use Rattle.sc_calm_groups_law.specs.Led.{Ends, IsLedOn}
+use Rattle.sc_calm_groups_law.specs.Kinds.{RowLeads, IsLedStep}
+use Rattle.sc_calm_groups_law.specs.Led.{Ends}
 use Rattle.sc_calm_groups_law.specs.Logged.{IsOfLog, CountsTo}
 use Rattle.sc_calm_groups_law.specs.Mailed.{IsLedScene, LeadersKeepLed}
+use Rattle.sc_calm_groups_law.specs.Rows.{LeadsWell}
 use Rattle.sc_calm_groups_law.proofs.Mails.{scene, stage}
 use Rattle.sc_calm_groups_law.proofs.Rows.{rows_keep_led}
 
@@ -93,19 +95,23 @@ module _ (at : Sets) (over : Ends) (by : Tellers) (words : ℕ → ℕ → ℕ �
           ]);
     }
 
-    leads_on : IsLedOn at over by words births (with_event rows seat event) base
-    leads_on = (
-      led_course led.bound course after.0,
-      rows_keep_led.leads at over by words births rows seat event base course r after (stage at over by words births rows seat node base course s event timely) row (record {
-        led = led;
-        last = last;
-        counts = counted;
-        low = subst (λ n. AsksLow n after.1) own_name low;
-        orderly = orderly;
-        ends = logs.ends;
-        rests = logs.rests;
-      }),
-    )
+    well : LeadsWell at over by births rows seat event base course after
+    well = record {
+      led = led;
+      last = last;
+      counts = counted;
+      low = subst (λ n. AsksLow n after.1) own_name low;
+      orderly = orderly;
+      ends = logs.ends;
+      rests = logs.rests;
+    }
+
+    leads_on : IsLedStep at over by words births rows seat event base course
+    leads_on = record {
+      later = led_course well.led.bound course after.0;
+      led = rows_keep_led.leads at over by words births rows seat event base course r after (stage at over by words births rows seat node base course s event timely) row well;
+      row = RowLeads r after row runs counts well refl;
+    }
 
   -- ---- each mail
 
@@ -117,7 +123,7 @@ module _ (at : Sets) (over : Ends) (by : Tellers) (words : ℕ → ℕ → ℕ �
     ordered_r was = s.led.orderly seat.who r was runs
 
     counts_vote : (ballot : Ballot) (slot : ℕ) → mail.body ≡ Accepted name ballot slot → DecidesNext at mail.from ballot slot r → IsOfLog at over (mailed mail.from mail.body (r, [])).0.0 → CountsTo by r (mailed mail.from mail.body (r, [])).0.0 seat.who
-        → IsLedOn at over by words births (with_event rows seat (Deliver number)) base
+        → IsLedStep at over by words births rows seat (Deliver number) base course
     counts_vote ballot slot body decides logs counts =
         let mark = Votes mail.from ballot slot in
         let is : mark_of name mail.from mail.body ≡ Some mark = ap (mark_of name mail.from) body ∙ same_mark name mark in
@@ -133,7 +139,7 @@ module _ (at : Sets) (over : Ends) (by : Tellers) (words : ℕ → ℕ → ℕ �
         (subst (λ b. IsOfLog at over (mailed mail.from b (r, [])).0.0) own logs) (subst (λ b. CountsTo by r (mailed mail.from b (r, [])).0.0 seat.who) own counts)
 
     counts_promise : (ballot : Ballot) → mail.body ≡ Promise name ballot [] → IsOfLog at over (mailed mail.from mail.body (r, [])).0.0 → CountsTo by r (mailed mail.from mail.body (r, [])).0.0 seat.who
-        → IsLedOn at over by words births (with_event rows seat (Deliver number)) base
+        → IsLedStep at over by words births rows seat (Deliver number) base course
     counts_promise ballot body logs counts =
         let mark = Promises mail.from ballot in
         let is : mark_of name mail.from mail.body ≡ Some mark = ap (mark_of name mail.from) body ∙ same_mark name mark in
@@ -148,7 +154,7 @@ module _ (at : Sets) (over : Ends) (by : Tellers) (words : ℕ → ℕ → ℕ �
         (subst (λ b. IsOfLog at over (mailed mail.from b (r, [])).0.0) own logs) (subst (λ b. CountsTo by r (mailed mail.from b (r, [])).0.0 seat.who) own counts)
 
     takes_aside : group_of_mail mail.body ≡ Some name → IsAside r mail.body → IsOfLog at over (mailed mail.from mail.body (r, [])).0.0 → CountsTo by r (mailed mail.from mail.body (r, [])).0.0 seat.who
-        → IsLedOn at over by words births (with_event rows seat (Deliver number)) base
+        → IsLedStep at over by words births rows seat (Deliver number) base course
     takes_aside group aside logs counts =
         let row = row_to at words births rows seat node base course the_scene number mail takes r has mail.from mail.body refl refl group in
         let after = (mailed mail.from mail.body (r, [])).0 in
@@ -160,7 +166,7 @@ module _ (at : Sets) (over : Ends) (by : Tellers) (words : ℕ → ℕ → ℕ �
         (rows_ask_next.asides at now mail.from mail.body r leads aside) (λ on. order_is_kept.asides at now mail.from mail.body r leads aside old) logs counts
 
   ordered : (line : OrderLine) (r : ReplicaState) → AreInTime (players words births) (with_event rows seat (Told line)) → HoldsReplica seat node base r → group_of_order line.order ≡ name → r.running ≡ true
-      → IsOfLog at over (ordered_row node.draws line (r, [])).0 → CountsTo by r (ordered_row node.draws line (r, [])).0 seat.who → IsLedOn at over by words births (with_event rows seat (Told line)) base
+      → IsOfLog at over (ordered_row node.draws line (r, [])).0 → CountsTo by r (ordered_row node.draws line (r, [])).0 seat.who → IsLedStep at over by words births rows seat (Told line) base course
   ordered line r timely has group runs logs counts =
       let after : Place = ordered_row node.draws line (r, []) in
       let here : replica_of (group_of_order line.order) node.replicas ≡ Some r = ap (λ n. replica_of n node.replicas) group ∙ has.here in

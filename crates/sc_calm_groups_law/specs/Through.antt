@@ -36,6 +36,7 @@ use Rattle.sc_calm_rows_law.specs.Groups.{view_at}
 use Rattle.sc_calm_rows_law.specs.Senders.{PlaysAlone}
 use Rattle.sc_calm_rows_law.specs.Turns.{IsSeat, with_event, made_children, AreAsBegun}
 use Rattle.sc_calm_rows_law.specs.WellKept.{IsWellKeptNode}
+use Rattle.sc_calm_groups_law.specs.Kinds.{IsLedStep}
 use Rattle.sc_calm_groups_law.specs.Led.{Ends, IsWellLed, IsLedOn}
 use Rattle.sc_calm_groups_law.specs.Logged.{IsOfLog, HasRounds, IsLogsState, CountsTo, IsLogOf}
 
@@ -99,7 +100,14 @@ pub record IsSentSo (births : List (Seat Player)) (journal : Rows) (base : Base)
   pub nacks : (rows : Rows) (seat : Seat Player) (number : ℕ) (mail : Mail) (promised : Ballot) (r : ReplicaState) → Delivers journal rows seat number mail → mail.body ≡ Nack base.core.id promised
       → view_at births rows base.core.id seat.who ≡ Some r → GoesOn promised r
 
--- So each event of a player in such a journal keeps the group well led ..
+-- So each event of a player in such a journal is a row of the group, which leaves it well led ..
+abbrev pub EventsGoOn : Type 0
+EventsGoOn =
+    (at : Sets) (over : Ends) (by : Tellers) (words : ℕ → ℕ → ℕ × ℕ) (births : List (Seat Player)) (journal : Rows) (base : Base) → AreWellBorn births → HasOneLog at over by births journal base → IsSentSo births journal base
+    → (rows : Rows) (seat : Seat Player) (event : Event OrderLine) (course : Course) → IsRowOf journal rows seat event → IsSeat births seat → IsCalmEvent (players words births) rows seat.who event
+    → AreInTime (players words births) (with_event rows seat event) → IsWellLed at over by words births rows base course → IsLedStep at over by words births rows seat event base course
+
+-- .. in some course ..
 abbrev pub EventsKeepLed : Type 0
 EventsKeepLed =
     (at : Sets) (over : Ends) (by : Tellers) (words : ℕ → ℕ → ℕ × ℕ) (births : List (Seat Player)) (journal : Rows) (base : Base) → AreWellBorn births → HasOneLog at over by births journal base → IsSentSo births journal base
