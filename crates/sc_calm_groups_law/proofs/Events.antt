@@ -45,7 +45,7 @@ use Rattle.sc_calm_rows_law.proofs.Viewing.{view_was}
 use Rattle.sc_calm_rows_law.proofs.WellNodes.{Plays, Found, found_well, replay_well}
 use Rattle.sc_calm_groups_law.specs.Kinds.{IsLedStep}
 use Rattle.sc_calm_groups_law.specs.Led.{Ends, IsWellLed}
-use Rattle.sc_calm_groups_law.specs.Logged.{IsOfLog, CountsTo}
+use Rattle.sc_calm_groups_law.specs.Logged.{IsOfLog, CountsAsMember}
 use Rattle.sc_calm_groups_law.specs.Mailed.{IsLedScene}
 use Rattle.sc_calm_groups_law.specs.Through.{IsWellPlayer, AreWellBorn, IsRowOf, Delivers, HasOneLog, IsSentSo, EventsGoOn, EventsKeepLed}
 use Rattle.sc_calm_groups_law.proofs.Leading.{leaders_keep_led}
@@ -102,7 +102,7 @@ module _ (at : Sets) (over : Ends) (by : Tellers) (words : ℕ → ℕ → ℕ �
       logs : IsOfLog at over after
       logs = one.states (with_event rows seat event) row.more seat.who after row.is then_
 
-      counts : r.running ≡ true → CountsTo by r after seat.who
+      counts : r.running ≡ true → CountsAsMember at by r after seat.who
       counts runs = one.counted rows seat event r after row (view_of r here) runs then_
 
     -- ---- a mail
@@ -145,7 +145,7 @@ module _ (at : Sets) (over : Ends) (by : Tellers) (words : ℕ → ℕ → ℕ �
           logs_ : IsOfLog at over after
           logs_ = logs (Deliver number) d.row r after here row_.is
 
-          counts_ : r.running ≡ true → CountsTo by r after seat.who
+          counts_ : r.running ≡ true → CountsAsMember at by r after seat.who
           counts_ = counts (Deliver number) d.row r after here row_.is
 
           aside : IsAside r mail.body → Led
@@ -181,7 +181,8 @@ module _ (at : Sets) (over : Ends) (by : Tellers) (words : ℕ → ℕ → ℕ �
           by_body (Accepted g ballot slot) e =
               let body : mail.body ≡ Accepted name ballot slot = e ∙ ap (λ n. Accepted n ballot slot) (some_is g name (sym (ap group_of_mail e) ∙ group)) in
               elim (cases_Bool r.running) [
-                | inl runs ↦ leaders_keep_led.vote at over by words births rows seat number mail node base course r ballot slot s takes has body runs (one.decided rows seat number mail ballot slot r d body (view_of r here) runs) logs_ (counts_ runs)
+                | inl runs ↦ leaders_keep_led.vote at over by words births rows seat number mail node base course r ballot slot s takes has body runs (one.decided rows seat number mail ballot slot r d body (view_of r here) runs)
+                    (one.rests rows seat number mail ballot slot r d body (view_of r here) runs (was.followed.given.gives seat.who r (view_of r here) runs).0.led.stands) logs_ (counts_ runs)
                 | inr off ↦ mails_keep_led.vote at over by words births rows seat number mail node base course r ballot slot s takes has body off
               ]
           by_body (Promise g ballot reports) e =

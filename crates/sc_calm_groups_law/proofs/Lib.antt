@@ -3,6 +3,7 @@ pub mod BornWell
 pub mod Clearing
 pub mod Dating
 pub mod Events
+pub mod Executing
 pub mod Keeping
 pub mod Leading
 pub mod Learns

@@ -30,7 +30,7 @@ use Rattle.sc_calm_rows_law.specs.Mailed.{TakesMail, HoldsReplica}
 use Rattle.sc_calm_rows_law.specs.Turns.{IsSeat, with_event, LeavesAlone, LeavesOrBears}
 use Rattle.sc_calm_groups_law.specs.Kinds.{IsLedStep}
 use Rattle.sc_calm_groups_law.specs.Led.{Ends, IsWellLed}
-use Rattle.sc_calm_groups_law.specs.Logged.{IsOfLog, HasRounds, IsLogsState, CountsTo, IsLogOf}
+use Rattle.sc_calm_groups_law.specs.Logged.{IsOfLog, HasRounds, IsLogsState, RestsBy, CountsAsMember, IsLogOf}
 
 -- some players after some rows, one of whom is a node with this value, and a group that is well led in this course
 pub record IsLedScene (at : Sets) (over : Ends) (by : Tellers) (words : ℕ → ℕ → ℕ × ℕ) (births : List (Seat Player)) (rows : Rows) (seat : Seat Player) (node : NodeState) (base : Base) (course : Course) : Type 0 where
@@ -74,24 +74,24 @@ pub record MailsKeepLed : Type 0 where
       → IsLedScene at over by words births rows seat node base course → AreInTime (players words births) (with_event rows seat (Told line)) → HoldsReplica seat node base r → group_of_order line.order ≡ base.core.id → r.running ≡ false
       → IsLedStep at over by words births rows seat (Told line) base course
 
--- What its leader takes keeps it so, in the course after it, where its replica is the log's then, and counted the entries that it executed ..
+-- What its leader takes keeps it so, in the course after it, where its replica is the log's then, and counted the entries that it executed, of a group that stood ..
 pub record LeadersKeepLed : Type 0 where
   -- .. a vote: where it decides the next slot, the entries from it on that are ready come one after another
   pub vote : (at : Sets) (over : Ends) (by : Tellers) (words : ℕ → ℕ → ℕ × ℕ) (births : List (Seat Player)) (rows : Rows) (seat : Seat Player) (number : ℕ) (mail : Mail) (node : NodeState) (base : Base) (course : Course) (r : ReplicaState) (ballot : Ballot) (slot : ℕ)
       → IsLedScene at over by words births rows seat node base course → TakesMail words births rows seat number mail → HoldsReplica seat node base r → mail.body ≡ Accepted base.core.id ballot slot → r.running ≡ true
-      → DecidesNext at mail.from ballot slot r → IsOfLog at over (mailed mail.from mail.body (r, [])).0.0 → CountsTo by r (mailed mail.from mail.body (r, [])).0.0 seat.who → IsLedStep at over by words births rows seat (Deliver number) base course
+      → DecidesNext at mail.from ballot slot r → RestsBy over (mailed mail.from mail.body (r, [])).0.0 → IsOfLog at over (mailed mail.from mail.body (r, [])).0.0 → CountsAsMember at by r (mailed mail.from mail.body (r, [])).0.0 seat.who → IsLedStep at over by words births rows seat (Deliver number) base course
   -- .. a promise, with no reports
   pub promise : (at : Sets) (over : Ends) (by : Tellers) (words : ℕ → ℕ → ℕ × ℕ) (births : List (Seat Player)) (rows : Rows) (seat : Seat Player) (number : ℕ) (mail : Mail) (node : NodeState) (base : Base) (course : Course) (r : ReplicaState) (ballot : Ballot)
       → IsLedScene at over by words births rows seat node base course → TakesMail words births rows seat number mail → HoldsReplica seat node base r → mail.body ≡ Promise base.core.id ballot [] → r.running ≡ true
-      → IsOfLog at over (mailed mail.from mail.body (r, [])).0.0 → CountsTo by r (mailed mail.from mail.body (r, [])).0.0 seat.who → IsLedStep at over by words births rows seat (Deliver number) base course
+      → IsOfLog at over (mailed mail.from mail.body (r, [])).0.0 → CountsAsMember at by r (mailed mail.from mail.body (r, [])).0.0 seat.who → IsLedStep at over by words births rows seat (Deliver number) base course
   -- .. mail that is no part of the agreement
   pub aside : (at : Sets) (over : Ends) (by : Tellers) (words : ℕ → ℕ → ℕ × ℕ) (births : List (Seat Player)) (rows : Rows) (seat : Seat Player) (number : ℕ) (mail : Mail) (node : NodeState) (base : Base) (course : Course) (r : ReplicaState)
       → IsLedScene at over by words births rows seat node base course → TakesMail words births rows seat number mail → HoldsReplica seat node base r → group_of_mail mail.body ≡ Some base.core.id → IsAside r mail.body → r.running ≡ true
-      → IsOfLog at over (mailed mail.from mail.body (r, [])).0.0 → CountsTo by r (mailed mail.from mail.body (r, [])).0.0 seat.who → IsLedStep at over by words births rows seat (Deliver number) base course
+      → IsOfLog at over (mailed mail.from mail.body (r, [])).0.0 → CountsAsMember at by r (mailed mail.from mail.body (r, [])).0.0 seat.who → IsLedStep at over by words births rows seat (Deliver number) base course
   -- .. and an order
   pub order : (at : Sets) (over : Ends) (by : Tellers) (words : ℕ → ℕ → ℕ × ℕ) (births : List (Seat Player)) (rows : Rows) (seat : Seat Player) (line : OrderLine) (node : NodeState) (base : Base) (course : Course) (r : ReplicaState)
       → IsLedScene at over by words births rows seat node base course → AreInTime (players words births) (with_event rows seat (Told line)) → HoldsReplica seat node base r → group_of_order line.order ≡ base.core.id → r.running ≡ true
-      → IsOfLog at over (ordered_row node.draws line (r, [])).0 → CountsTo by r (ordered_row node.draws line (r, [])).0 seat.who → IsLedStep at over by words births rows seat (Told line) base course
+      → IsOfLog at over (ordered_row node.draws line (r, [])).0 → CountsAsMember at by r (ordered_row node.draws line (r, [])).0 seat.who → IsLedStep at over by words births rows seat (Told line) base course
 
 -- An event that does nothing in it does too, also where it makes a replica at the group's birth.
 pub record OthersKeepLed : Type 0 where
