@@ -1,6 +1,7 @@
 -- What the leader of a group takes leaves the group well led, in the course after it.
 use Rattle.std.proofs.Common.{◌≡◌, ℕ, suc, ◌+◌, ◌-◌, ◌<◌, ◌≤◌, true, false, true≢false, List, [], Option, Some, None, ◌⊎◌, inl, inr, refl, sym, ◌∙◌, ap, subst, arith}
 use Rattle.std.proofs.lemmas.Bool.{cases_eq, cases_lt}
+use Rattle.sc_base.specs.Among.{Each}
 use Rattle.sc_base.specs.declared.names.Ballot.{Ballot}
 use Rattle.sc_base.specs.declared.names.Draw.{Draw}
 use Rattle.sc_cmd.specs.declared.cores.Base.{Base}
@@ -44,10 +45,11 @@ use Rattle.sc_calm_groups_law.specs.Kinds.{RowLeads, IsLedStep}
 use Rattle.sc_calm_groups_law.specs.Led.{Ends}
 use Rattle.sc_calm_groups_law.specs.Logged.{IsOfLog, RestsBy, CountsTo, CountsAsMember}
 use Rattle.sc_calm_groups_law.specs.Mailed.{IsLedScene, LeadersKeepLed}
-use Rattle.sc_calm_groups_law.specs.Rows.{LeadsWell}
+use Rattle.sc_calm_groups_law.specs.Rows.{IsStateFrom, LeadsWell}
 use Rattle.sc_calm_groups_law.proofs.Executing.{asides_stay, orders_stay, promises_stay}
 use Rattle.sc_calm_groups_law.proofs.Mails.{scene, stage}
 use Rattle.sc_calm_groups_law.proofs.Rows.{rows_keep_led}
+use Rattle.sc_calm_groups_law.proofs.Sending.{votes_own, promises_own, asides_own, orders_own}
 
 module _ (at : Sets) (over : Ends) (by : Tellers) (words : ℕ → ℕ → ℕ × ℕ) (births : List (Seat Player)) (rows : Rows) (seat : Seat Player) (node : NodeState) (base : Base) (course : Course) (s : IsLedScene at over by words births rows seat node base course) where
   abbrev the_scene : IsScene at words births rows seat node base course
@@ -61,7 +63,7 @@ module _ (at : Sets) (over : Ends) (by : Tellers) (words : ℕ → ℕ → ℕ �
 
   -- a leader's row
   module _ (event : Event OrderLine) (timely : AreInTime (players words births) (with_event rows seat event)) (r : ReplicaState) (after : Place) (row : IsReplicasRow births rows seat event base.core.id (Some r) after) (own_name : name_of r ≡ base.core.id) (me : r.me ≡ seat.who)
-      (runs : r.running ≡ true) (into : LeadsInto at (progress_at births rows base course) (taken_mark base.core.id (mails rows) event) r after) (low : AsksLow (name_of r) after.1) (orderly : after.0.running ≡ true → IsOrderly after.0) (logs : IsOfLog at over after.0)
+      (runs : r.running ≡ true) (into : LeadsInto at (progress_at births rows base course) (taken_mark base.core.id (mails rows) event) r after) (low : AsksLow (name_of r) after.1) (states : Each (IsStateFrom (name_of r) seat.who) after.1) (orderly : after.0.running ≡ true → IsOrderly after.0) (logs : IsOfLog at over after.0)
       (rests : (next after.0 ≡ next r) ⊎ RestsBy over after.0) (counting : CountsAsMember at by r after.0 seat.who) where
     abbrev taken_it : Option Mark
     taken_it = taken_mark name (mails rows) event
@@ -122,6 +124,7 @@ module _ (at : Sets) (over : Ends) (by : Tellers) (words : ℕ → ℕ → ℕ �
       last = last;
       counts = counted;
       low = subst (λ n. AsksLow n after.1) own_name low;
+      states = subst (λ n. Each (IsStateFrom n seat.who) after.1) own_name states;
       orderly = orderly;
       ends = logs.ends;
       rests = rests_after;
@@ -156,7 +159,7 @@ module _ (at : Sets) (over : Ends) (by : Tellers) (words : ℕ → ℕ → ℕ �
         let stops = acts_stop_alone at now mail.from ballot slot r s.log.rosters leads decides (order_is_kept.alone at course r leads.led old) in
         let into = rows_lead.votes at now mail.from ballot slot r s.log.rosters leads decides stops in
         leads_on (Deliver number) takes.timely r after row own_name has.well.0 runs (subst (λ o. LeadsInto at now o r after) (sym (taken at words births rows seat node base course the_scene number mail takes mark is)) into)
-        (rows_ask_next.votes at now mail.from ballot slot r s.log.rosters leads decides) (λ on. order_is_kept.votes at now mail.from ballot slot r s.log.rosters leads decides old on)
+        (rows_ask_next.votes at now mail.from ballot slot r s.log.rosters leads decides) (votes_own at now seat.who r leads has.well.0 mail.from ballot slot s.log.rosters decides) (λ on. order_is_kept.votes at now mail.from ballot slot r s.log.rosters leads decides old on)
         (subst (λ b. IsOfLog at over (mailed mail.from b (r, [])).0.0) own logs) (inr (subst (λ b. RestsBy over (mailed mail.from b (r, [])).0.0) own rests)) (subst (λ b. CountsAsMember at by r (mailed mail.from b (r, [])).0.0 seat.who) own counts)
 
     counts_promise : (ballot : Ballot) → mail.body ≡ Promise name ballot [] → IsOfLog at over (mailed mail.from mail.body (r, [])).0.0 → CountsAsMember at by r (mailed mail.from mail.body (r, [])).0.0 seat.who
@@ -171,7 +174,7 @@ module _ (at : Sets) (over : Ends) (by : Tellers) (words : ℕ → ℕ → ℕ �
         let old = ordered_r row.was in
         let into = rows_lead.promises at now mail.from ballot [] r leads in
         leads_on (Deliver number) takes.timely r after row own_name has.well.0 runs (subst (λ o. LeadsInto at now o r after) (sym (taken at words births rows seat node base course the_scene number mail takes mark is)) into)
-        (rows_ask_next.promises at now mail.from ballot [] r leads) (λ on. order_is_kept.promises at now mail.from ballot r leads old)
+        (rows_ask_next.promises at now mail.from ballot [] r leads) (promises_own at now seat.who r leads has.well.0 mail.from ballot []) (λ on. order_is_kept.promises at now mail.from ballot r leads old)
         (subst (λ b. IsOfLog at over (mailed mail.from b (r, [])).0.0) own logs) (inl (promises_stay at now r leads mail.from ballot [])) (subst (λ b. CountsAsMember at by r (mailed mail.from b (r, [])).0.0 seat.who) own counts)
 
     takes_aside : group_of_mail mail.body ≡ Some name → IsAside r mail.body → IsOfLog at over (mailed mail.from mail.body (r, [])).0.0 → CountsAsMember at by r (mailed mail.from mail.body (r, [])).0.0 seat.who
@@ -184,7 +187,7 @@ module _ (at : Sets) (over : Ends) (by : Tellers) (words : ℕ → ℕ → ℕ �
         let old = ordered_r row.was in
         let into = rows_lead.asides at now mail.from mail.body r leads aside in
         leads_on (Deliver number) takes.timely r after row own_name has.well.0 runs (subst (λ o. LeadsInto at now o r after) (sym none) into)
-        (rows_ask_next.asides at now mail.from mail.body r leads aside) (λ on. order_is_kept.asides at now mail.from mail.body r leads aside old) logs (inl (asides_stay at now r leads mail.from mail.body aside)) counts
+        (rows_ask_next.asides at now mail.from mail.body r leads aside) (asides_own at now seat.who r leads has.well.0 mail.from mail.body aside) (λ on. order_is_kept.asides at now mail.from mail.body r leads aside old) logs (inl (asides_stay at now r leads mail.from mail.body aside)) counts
 
   ordered : (line : OrderLine) (r : ReplicaState) → AreInTime (players words births) (with_event rows seat (Told line)) → HoldsReplica seat node base r → group_of_order line.order ≡ name → r.running ≡ true
       → IsOfLog at over (ordered_row node.draws line (r, [])).0 → CountsAsMember at by r (ordered_row node.draws line (r, [])).0 seat.who → IsLedStep at over by words births rows seat (Told line) base course
@@ -197,6 +200,7 @@ module _ (at : Sets) (over : Ends) (by : Tellers) (words : ℕ → ℕ → ℕ �
       let into : LeadsInto at now None r after = subst (λ p. LeadsInto at now None r p) (told_is node line r) (rows_lead.orders at now false node.draws line r leads) in
       leads_on (Told line) timely r after row (found_name name node.replicas r has.here) has.well.0 runs into
       (subst (λ (p : Place). AsksLow (name_of r) p.1) (told_is node line r) (rows_ask_next.orders at now false node.draws line r leads))
+      (subst (λ (p : Place). Each (IsStateFrom (name_of r) seat.who) p.1) (told_is node line r) (orders_own at now seat.who r leads has.well.0 false node.draws line))
       (λ on. subst (λ (p : Place). IsOrderly p.0) (told_is node line r) (order_is_kept.orders at now false node.draws line r leads old)) logs
       (inl (subst (λ (p : Place). next p.0 ≡ next r) (told_is node line r) (orders_stay at now r leads false node.draws line))) counts
 

@@ -12,6 +12,7 @@ pub mod Others
 pub mod Resting
 pub mod Rising
 pub mod Rows
+pub mod Sending
 pub mod SlotLists
 pub mod SlotNodes
 pub mod SlotParts

@@ -38,14 +38,12 @@ use Rattle.sc_calm_groups_law.specs.Kept.{ReplicasAreKept, ScenariosAreKeptBorn}
 use Rattle.sc_calm_groups_law.specs.Kinds.{IsGroupRow, RowPasses, RowRests, RowTakes, RowMakes, RowLeads, RowElects, IsLedStep}
 use Rattle.sc_calm_groups_law.specs.Led.{Ends, IsWellLed, IsLedOn}
 use Rattle.sc_calm_groups_law.specs.Logged.{HasRounds, CountsAsMember}
+use Rattle.sc_calm_groups_law.specs.Rows.{IsStateFrom}
 use Rattle.sc_calm_groups_law.specs.Through.{IsRowOf, Delivers, HasOneLog, IsSentSo, ScenariosAreWellBorn, EventsGoOn}
+use Rattle.sc_calm_groups_law.proofs.Sending.{each_among, among_marks}
 use Rattle.sc_calm_led_law.specs.Led.{over_at, HasLeaders, LedLogsAreOne}
-use Rattle.sc_calm_led_law.specs.Tellers.{has_executed, first_to, tellers_at, AreFew, IsStateFrom, StatesAreFromActors, GroupsBeginLed, GroupsAreLed}
-use Rattle.sc_calm_led_law.proofs.Telling.{last_parts, first_hit, none_hit, teller_member, teller_first, among_marks, answers_none, offers_none, tells_within}
-
-each_among : {X : Type 0} (P : X → Type 0) (xs : List X) → ((x : X) → Among x xs → P x) → Each P xs
-each_among P [] f = tt
-each_among P (x ∷ xs) f = (f x (inl refl), each_among P xs (λ y a. f y (inr a)))
+use Rattle.sc_calm_led_law.specs.Tellers.{has_executed, first_to, tellers_at, AreFew, GroupsBeginLed, GroupsAreLed}
+use Rattle.sc_calm_led_law.proofs.Telling.{last_parts, first_hit, none_hit, teller_member, teller_first, answers_none, offers_none, tells_within}
 
 none_behind : (before : Rows) (row : Row Mail OrderLine) (more : Rows) → [] ≡ (before ++ row ∷ []) ++ more → ⊥
 none_behind [] row more e = cc
@@ -80,7 +78,7 @@ sent_so seats all rows more base e so = record {
 
 module _ (well : ScenariosAreWellBorn) (kept : ScenariosAreKeptBorn) (keeps : ReplicasAreKept) (go_on : EventsGoOn) (one_log : LedLogsAreOne) (rosters : SlotsHaveRosters) (begins : GroupsBeginLed) where
   module _ (words : ℕ → ℕ → ℕ × ℕ) (scenario : Scenario) (journal front rest : Rows) (base : Base) (group : IsGroupOf as_nodes words scenario journal base) (few : AreFew as_nodes scenario journal base) (split : journal ≡ front ++ rest)
-      (so : IsSentSo (births as_nodes scenario) front base) (own : StatesAreFromActors (births as_nodes scenario) front base) where
+      (so : IsSentSo (births as_nodes scenario) front base) where
     abbrev all : List (Seat Player)
     all = births as_nodes scenario
 
@@ -207,9 +205,6 @@ module _ (well : ScenariosAreWellBorn) (kept : ScenariosAreKeptBorn) (keeps : Re
         there : Among (Installs slot) sent_marks
         there = among_marks name row.sent mail (Installs slot) a (ap (mark_of name mail.from) body ∙ same_mark name (Installs slot))
 
-        from_is : mail.from ≡ seat.who
-        from_is = Each-among (IsStateFrom base seat.who) row.sent mail (own rows seat event (record { more = more; is = starts }) born) a slot state sets body
-
         none_sent : sent_marks ≡ [] → ⊥
         none_sent e = subst (Among (Installs slot)) e there
 
@@ -234,7 +229,7 @@ module _ (well : ScenariosAreWellBorn) (kept : ScenariosAreKeptBorn) (keeps : Re
                   let up = l.led.leads.newest in
                   let is = (g.led.followed.given.gives seat.who r row_.was runs).0.newest in
                   let room = (few then_ (more ++ rest) seat.who after.0 in_journal row_.is).0 in
-                  (from_is ∙ sym (counts slot (omega (arith, low, is)) (omega (arith, high, up))), omega (arith, high, up, room)))
+                  (Each-among (IsStateFrom name seat.who) after.1 mail l.states (subst (Among mail) row_.sends_all a) slot state sets body ∙ sym (counts slot (omega (arith, low, is)) (omega (arith, high, up))), omega (arith, high, up, room)))
               | inr offered ↦ absurd (offers_none at (led_course l.led.bound g.course after.0) g.course.bound mail.to slot (l.led.leads.offers mail.to) (l.led.leads.asks mail.to) offered)
             ]
 
@@ -271,6 +266,6 @@ module _ (well : ScenariosAreWellBorn) (kept : ScenariosAreKeptBorn) (keeps : Re
         ((g.course, g.led), has_leaders front rest split (λ before row after e mail a. Each-among IsToldSo (mails front) mail g.sent (sent_before front before (row ∷ after) mail e a)) g.counted)
 
   pub groups_are_led : GroupsAreLed
-  groups_are_led words scenario journal front more base group timely few split so own =
-      led_through words scenario journal front more base group few split so own (λ before row after e. timely before row (after ++ more) (split ∙ (ap (λ l. l ++ more) e ∙ append_assoc before (row ∷ after) more)))
+  groups_are_led words scenario journal front more base group timely few split so =
+      led_through words scenario journal front more base group few split so (λ before row after e. timely before row (after ++ more) (split ∙ (ap (λ l. l ++ more) e ∙ append_assoc before (row ∷ after) more)))
       (begins words (tellers_at as_nodes scenario base journal) scenario journal base group)

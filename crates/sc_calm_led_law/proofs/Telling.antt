@@ -82,21 +82,6 @@ teller_first members o who is m = ap (teller_of members) is ∙ cond-true (is_me
 
 -- ---- marks of states
 
--- a mail's mark is among those for its receiver
-pub among_marks : (name : Draw) (mails : List Mail) (mail : Mail) (mark : Mark) → Among mail mails → mark_of name mail.from mail.body ≡ Some mark → Among mark (marks_for name mail.to mails)
-among_marks name [] mail mark a is = absurd a
-among_marks name (m ∷ mails) mail mark a is = by (eqb m.to mail.to) refl a (λ later. among_marks name mails mail mark later is)
-  where
-    here : m ≡ mail → Among mark (listed (mark_of name m.from m.body) ++ marks_for name mail.to mails)
-    here same = among-left mark (listed (mark_of name m.from m.body)) (marks_for name mail.to mails) (subst (λ o. Among mark (listed o)) (sym (ap (λ (x : Mail). mark_of name x.from x.body) same ∙ is)) (inl refl))
-
-    by : (b : Bool) → eqb m.to mail.to ≡ b → Among mail (m ∷ mails) → (Among mail mails → Among mark (marks_for name mail.to mails))
-        → Among mark (marks_of name (cond b (m ∷ filter (λ x. eqb x.to mail.to) mails) (filter (λ x. eqb x.to mail.to) mails)))
-    by true e (inl same) rest = here same
-    by true e (inr later) rest = among-right mark (listed (mark_of name m.from m.body)) (marks_for name mail.to mails) (rest later)
-    by false e (inl same) rest = absurd (true≢false (sym (eq-eqb m.to mail.to (ap (λ (x : Mail). x.to) same)) ∙ e))
-    by false e (inr later) rest = rest later
-
 -- one that takes a mail sends no state
 pub answers_none : (node : ℕ) (promise : Ballot) (mark : Mark) (who slot : ℕ) → Among (Installs slot) (answered node promise mark who) → ⊥
 answers_none node promise (Asks ballot s) who slot a = cond_both (eqb who ballot.node) (Votes node ballot s ∷ []) [] (λ l. Among (Installs slot) l → ⊥) (λ _ b. no_vote b) (λ _ b. absurd b) a

@@ -50,14 +50,6 @@ abbrev pub AreFew : Ahead → Scenario → Rows → Base → Type 0
 AreFew ahead scenario journal base =
     (rows more : Rows) (who : ℕ) (r : ReplicaState) → journal ≡ rows ++ more → view_at (births ahead scenario) rows base.core.id who ≡ Some r → (next r ≤ last_slot) × (r.top.round < 2 ^ 32 - 1)
 
--- each state of the group that a row sends is from the one who acts
-abbrev pub IsStateFrom : Base → ℕ → Mail → Type 0
-IsStateFrom base who mail = (slot : ℕ) (state : Base) (sets : List (List ℕ)) → mail.body ≡ Install base.core.id slot state sets → mail.from ≡ who
-
--- .. in each row of a journal
-abbrev pub StatesAreFromActors : List (Seat Player) → Rows → Base → Type 0
-StatesAreFromActors births journal base = (rows : Rows) (seat : Seat Player) (event : Event OrderLine) → IsRowOf journal rows seat event → IsSeat births seat → Each (IsStateFrom base seat.who) (row_of player_table seat rows event).sent
-
 -- Each group of a lawful journal of a valid scenario is well led at the births, whoever leads later.
 abbrev pub GroupsBeginLed : Type 0
 GroupsBeginLed = (words : ℕ → ℕ → ℕ × ℕ) (by : Tellers) (scenario : Scenario) (journal : Rows) (base : Base) → IsGroupOf as_nodes words scenario journal base
@@ -67,5 +59,5 @@ GroupsBeginLed = (words : ℕ → ℕ → ℕ × ℕ) (by : Tellers) (scenario :
 abbrev pub GroupsAreLed : Type 0
 GroupsAreLed =
     (words : ℕ → ℕ → ℕ × ℕ) (scenario : Scenario) (journal front more : Rows) (base : Base) → IsGroupOf as_nodes words scenario journal base → AreInTime (players words (births as_nodes scenario)) journal → AreFew as_nodes scenario journal base → journal ≡ front ++ more
-    → IsSentSo (births as_nodes scenario) front base → StatesAreFromActors (births as_nodes scenario) front base
+    → IsSentSo (births as_nodes scenario) front base
     → IsLedOn (logged_sets as_nodes base journal) (over_at as_nodes base journal) (tellers_at as_nodes scenario base journal) words (births as_nodes scenario) front base × HasLeaders as_nodes (tellers_at as_nodes scenario base journal) scenario journal front base
