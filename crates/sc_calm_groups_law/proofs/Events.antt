@@ -43,10 +43,11 @@ use Rattle.sc_calm_rows_law.proofs.Scenes.{fit}
 use Rattle.sc_calm_rows_law.proofs.Turning.{others_idle, rows_replicas}
 use Rattle.sc_calm_rows_law.proofs.Viewing.{view_was}
 use Rattle.sc_calm_rows_law.proofs.WellNodes.{Plays, Found, found_well, replay_well}
-use Rattle.sc_calm_groups_law.specs.Led.{Ends, IsWellLed, IsLedOn}
-use Rattle.sc_calm_groups_law.specs.Logged.{IsOfLog, CountsTo}
+use Rattle.sc_calm_groups_law.specs.Kinds.{IsLedStep}
+use Rattle.sc_calm_groups_law.specs.Led.{Ends, IsWellLed}
+use Rattle.sc_calm_groups_law.specs.Logged.{IsOfLog, CountsAsMember}
 use Rattle.sc_calm_groups_law.specs.Mailed.{IsLedScene}
-use Rattle.sc_calm_groups_law.specs.Through.{IsWellPlayer, AreWellBorn, IsRowOf, Delivers, HasOneLog, IsSentSo, EventsKeepLed}
+use Rattle.sc_calm_groups_law.specs.Through.{IsWellPlayer, AreWellBorn, IsRowOf, Delivers, HasOneLog, IsSentSo, EventsGoOn, EventsKeepLed}
 use Rattle.sc_calm_groups_law.proofs.Leading.{leaders_keep_led}
 use Rattle.sc_calm_groups_law.proofs.Mails.{scene}
 use Rattle.sc_calm_groups_law.proofs.Others.{others_keep_led, mails_keep_led}
@@ -78,8 +79,8 @@ module _ (at : Sets) (over : Ends) (by : Tellers) (words : ℕ → ℕ → ℕ �
   before_row : {event : Event OrderLine} → (row : IsRowOf journal rows seat event) → journal ≡ rows ++ (row_of player_table seat rows event ∷ row.more)
   before_row {event} row = row.is ∙ append_assoc rows (row_of player_table seat rows event ∷ []) row.more
 
-  alone : (event : Event OrderLine) → AreInTime (players words births) (with_event rows seat event) → LeavesAlone births rows seat event base → IsLedOn at over by words births (with_event rows seat event) base
-  alone event timely leaves = (course, others_keep_led.alone at over by words births rows seat event base course one.log timely was leaves)
+  alone : (event : Event OrderLine) → AreInTime (players words births) (with_event rows seat event) → LeavesAlone births rows seat event base → IsLedStep at over by words births rows seat event base course
+  alone event timely leaves = others_keep_led.alone at over by words births rows seat event base course one.log timely was leaves
 
   -- ---- a node
 
@@ -101,14 +102,14 @@ module _ (at : Sets) (over : Ends) (by : Tellers) (words : ℕ → ℕ → ℕ �
       logs : IsOfLog at over after
       logs = one.states (with_event rows seat event) row.more seat.who after row.is then_
 
-      counts : r.running ≡ true → CountsTo by r after seat.who
+      counts : r.running ≡ true → CountsAsMember at by r after seat.who
       counts runs = one.counted rows seat event r after row (view_of r here) runs then_
 
     -- ---- a mail
 
     module _ (number : ℕ) (mail : Mail) (d : Delivers journal rows seat number mail) (timely : AreInTime (players words births) (with_event rows seat (Deliver number))) where
       abbrev Led : Type 0
-      Led = IsLedOn at over by words births (with_event rows seat (Deliver number)) base
+      Led = IsLedStep at over by words births rows seat (Deliver number) base course
 
       alone_mail : LeavesAlone births rows seat (Deliver number) base → Led
       alone_mail leaves = alone (Deliver number) timely leaves
@@ -123,10 +124,7 @@ module _ (at : Sets) (over : Ends) (by : Tellers) (words : ℕ → ℕ → ℕ �
           | inl none ↦ missed here none
           | inr i ↦ elim (so.comes rows seat number mail d) [
             | inl none ↦ missed here none
-            | inr comes ↦ (
-              course,
-              mails_keep_led.made at over by words births rows seat number mail node base course i.0 i.1 i.2 s (record { timely = timely; sent = d.sent; comes = comes }) here i.3 (one.sent rows seat number mail i.0 i.1 i.2 d i.3),
-            )
+            | inr comes ↦ mails_keep_led.made at over by words births rows seat number mail node base course i.0 i.1 i.2 s (record { timely = timely; sent = d.sent; comes = comes }) plays.0 here i.3 (one.sent rows seat number mail i.0 i.1 i.2 d i.3)
           ]
         ]
 
@@ -147,13 +145,13 @@ module _ (at : Sets) (over : Ends) (by : Tellers) (words : ℕ → ℕ → ℕ �
           logs_ : IsOfLog at over after
           logs_ = logs (Deliver number) d.row r after here row_.is
 
-          counts_ : r.running ≡ true → CountsTo by r after seat.who
+          counts_ : r.running ≡ true → CountsAsMember at by r after seat.who
           counts_ = counts (Deliver number) d.row r after here row_.is
 
           aside : IsAside r mail.body → Led
           aside a = elim (cases_Bool r.running) [
             | inl runs ↦ leaders_keep_led.aside at over by words births rows seat number mail node base course r s takes has group a runs logs_ (counts_ runs)
-            | inr off ↦ (course, mails_keep_led.aside at over by words births rows seat number mail node base course r s takes has group a off)
+            | inr off ↦ mails_keep_led.aside at over by words births rows seat number mail node base course r s takes has group a off
           ]
 
           own : (b : MailBody) → mail.body ≡ b → IsOwnAsking mail.from b
@@ -167,10 +165,10 @@ module _ (at : Sets) (over : Ends) (by : Tellers) (words : ℕ → ℕ → ℕ �
           by_body : (b : MailBody) → mail.body ≡ b → Led
           by_body (Accept g ballot slot command) e =
               let body : mail.body ≡ Accept name ballot slot command = e ∙ ap (λ n. Accept n ballot slot command) (some_is g name (sym (ap group_of_mail e) ∙ group)) in
-              (course, mails_keep_led.accept at over by words births rows seat number mail node base course r ballot slot command s takes has (own (Accept g ballot slot command) e) body)
+              mails_keep_led.accept at over by words births rows seat number mail node base course r ballot slot command s takes has (own (Accept g ballot slot command) e) body
           by_body (Prepare g ballot from_slot) e =
               let body : mail.body ≡ Prepare name ballot from_slot = e ∙ ap (λ n. Prepare n ballot from_slot) (some_is g name (sym (ap group_of_mail e) ∙ group)) in
-              (course, mails_keep_led.prepare at over by words births rows seat number mail node base course r ballot from_slot s takes has (own (Prepare g ballot from_slot) e) body)
+              mails_keep_led.prepare at over by words births rows seat number mail node base course r ballot from_slot s takes has (own (Prepare g ballot from_slot) e) body
           by_body (Learn g slot command) e =
               let body : mail.body ≡ Learn name slot command = e ∙ ap (λ n. Learn n slot command) (some_is g name (sym (ap group_of_mail e) ∙ group)) in
               let marked : mark_of name mail.from mail.body ≡ Some (Tells slot) = ap (mark_of name mail.from) body ∙ same_mark name (Tells slot) in
@@ -179,18 +177,19 @@ module _ (at : Sets) (over : Ends) (by : Tellers) (words : ℕ → ℕ → ℕ �
               mails_keep_led.learn at over by words births rows seat number mail node base course r slot command s takes has body told.0 told.1 (one.rounds rows _ seat.who r (before_row d.row) (view_of r here))
           by_body (Install g slot state sets) e =
               let body : mail.body ≡ Install name slot state sets = e ∙ ap (λ n. Install n slot state sets) (some_is g name (sym (ap group_of_mail e) ∙ group)) in
-              (course, mails_keep_led.install at over by words births rows seat number mail node base course r slot state sets s takes has body (one.sent rows seat number mail slot state sets d body))
+              mails_keep_led.install at over by words births rows seat number mail node base course r slot state sets s takes has body (one.sent rows seat number mail slot state sets d body)
           by_body (Accepted g ballot slot) e =
               let body : mail.body ≡ Accepted name ballot slot = e ∙ ap (λ n. Accepted n ballot slot) (some_is g name (sym (ap group_of_mail e) ∙ group)) in
               elim (cases_Bool r.running) [
-                | inl runs ↦ leaders_keep_led.vote at over by words births rows seat number mail node base course r ballot slot s takes has body runs (one.decided rows seat number mail ballot slot r d body (view_of r here) runs) logs_ (counts_ runs)
-                | inr off ↦ (course, mails_keep_led.vote at over by words births rows seat number mail node base course r ballot slot s takes has body off)
+                | inl runs ↦ leaders_keep_led.vote at over by words births rows seat number mail node base course r ballot slot s takes has body runs (one.decided rows seat number mail ballot slot r d body (view_of r here) runs)
+                    (one.rests rows seat number mail ballot slot r d body (view_of r here) runs (was.followed.given.gives seat.who r (view_of r here) runs).0.led.stands) logs_ (counts_ runs)
+                | inr off ↦ mails_keep_led.vote at over by words births rows seat number mail node base course r ballot slot s takes has body off
               ]
           by_body (Promise g ballot reports) e =
               let body : mail.body ≡ Promise name ballot reports = e ∙ ap (λ n. Promise n ballot reports) (some_is g name (sym (ap group_of_mail e) ∙ group)) in
               elim (cases_Bool r.running) [
                 | inl runs ↦ leaders_keep_led.promise at over by words births rows seat number mail node base course r ballot s takes has (body ∙ ap (Promise name ballot) (so.plain rows seat number mail ballot reports d body)) runs logs_ (counts_ runs)
-                | inr off ↦ (course, mails_keep_led.promise at over by words births rows seat number mail node base course r ballot reports s takes has body off)
+                | inr off ↦ mails_keep_led.promise at over by words births rows seat number mail node base course r ballot reports s takes has body off
               ]
           by_body (Nack g promised) e =
               let body : mail.body ≡ Nack name promised = e ∙ ap (λ n. Nack n promised) (some_is g name (sym (ap group_of_mail e) ∙ group)) in
@@ -223,27 +222,25 @@ module _ (at : Sets) (over : Ends) (by : Tellers) (words : ℕ → ℕ → ℕ �
       by_group None e = alone_mail (others_idle.stray births rows seat number mail base node born is d.sent e)
       by_group (Some g) e = elim (cases_Bool (same_draw g name)) [
         | inl t ↦ own_mail (e ∙ ap Some (draw_is g name t)) (replica_of name node.replicas) refl
-        | inr f ↦ (let ne : g ≡ name → ⊥ = λ is_. true≢false (sym (same_name g name is_) ∙ f) in (
-          course,
-          others_keep_led.bears at over by words births rows seat (Deliver number) base course one.log timely was one.begins one.first one.stands
-              (others_idle.other births rows seat number mail base g node born is plays.0 d.sent e ne (one.born rows seat number mail node g d born is e ne)),
-        ))
+        | inr f ↦ (let ne : g ≡ name → ⊥ = λ is_. true≢false (sym (same_name g name is_) ∙ f) in
+            others_keep_led.bears at over by words births rows seat (Deliver number) base course one.log timely was one.begins one.first one.stands
+            (others_idle.other births rows seat number mail base g node born is plays.0 d.sent e ne (one.born rows seat number mail node g d born is e ne)))
       ]
 
     -- ---- an order
 
     module _ (line : OrderLine) (row : IsRowOf journal rows seat (Told line)) (timely : AreInTime (players words births) (with_event rows seat (Told line))) where
-      by_replica : (o : Option ReplicaState) → group_of_order line.order ≡ name → replica_of name node.replicas ≡ o → IsLedOn at over by words births (with_event rows seat (Told line)) base
+      by_replica : (o : Option ReplicaState) → group_of_order line.order ≡ name → replica_of name node.replicas ≡ o → IsLedStep at over by words births rows seat (Told line) base course
       by_replica None group here = alone (Told line) timely (others_idle.refused births rows seat line base node born is (ap (λ n. replica_of n node.replicas) group ∙ here))
       by_replica (Some r) group here = elim (cases_Bool r.running) [
         | inl runs ↦ (let there : replica_of (group_of_order line.order) node.replicas ≡ Some r = ap (λ n. replica_of n node.replicas) group ∙ here in
             let after = (ordered_row node.draws line (r, [])).0 in
             let row_ : IsReplicasRow births rows seat (Told line) name (Some r) (ordered_row node.draws line (r, [])) = subst (λ n. IsReplicasRow births rows seat (Told line) n (Some r) (ordered_row node.draws line (r, []))) group (rows_replicas.ordered births rows seat line node r born is there) in
             leaders_keep_led.order at over by words births rows seat line node base course r s timely (holds r here) group runs (logs (Told line) row r after here row_.is) (counts (Told line) row r after here row_.is runs))
-        | inr off ↦ (course, mails_keep_led.order at over by words births rows seat line node base course r s timely (holds r here) group off)
+        | inr off ↦ mails_keep_led.order at over by words births rows seat line node base course r s timely (holds r here) group off
       ]
 
-      ordered : IsLedOn at over by words births (with_event rows seat (Told line)) base
+      ordered : IsLedStep at over by words births rows seat (Told line) base course
       ordered = elim (cases_Bool (same_draw (group_of_order line.order) name)) [
         | inl t ↦ by_replica (replica_of name node.replicas) (draw_is (group_of_order line.order) name t) refl
         | inr f ↦ alone (Told line) timely (others_idle.ordered births rows seat line base node born is (λ is_. true≢false (sym (same_name (group_of_order line.order) name is_) ∙ f)))
@@ -252,7 +249,7 @@ module _ (at : Sets) (over : Ends) (by : Tellers) (words : ℕ → ℕ → ℕ �
   -- ---- each event
 
   by_player : (player : Player) (event : Event OrderLine) → value player_table seat rows ≡ player → IsRowOf journal rows seat event → IsCalmEvent (players words births) rows seat.who event → AreInTime (players words births) (with_event rows seat event)
-      → IsLedOn at over by words births (with_event rows seat event) base
+      → IsLedStep at over by words births rows seat event base course
   by_player (Client client) (Deliver number) is row calm timely =
       let f = takes_first (players words births) rows seat.who number (tidy (Deliver number) timely) (is_born-from (players words births) seat.who seat born) calm in
       alone (Deliver number) timely (others_idle.client births rows seat (Deliver number) base client born is (ap (mark_in name) f.sent ∙ so.clients rows seat number f.mail client (record { row = row; sent = f.sent }) born is))
@@ -272,6 +269,9 @@ module _ (at : Sets) (over : Ends) (by : Tellers) (words : ℕ → ℕ → ℕ �
   by_player (Node node) (Drop mail) is row calm timely = absurd calm
   by_player (Node node) (Again mail) is row calm timely = absurd calm
 
-pub events_keep_led : EventsKeepLed
-events_keep_led at over by words births journal base wb one so rows seat event course row born calm timely was =
+pub events_go_on : EventsGoOn
+events_go_on at over by words births journal base wb one so rows seat event course row born calm timely was =
     by_player at over by words births journal base wb one so rows seat course born was (value player_table seat rows) event refl row calm timely
+
+pub events_keep_led : EventsKeepLed
+events_keep_led at over by words births journal base wb one so rows seat event course row born calm timely was = (let step = events_go_on at over by words births journal base wb one so rows seat event course row born calm timely was in (step.later, step.led))

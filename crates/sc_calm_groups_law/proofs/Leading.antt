@@ -1,5 +1,7 @@
 -- What the leader of a group takes leaves the group well led, in the course after it.
-use Rattle.std.proofs.Common.{◌≡◌, ℕ, suc, ◌+◌, ◌<◌, ◌≤◌, true, false, true≢false, List, [], Option, Some, None, ◌⊎◌, inl, inr, refl, sym, ◌∙◌, ap, subst, arith}
+use Rattle.std.proofs.Common.{◌≡◌, ℕ, suc, ◌+◌, ◌-◌, ◌<◌, ◌≤◌, true, false, true≢false, List, [], Option, Some, None, ◌⊎◌, inl, inr, refl, sym, ◌∙◌, ap, subst, arith}
+use Rattle.std.proofs.lemmas.Bool.{cases_eq, cases_lt}
+use Rattle.sc_base.specs.Among.{Each}
 use Rattle.sc_base.specs.declared.names.Ballot.{Ballot}
 use Rattle.sc_base.specs.declared.names.Draw.{Draw}
 use Rattle.sc_cmd.specs.declared.cores.Base.{Base}
@@ -39,11 +41,15 @@ use Rattle.sc_calm_rows_law.specs.Turns.{with_event, IsReplicasRow}
 use Rattle.sc_calm_rows_law.proofs.Leading.{steps_lead}
 use Rattle.sc_calm_rows_law.proofs.Scenes.{aside_mark, told_is, leads_here, named, row_to, taken}
 use Rattle.sc_calm_rows_law.proofs.Turning.{found_name, rows_replicas}
-use Rattle.sc_calm_groups_law.specs.Led.{Ends, IsLedOn}
-use Rattle.sc_calm_groups_law.specs.Logged.{IsOfLog, CountsTo}
+use Rattle.sc_calm_groups_law.specs.Kinds.{RowLeads, IsLedStep}
+use Rattle.sc_calm_groups_law.specs.Led.{Ends}
+use Rattle.sc_calm_groups_law.specs.Logged.{IsOfLog, RestsBy, CountsTo, CountsAsMember}
 use Rattle.sc_calm_groups_law.specs.Mailed.{IsLedScene, LeadersKeepLed}
+use Rattle.sc_calm_groups_law.specs.Rows.{IsStateFrom, LeadsWell}
+use Rattle.sc_calm_groups_law.proofs.Executing.{asides_stay, orders_stay, promises_stay}
 use Rattle.sc_calm_groups_law.proofs.Mails.{scene, stage}
 use Rattle.sc_calm_groups_law.proofs.Rows.{rows_keep_led}
+use Rattle.sc_calm_groups_law.proofs.Sending.{votes_own, promises_own, asides_own, orders_own}
 
 module _ (at : Sets) (over : Ends) (by : Tellers) (words : ℕ → ℕ → ℕ × ℕ) (births : List (Seat Player)) (rows : Rows) (seat : Seat Player) (node : NodeState) (base : Base) (course : Course) (s : IsLedScene at over by words births rows seat node base course) where
   abbrev the_scene : IsScene at words births rows seat node base course
@@ -57,8 +63,8 @@ module _ (at : Sets) (over : Ends) (by : Tellers) (words : ℕ → ℕ → ℕ �
 
   -- a leader's row
   module _ (event : Event OrderLine) (timely : AreInTime (players words births) (with_event rows seat event)) (r : ReplicaState) (after : Place) (row : IsReplicasRow births rows seat event base.core.id (Some r) after) (own_name : name_of r ≡ base.core.id) (me : r.me ≡ seat.who)
-      (runs : r.running ≡ true) (into : LeadsInto at (progress_at births rows base course) (taken_mark base.core.id (mails rows) event) r after) (low : AsksLow (name_of r) after.1) (orderly : after.0.running ≡ true → IsOrderly after.0) (logs : IsOfLog at over after.0)
-      (counts : CountsTo by r after.0 seat.who) where
+      (runs : r.running ≡ true) (into : LeadsInto at (progress_at births rows base course) (taken_mark base.core.id (mails rows) event) r after) (low : AsksLow (name_of r) after.1) (states : Each (IsStateFrom (name_of r) seat.who) after.1) (orderly : after.0.running ≡ true → IsOrderly after.0) (logs : IsOfLog at over after.0)
+      (rests : (next after.0 ≡ next r) ⊎ RestsBy over after.0) (counting : CountsAsMember at by r after.0 seat.who) where
     abbrev taken_it : Option Mark
     taken_it = taken_mark name (mails rows) event
 
@@ -67,6 +73,25 @@ module _ (at : Sets) (over : Ends) (by : Tellers) (words : ℕ → ℕ → ℕ �
 
     led : LedBy at births rows seat event base course after
     led = steps_lead at births rows seat event base course r after row own_name me into
+
+    -- it is a member at each slot that it executes
+    member : (slot : ℕ) → next r ≤ slot → slot < next after.0 → is_member (members_at at slot) seat.who ≡ true
+    member slot least most = elim (cases_eq slot (next r)) [
+      | inl is ↦ subst (λ n. is_member (members_at at slot) n ≡ true) (sym lead.1)
+          (subst (λ k. is_member (members_at at k) course.ballot.node ≡ true) (lead.0.newest ∙ sym is) (s.led.followed.follows.leads lead.0.runs).member)
+      | inr ne ↦ (let up : next r < slot = past least ne in
+          subst (λ k. is_member (members_at at k) seat.who ≡ true) (omega (arith, up)) (subst (λ n. is_member (members_at at (slot - 1 + 1)) n ≡ true) me (into.stayed (slot - 1) (omega (arith, up)) (omega (arith, up, most)))))
+    ]
+      where
+        past : next r ≤ slot → (slot ≡ next r → ⊥) → next r < slot
+        past least ne = elim (cases_lt (next r) slot) [ inl lt ↦ lt | inr ge ↦ absurd (ne (omega (arith, least, ge))) ]
+
+    counts : CountsTo by r after.0 seat.who
+    counts = counting member
+
+    -- it executes nothing of a group that is gone
+    rests_after : RestsBy over after.0
+    rests_after = elim rests [ inl same ↦ (λ slot gone. (let low = s.led.rests slot gone in let is = lead.0.newest in omega (arith, low, is, same))) | inr well ↦ well ]
 
     -- it counts its entries, and nobody comes by one by which it goes
     its_own : (slot : ℕ) → course.newest ≤ slot → slot < next after.0 → by slot ≡ course.ballot.node
@@ -93,19 +118,24 @@ module _ (at : Sets) (over : Ends) (by : Tellers) (words : ℕ → ℕ → ℕ �
           ]);
     }
 
-    leads_on : IsLedOn at over by words births (with_event rows seat event) base
-    leads_on = (
-      led_course led.bound course after.0,
-      rows_keep_led.leads at over by words births rows seat event base course r after (stage at over by words births rows seat node base course s event timely) row (record {
-        led = led;
-        last = last;
-        counts = counted;
-        low = subst (λ n. AsksLow n after.1) own_name low;
-        orderly = orderly;
-        ends = logs.ends;
-        rests = logs.rests;
-      }),
-    )
+    well : LeadsWell at over by births rows seat event base course after
+    well = record {
+      led = led;
+      last = last;
+      counts = counted;
+      low = subst (λ n. AsksLow n after.1) own_name low;
+      states = subst (λ n. Each (IsStateFrom n seat.who) after.1) own_name states;
+      orderly = orderly;
+      ends = logs.ends;
+      rests = rests_after;
+    }
+
+    leads_on : IsLedStep at over by words births rows seat event base course
+    leads_on = record {
+      later = led_course well.led.bound course after.0;
+      led = rows_keep_led.leads at over by words births rows seat event base course r after (stage at over by words births rows seat node base course s event timely) row well;
+      row = RowLeads r after row runs counts well refl;
+    }
 
   -- ---- each mail
 
@@ -116,9 +146,9 @@ module _ (at : Sets) (over : Ends) (by : Tellers) (words : ℕ → ℕ → ℕ �
     ordered_r : view_at births rows name seat.who ≡ Some r → IsOrderly r
     ordered_r was = s.led.orderly seat.who r was runs
 
-    counts_vote : (ballot : Ballot) (slot : ℕ) → mail.body ≡ Accepted name ballot slot → DecidesNext at mail.from ballot slot r → IsOfLog at over (mailed mail.from mail.body (r, [])).0.0 → CountsTo by r (mailed mail.from mail.body (r, [])).0.0 seat.who
-        → IsLedOn at over by words births (with_event rows seat (Deliver number)) base
-    counts_vote ballot slot body decides logs counts =
+    counts_vote : (ballot : Ballot) (slot : ℕ) → mail.body ≡ Accepted name ballot slot → DecidesNext at mail.from ballot slot r → RestsBy over (mailed mail.from mail.body (r, [])).0.0 → IsOfLog at over (mailed mail.from mail.body (r, [])).0.0 → CountsAsMember at by r (mailed mail.from mail.body (r, [])).0.0 seat.who
+        → IsLedStep at over by words births rows seat (Deliver number) base course
+    counts_vote ballot slot body decides rests logs counts =
         let mark = Votes mail.from ballot slot in
         let is : mark_of name mail.from mail.body ≡ Some mark = ap (mark_of name mail.from) body ∙ same_mark name mark in
         let own : mail.body ≡ Accepted (name_of r) ballot slot = body ∙ ap (λ n. Accepted n ballot slot) (sym own_name) in
@@ -129,11 +159,11 @@ module _ (at : Sets) (over : Ends) (by : Tellers) (words : ℕ → ℕ → ℕ �
         let stops = acts_stop_alone at now mail.from ballot slot r s.log.rosters leads decides (order_is_kept.alone at course r leads.led old) in
         let into = rows_lead.votes at now mail.from ballot slot r s.log.rosters leads decides stops in
         leads_on (Deliver number) takes.timely r after row own_name has.well.0 runs (subst (λ o. LeadsInto at now o r after) (sym (taken at words births rows seat node base course the_scene number mail takes mark is)) into)
-        (rows_ask_next.votes at now mail.from ballot slot r s.log.rosters leads decides) (λ on. order_is_kept.votes at now mail.from ballot slot r s.log.rosters leads decides old on)
-        (subst (λ b. IsOfLog at over (mailed mail.from b (r, [])).0.0) own logs) (subst (λ b. CountsTo by r (mailed mail.from b (r, [])).0.0 seat.who) own counts)
+        (rows_ask_next.votes at now mail.from ballot slot r s.log.rosters leads decides) (votes_own at now seat.who r leads has.well.0 mail.from ballot slot s.log.rosters decides) (λ on. order_is_kept.votes at now mail.from ballot slot r s.log.rosters leads decides old on)
+        (subst (λ b. IsOfLog at over (mailed mail.from b (r, [])).0.0) own logs) (inr (subst (λ b. RestsBy over (mailed mail.from b (r, [])).0.0) own rests)) (subst (λ b. CountsAsMember at by r (mailed mail.from b (r, [])).0.0 seat.who) own counts)
 
-    counts_promise : (ballot : Ballot) → mail.body ≡ Promise name ballot [] → IsOfLog at over (mailed mail.from mail.body (r, [])).0.0 → CountsTo by r (mailed mail.from mail.body (r, [])).0.0 seat.who
-        → IsLedOn at over by words births (with_event rows seat (Deliver number)) base
+    counts_promise : (ballot : Ballot) → mail.body ≡ Promise name ballot [] → IsOfLog at over (mailed mail.from mail.body (r, [])).0.0 → CountsAsMember at by r (mailed mail.from mail.body (r, [])).0.0 seat.who
+        → IsLedStep at over by words births rows seat (Deliver number) base course
     counts_promise ballot body logs counts =
         let mark = Promises mail.from ballot in
         let is : mark_of name mail.from mail.body ≡ Some mark = ap (mark_of name mail.from) body ∙ same_mark name mark in
@@ -144,11 +174,11 @@ module _ (at : Sets) (over : Ends) (by : Tellers) (words : ℕ → ℕ → ℕ �
         let old = ordered_r row.was in
         let into = rows_lead.promises at now mail.from ballot [] r leads in
         leads_on (Deliver number) takes.timely r after row own_name has.well.0 runs (subst (λ o. LeadsInto at now o r after) (sym (taken at words births rows seat node base course the_scene number mail takes mark is)) into)
-        (rows_ask_next.promises at now mail.from ballot [] r leads) (λ on. order_is_kept.promises at now mail.from ballot r leads old)
-        (subst (λ b. IsOfLog at over (mailed mail.from b (r, [])).0.0) own logs) (subst (λ b. CountsTo by r (mailed mail.from b (r, [])).0.0 seat.who) own counts)
+        (rows_ask_next.promises at now mail.from ballot [] r leads) (promises_own at now seat.who r leads has.well.0 mail.from ballot []) (λ on. order_is_kept.promises at now mail.from ballot r leads old)
+        (subst (λ b. IsOfLog at over (mailed mail.from b (r, [])).0.0) own logs) (inl (promises_stay at now r leads mail.from ballot [])) (subst (λ b. CountsAsMember at by r (mailed mail.from b (r, [])).0.0 seat.who) own counts)
 
-    takes_aside : group_of_mail mail.body ≡ Some name → IsAside r mail.body → IsOfLog at over (mailed mail.from mail.body (r, [])).0.0 → CountsTo by r (mailed mail.from mail.body (r, [])).0.0 seat.who
-        → IsLedOn at over by words births (with_event rows seat (Deliver number)) base
+    takes_aside : group_of_mail mail.body ≡ Some name → IsAside r mail.body → IsOfLog at over (mailed mail.from mail.body (r, [])).0.0 → CountsAsMember at by r (mailed mail.from mail.body (r, [])).0.0 seat.who
+        → IsLedStep at over by words births rows seat (Deliver number) base course
     takes_aside group aside logs counts =
         let row = row_to at words births rows seat node base course the_scene number mail takes r has mail.from mail.body refl refl group in
         let after = (mailed mail.from mail.body (r, [])).0 in
@@ -157,10 +187,10 @@ module _ (at : Sets) (over : Ends) (by : Tellers) (words : ℕ → ℕ → ℕ �
         let old = ordered_r row.was in
         let into = rows_lead.asides at now mail.from mail.body r leads aside in
         leads_on (Deliver number) takes.timely r after row own_name has.well.0 runs (subst (λ o. LeadsInto at now o r after) (sym none) into)
-        (rows_ask_next.asides at now mail.from mail.body r leads aside) (λ on. order_is_kept.asides at now mail.from mail.body r leads aside old) logs counts
+        (rows_ask_next.asides at now mail.from mail.body r leads aside) (asides_own at now seat.who r leads has.well.0 mail.from mail.body aside) (λ on. order_is_kept.asides at now mail.from mail.body r leads aside old) logs (inl (asides_stay at now r leads mail.from mail.body aside)) counts
 
   ordered : (line : OrderLine) (r : ReplicaState) → AreInTime (players words births) (with_event rows seat (Told line)) → HoldsReplica seat node base r → group_of_order line.order ≡ name → r.running ≡ true
-      → IsOfLog at over (ordered_row node.draws line (r, [])).0 → CountsTo by r (ordered_row node.draws line (r, [])).0 seat.who → IsLedOn at over by words births (with_event rows seat (Told line)) base
+      → IsOfLog at over (ordered_row node.draws line (r, [])).0 → CountsAsMember at by r (ordered_row node.draws line (r, [])).0 seat.who → IsLedStep at over by words births rows seat (Told line) base course
   ordered line r timely has group runs logs counts =
       let after : Place = ordered_row node.draws line (r, []) in
       let here : replica_of (group_of_order line.order) node.replicas ≡ Some r = ap (λ n. replica_of n node.replicas) group ∙ has.here in
@@ -170,11 +200,13 @@ module _ (at : Sets) (over : Ends) (by : Tellers) (words : ℕ → ℕ → ℕ �
       let into : LeadsInto at now None r after = subst (λ p. LeadsInto at now None r p) (told_is node line r) (rows_lead.orders at now false node.draws line r leads) in
       leads_on (Told line) timely r after row (found_name name node.replicas r has.here) has.well.0 runs into
       (subst (λ (p : Place). AsksLow (name_of r) p.1) (told_is node line r) (rows_ask_next.orders at now false node.draws line r leads))
-      (λ on. subst (λ (p : Place). IsOrderly p.0) (told_is node line r) (order_is_kept.orders at now false node.draws line r leads old)) logs counts
+      (subst (λ (p : Place). Each (IsStateFrom (name_of r) seat.who) p.1) (told_is node line r) (orders_own at now seat.who r leads has.well.0 false node.draws line))
+      (λ on. subst (λ (p : Place). IsOrderly p.0) (told_is node line r) (order_is_kept.orders at now false node.draws line r leads old)) logs
+      (inl (subst (λ (p : Place). next p.0 ≡ next r) (told_is node line r) (orders_stay at now r leads false node.draws line))) counts
 
 pub leaders_keep_led : LeadersKeepLed
 leaders_keep_led = record {
-  vote = λ at over by words births rows seat number mail node base course r ballot slot s takes has body runs decides logs counts. counts_vote at over by words births rows seat node base course s number mail takes r has runs ballot slot body decides logs counts;
+  vote = λ at over by words births rows seat number mail node base course r ballot slot s takes has body runs decides rests logs counts. counts_vote at over by words births rows seat node base course s number mail takes r has runs ballot slot body decides rests logs counts;
   promise = λ at over by words births rows seat number mail node base course r ballot s takes has body runs logs counts. counts_promise at over by words births rows seat node base course s number mail takes r has runs ballot body logs counts;
   aside = λ at over by words births rows seat number mail node base course r s takes has group aside runs logs counts. takes_aside at over by words births rows seat node base course s number mail takes r has runs group aside logs counts;
   order = λ at over by words births rows seat line node base course r s timely has group runs logs counts. ordered at over by words births rows seat node base course s line r timely has group runs logs counts;

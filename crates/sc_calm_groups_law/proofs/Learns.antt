@@ -48,9 +48,11 @@ use Rattle.sc_calm_rows_law.specs.Turns.{with_event, IsReplicasRow}
 use Rattle.sc_calm_rows_law.proofs.Electing.{elections_keep, entered_name, entered_me}
 use Rattle.sc_calm_rows_law.proofs.Scenes.{apart_off, row_in, head, all_fit, within, no_lead, named, row_to, fit, taken}
 use Rattle.sc_calm_rows_law.proofs.Stepping.{steps_elect}
-use Rattle.sc_calm_groups_law.specs.Led.{Ends, hint_in, hints_at, IsWellLed, IsLedOn}
+use Rattle.sc_calm_groups_law.specs.Kinds.{RowElects, IsLedStep}
+use Rattle.sc_calm_groups_law.specs.Led.{Ends, hint_in, hints_at}
 use Rattle.sc_calm_groups_law.specs.Logged.{IsOfLog, HasRounds}
 use Rattle.sc_calm_groups_law.specs.Mailed.{IsLedScene}
+use Rattle.sc_calm_groups_law.specs.Rows.{ElectsWell}
 use Rattle.sc_calm_groups_law.proofs.Mails.{scene, stage, takes_further}
 use Rattle.sc_calm_groups_law.proofs.Rows.{rows_keep_led}
 
@@ -175,7 +177,7 @@ module _ (at : Sets) (over : Ends) (by : Tellers) (words : ℕ → ℕ → ℕ �
         let last : suc slot ≡ course.newest = omega (arith, least, up) in
         inr (s.led.ends ∙ (ap over (sym last) ∙ gone), reaches ∙ last))
 
-    stays_led : IsWellLed at over by words births (with_event rows seat (Deliver number)) base course
+    stays_led : IsLedStep at over by words births rows seat (Deliver number) base course
     stays_led =
         let steps = tables.learn mail.from slot command r fits off (has.well.3 off).0 low stays in
         takes_further at over by words births rows seat node base course s number mail takes r has mark is after row off steps (λ count. count) apart (λ idle stands least. (let w = waits idle stands least in let to = steps.reaches in omega (arith, w, to)))
@@ -215,12 +217,12 @@ module _ (at : Sets) (over : Ends) (by : Tellers) (words : ℕ → ℕ → ℕ �
     next_lead : IsNextLead at course slot command r
     next_lead = record { idle = heir.idle; stands = heir.stands; low = low; last = heir.last; may = may; members_are = members_last heir.last; opens = opens_last; many = logs.many; nodes = s.log.nodes; later = later }
 
-    elects_led : IsWellLed at over by words births (with_event rows seat (Deliver number)) base (elected_course course (next_ballot r))
+    elects_led : IsLedStep at over by words births rows seat (Deliver number) base course
     elects_led =
         let flights = (has.well.3 off).0 in
         let steps = tables_elect mail.from slot command r fits off flights low may (entered_name command r) in
         let follows = elections_keep at words births rows seat number mail node base course r slot command the_scene takes has body next_lead in
-        rows_keep_led.elects at over by words births rows seat (Deliver number) base course (next_ballot r) r after (stage at over by words births rows seat node base course s (Deliver number) takes.timely) row (record {
+        let well : ElectsWell at births rows seat (Deliver number) base course (next_ballot r) after = record {
           elects = steps_elect at births rows seat (Deliver number) base course slot (entered command r).sets r after row own_name has.well.0 takes_it steps
               (record { idle = heir.idle; stands = heir.stands; last = heir.last; least = has.well.0 ∙ least_here; later = later; opens = opens_last; many = logs.many; nodes = s.log.nodes });
           runs = steps.runs;
@@ -241,10 +243,15 @@ module _ (at : Sets) (over : Ends) (by : Tellers) (words : ℕ → ℕ → ℕ �
             roster = subst IsRoster (members_last heir.last) (s.log.rosters (course.newest + 3));
             nodes = λ slot who m. numbers who (s.log.nodes slot who m);
           })).orderly;
-        })
+        } in
+        record {
+          later = elected_course course (next_ballot r);
+          led = rows_keep_led.elects at over by words births rows seat (Deliver number) base course (next_ballot r) r after (stage at over by words births rows seat node base course s (Deliver number) takes.timely) row well;
+          row = RowElects r after (next_ballot r) row off well refl;
+        }
       where
         numbers : (who : ℕ) → is_node who ≡ true → (1 ≤ who) × (who ≤ most_nodes)
         numbers who m = (let parts = and_parts (nat_le 1 who) (nat_le who most_nodes) m in (leb-true 1 who parts.0, leb-true who most_nodes parts.1))
 
-  pub learns : IsLedOn at over by words births (with_event rows seat (Deliver number)) base
-  learns = elim which [ inl stays ↦ (course, stays_led stays) | inr heir ↦ (elected_course course (next_ballot r), elects_led heir) ]
+  pub learns : IsLedStep at over by words births rows seat (Deliver number) base course
+  learns = elim which [ inl stays ↦ stays_led stays | inr heir ↦ elects_led heir ]

@@ -3,6 +3,7 @@ pub mod BornWell
 pub mod Clearing
 pub mod Dating
 pub mod Events
+pub mod Executing
 pub mod Keeping
 pub mod Leading
 pub mod Learns
@@ -11,6 +12,7 @@ pub mod Others
 pub mod Resting
 pub mod Rising
 pub mod Rows
+pub mod Sending
 pub mod SlotLists
 pub mod SlotNodes
 pub mod SlotParts

@@ -43,6 +43,7 @@ use Rattle.sc_following_law.proofs.Heeding.{nodes_heed}
 use Rattle.sc_following_law.proofs.Learn.{tables}
 use Rattle.sc_following_law.proofs.Nodes.{same_mark, states}
 use Rattle.sc_following_law.proofs.TableHints.{hints_follow}
+use Rattle.sc_calm_rows_law.specs.Asides.{IsUnmoved}
 use Rattle.sc_calm_rows_law.specs.Groups.{view_at, next_in, promise_in, progress_at, marks_at, mark_in, taken_mark}
 use Rattle.sc_calm_rows_law.specs.Kept.{LeavesLead}
 use Rattle.sc_calm_rows_law.specs.Mailed.{IsScene, TakesMail, HoldsReplica}
@@ -54,9 +55,10 @@ use Rattle.sc_calm_rows_law.proofs.Scenes.{aside_mark, apart_off, goes_on, idle_
 use Rattle.sc_calm_rows_law.proofs.Staying.{leads_stay}
 use Rattle.sc_calm_rows_law.proofs.Stepping.{steps_take, states_take, uncounted_pass, still_idle}
 use Rattle.sc_calm_rows_law.proofs.Turning.{rows_replicas}
+use Rattle.sc_calm_groups_law.specs.Kinds.{RowRests, RowTakes, RowMakes, IsLedStep}
 use Rattle.sc_calm_groups_law.specs.Led.{Ends, hint_in, hints_at, dated_at}
 use Rattle.sc_calm_groups_law.specs.Logged.{IsLogsState}
-use Rattle.sc_calm_groups_law.specs.Mailed.{IsLedScene, LedAfter}
+use Rattle.sc_calm_groups_law.specs.Mailed.{IsLedScene}
 use Rattle.sc_calm_groups_law.specs.Rows.{IsStage, LeavesWell}
 use Rattle.sc_calm_groups_law.proofs.Dating.{dated_in, taken_dated, rows_dated}
 use Rattle.sc_calm_groups_law.proofs.Rows.{rows_keep_led}
@@ -166,6 +168,19 @@ module _ (at : Sets) (over : Ends) (by : Tellers) (words : ℕ → ℕ → ℕ �
       | inr over_ ↦ inr (over_.0, ap (next_in base seat.who) row.is ∙ over_.1)
     ]
 
+  -- a row in which the node's replica does not run, and stays where it is
+  stays_unmoved : (event : Event OrderLine) (r : ReplicaState) (after : Place) → AreInTime (players words births) (with_event rows seat event) → IsReplicasRow births rows seat event name (Some r) after → r.running ≡ false → taken_mark name (mails rows) event ≡ None
+      → IsUnmoved name r after → IsLedStep at over by words births rows seat event base course
+  stays_unmoved event r after timely row off none still =
+      let kind = still_idle births rows seat event base course r after row none still.next_is still.promise_is still.silent in
+      record {
+        later = course;
+        led = rows_keep_led.idle at over by words births rows seat event base course (the_stage event timely)
+            (leaves_off event (Some r) after row (leads_stay.quiet at births rows seat event base course after.0 row.is still.off (idle_apart at words births rows seat node base course the_scene r row.was off)) still.off) kind
+            (ap (hint_in base) row.is ∙ (still.hint_is ∙ sym (ap (hint_in base) row.was)));
+        row = RowRests refl r after row off still kind;
+      }
+
   -- ---- a mail
 
   module _ (number : ℕ) (mail : Mail) (takes : TakesMail words births rows seat number mail) (r : ReplicaState) (has : HoldsReplica seat node base r) where
@@ -178,26 +193,34 @@ module _ (at : Sets) (over : Ends) (by : Tellers) (words : ℕ → ℕ → ℕ �
 
       -- a mail that leaves the next slot
       keeps_place : StepsBy mark r after → next after.0 ≡ next r → (course.runs ≡ true → seat.who ≡ course.ballot.node → IsCount mark → ⊥) → LeavesLead at births rows seat (Deliver number) base course
-          → (r.running ≡ false → after.0.hint ≡ hint_by at by r.acceptor.promised r.hint mark) → LedAfter at over by words births rows seat (Deliver number) base course
+          → (r.running ≡ false → after.0.hint ≡ hint_by at by r.acceptor.promised r.hint mark) → IsLedStep at over by words births rows seat (Deliver number) base course
       keeps_place steps same counts lead hint =
-          rows_keep_led.takes at over by words births rows seat (Deliver number) base course (the_stage (Deliver number) takes.timely) (leaves_same (Deliver number) (Some r) after row r refl lead same steps.runs steps.leads)
-          (steps_take at births rows seat (Deliver number) base course mark r after row (named at words births rows seat node base course the_scene number mail takes r has) has.well.0 takes_it steps counts
-          (λ off stands least. (let low = waits_here at words births rows seat node base course the_scene r row.was off stands least in omega (arith, low, same))))
-          (goes_by (Deliver number) (Some r) after row mark takes_it (λ other. inl (hint (off_other other))))
+          let kind = steps_take at births rows seat (Deliver number) base course mark r after row (named at words births rows seat node base course the_scene number mail takes r has) has.well.0 takes_it steps counts
+          (λ off stands least. (let low = waits_here at words births rows seat node base course the_scene r row.was off stands least in omega (arith, low, same))) in
+          record {
+            later = course;
+            led = rows_keep_led.takes at over by words births rows seat (Deliver number) base course (the_stage (Deliver number) takes.timely) (leaves_same (Deliver number) (Some r) after row r refl lead same steps.runs steps.leads) kind
+                (goes_by (Deliver number) (Some r) after row mark takes_it (λ other. inl (hint (off_other other))));
+            row = RowTakes refl r after mark row takes_it steps kind;
+          }
 
       -- .. that takes the node further, where it does not lead
       pub takes_further : r.running ≡ false → StepsBy mark r after → (IsCount mark → ⊥) → (course.runs ≡ true → seat.who ≡ course.ballot.node → ⊥) → WaitsStill at course seat.who (next after.0)
-          → (after.0.hint ≡ hint_by at by r.acceptor.promised r.hint mark) ⊎ ((course.gone ≡ true) × (next after.0 ≡ course.newest)) → LedAfter at over by words births rows seat (Deliver number) base course
+          → (after.0.hint ≡ hint_by at by r.acceptor.promised r.hint mark) ⊎ ((course.gone ≡ true) × (next after.0 ≡ course.newest)) → IsLedStep at over by words births rows seat (Deliver number) base course
       takes_further off steps none apart waits hint =
-          rows_keep_led.takes at over by words births rows seat (Deliver number) base course (the_stage (Deliver number) takes.timely)
-          (leaves_off (Deliver number) (Some r) after row (leads_stay.quiet at births rows seat (Deliver number) base course after.0 row.is (steps.runs ∙ off) apart) (steps.runs ∙ off))
-          (steps_take at births rows seat (Deliver number) base course mark r after row (named at words births rows seat node base course the_scene number mail takes r has) has.well.0 takes_it steps (λ runs mine. none) waits)
-          (goes_by (Deliver number) (Some r) after row mark takes_it (λ other. hint))
+          let kind = steps_take at births rows seat (Deliver number) base course mark r after row (named at words births rows seat node base course the_scene number mail takes r has) has.well.0 takes_it steps (λ runs mine. none) waits in
+          record {
+            later = course;
+            led = rows_keep_led.takes at over by words births rows seat (Deliver number) base course (the_stage (Deliver number) takes.timely)
+                (leaves_off (Deliver number) (Some r) after row (leads_stay.quiet at births rows seat (Deliver number) base course after.0 row.is (steps.runs ∙ off) apart) (steps.runs ∙ off)) kind
+                (goes_by (Deliver number) (Some r) after row mark takes_it (λ other. hint));
+            row = RowTakes refl r after mark row takes_it steps kind;
+          }
 
     pub own_name : name_of r ≡ name
     own_name = named at words births rows seat node base course the_scene number mail takes r has
 
-    pub accepts : (ballot : Ballot) (slot : ℕ) (command : Command) → mail.from ≡ ballot.node → mail.body ≡ Accept name ballot slot command → LedAfter at over by words births rows seat (Deliver number) base course
+    pub accepts : (ballot : Ballot) (slot : ℕ) (command : Command) → mail.from ≡ ballot.node → mail.body ≡ Accept name ballot slot command → IsLedStep at over by words births rows seat (Deliver number) base course
     accepts ballot slot command from body =
         let mark = Asks ballot slot in
         let is : mark_of name mail.from mail.body ≡ Some mark = ap (mark_of name mail.from) body ∙ same_mark name mark in
@@ -217,7 +240,7 @@ module _ (at : Sets) (over : Ends) (by : Tellers) (words : ℕ → ℕ → ℕ �
         let one : taken_dated name (mails rows) (Deliver number) ≡ Some (Prepares ballot, from_slot) = ap (dated_in name) takes.sent ∙ (ap (option_map (λ mark. (mark, from_slot_of mail.body))) is ∙ ap (λ b. Some (Prepares ballot, from_slot_of b)) body) in
         prepares_are_known.above now (dated_at (players words births) rows name) seat.who ballot from_slot dated.left r s.led.low (dated.takes ∙ ap (λ o. listed o ++ dated.left) one) (sym (ap (next_in base seat.who) was)) has.well.2
 
-    pub prepares : (ballot : Ballot) (from_slot : ℕ) → mail.from ≡ ballot.node → mail.body ≡ Prepare name ballot from_slot → LedAfter at over by words births rows seat (Deliver number) base course
+    pub prepares : (ballot : Ballot) (from_slot : ℕ) → mail.from ≡ ballot.node → mail.body ≡ Prepare name ballot from_slot → IsLedStep at over by words births rows seat (Deliver number) base course
     prepares ballot from_slot from body =
         let mark = Prepares ballot in
         let is : mark_of name mail.from mail.body ≡ Some mark = ap (mark_of name mail.from) body ∙ same_mark name mark in
@@ -230,7 +253,7 @@ module _ (at : Sets) (over : Ends) (by : Tellers) (words : ℕ → ℕ → ℕ �
         keeps_place mark is after row steps steps.reaches (λ runs mine count. count) (leads_stay.promises at words births rows seat (Deliver number) base course ballot.node from_slot ballot r the_scene.followed has.well.0 goes row)
         (λ off. hints_follow.prepare at by ballot from_slot r fits goes low off)
 
-    pub installs : (slot : ℕ) (state : Base) (sets : List (List ℕ)) → mail.body ≡ Install name slot state sets → IsLogsState at by base slot mail.from state sets → LedAfter at over by words births rows seat (Deliver number) base course
+    pub installs : (slot : ℕ) (state : Base) (sets : List (List ℕ)) → mail.body ≡ Install name slot state sets → IsLogsState at by base slot mail.from state sets → IsLedStep at over by words births rows seat (Deliver number) base course
     installs slot state sets body logs =
         let mark = Installs slot in
         let is : mark_of name mail.from mail.body ≡ Some mark = ap (mark_of name mail.from) body ∙ same_mark name mark in
@@ -245,7 +268,7 @@ module _ (at : Sets) (over : Ends) (by : Tellers) (words : ℕ → ℕ → ℕ �
         takes_further mark is after row off steps (λ count. count) apart (λ idle stands least. (let w = sent_waits at over by words births rows seat node base course s number mail takes slot is idle stands in let to = steps.reaches in omega (arith, w, to)))
         (inl (hints_follow.install at by slot state sets r fits off logs.whole.low (logs.whole.open_ ∙ sym has.well.1) member))
 
-    pub passes_vote : (ballot : Ballot) (slot : ℕ) → mail.body ≡ Accepted name ballot slot → r.running ≡ false → LedAfter at over by words births rows seat (Deliver number) base course
+    pub passes_vote : (ballot : Ballot) (slot : ℕ) → mail.body ≡ Accepted name ballot slot → r.running ≡ false → IsLedStep at over by words births rows seat (Deliver number) base course
     passes_vote ballot slot body off =
         let mark = Votes mail.from ballot slot in
         let is : mark_of name mail.from mail.body ≡ Some mark = ap (mark_of name mail.from) body ∙ same_mark name mark in
@@ -256,7 +279,7 @@ module _ (at : Sets) (over : Ends) (by : Tellers) (words : ℕ → ℕ → ℕ �
         let apart = idle_apart at words births rows seat node base course the_scene r row.was off in
         keeps_place mark is after row steps steps.reaches (λ runs mine count. apart runs mine) (leads_stay.quiet at births rows seat (Deliver number) base course after.0 row.is (steps.runs ∙ off) apart) (λ _. vote_hint mail.from ballot slot r leads_not)
 
-    pub passes_promise : (ballot : Ballot) (reports : List (Report Command)) → mail.body ≡ Promise name ballot reports → r.running ≡ false → LedAfter at over by words births rows seat (Deliver number) base course
+    pub passes_promise : (ballot : Ballot) (reports : List (Report Command)) → mail.body ≡ Promise name ballot reports → r.running ≡ false → IsLedStep at over by words births rows seat (Deliver number) base course
     passes_promise ballot reports body off =
         let mark = Promises mail.from ballot in
         let is : mark_of name mail.from mail.body ≡ Some mark = ap (mark_of name mail.from) body ∙ same_mark name mark in
@@ -267,22 +290,19 @@ module _ (at : Sets) (over : Ends) (by : Tellers) (words : ℕ → ℕ → ℕ �
         let apart = idle_apart at words births rows seat node base course the_scene r row.was off in
         keeps_place mark is after row steps steps.reaches (λ runs mine count. apart runs mine) (leads_stay.quiet at births rows seat (Deliver number) base course after.0 row.is (steps.runs ∙ off) apart) (λ _. promise_hint mail.from ballot reports r leads_not)
 
-    pub stays_aside : group_of_mail mail.body ≡ Some name → IsAside r mail.body → r.running ≡ false → LedAfter at over by words births rows seat (Deliver number) base course
+    pub stays_aside : group_of_mail mail.body ≡ Some name → IsAside r mail.body → r.running ≡ false → IsLedStep at over by words births rows seat (Deliver number) base course
     stays_aside group aside off =
         let row = row_to at words births rows seat node base course the_scene number mail takes r has mail.from mail.body refl refl group in
         let after = (mailed mail.from mail.body (r, [])).0 in
         let none : taken_mark name (mails rows) (Deliver number) ≡ None = ap (mark_in name) takes.sent ∙ aside_mark name mail.from r mail.body aside in
         let still = asides_still.mailed mail.from mail.body r off aside name in
-        rows_keep_led.idle at over by words births rows seat (Deliver number) base course (the_stage (Deliver number) takes.timely)
-        (leaves_off (Deliver number) (Some r) after row (leads_stay.quiet at births rows seat (Deliver number) base course after.0 row.is still.off (idle_apart at words births rows seat node base course the_scene r row.was off)) still.off)
-        (still_idle births rows seat (Deliver number) base course r after row none still.next_is still.promise_is still.silent)
-        (ap (hint_in base) row.is ∙ (still.hint_is ∙ sym (ap (hint_in base) row.was)))
+        stays_unmoved (Deliver number) r after takes.timely row off none still
 
   -- ---- a replica that is made of a state
 
-  pub makes : (number : ℕ) (mail : Mail) (takes : TakesMail words births rows seat number mail) (slot : ℕ) (state : Base) (sets : List (List ℕ)) → replica_of name node.replicas ≡ None → mail.body ≡ Install name slot state sets
-      → IsLogsState at by base slot mail.from state sets → LedAfter at over by words births rows seat (Deliver number) base course
-  makes number mail takes slot state sets none body logs =
+  pub makes : (number : ℕ) (mail : Mail) (takes : TakesMail words births rows seat number mail) (slot : ℕ) (state : Base) (sets : List (List ℕ)) → node.me ≡ seat.who → replica_of name node.replicas ≡ None → mail.body ≡ Install name slot state sets
+      → IsLogsState at by base slot mail.from state sets → IsLedStep at over by words births rows seat (Deliver number) base course
+  makes number mail takes slot state sets me none body logs =
       let mark = Installs slot in
       let is : mark_of name mail.from mail.body ≡ Some mark = ap (mark_of name mail.from) body ∙ same_mark name mark in
       let after = made_by node.me (by slot) name slot state sets in
@@ -293,22 +313,24 @@ module _ (at : Sets) (over : Ends) (by : Tellers) (words : ℕ → ℕ → ℕ �
       let member = sent_member at over by words births rows seat node base course s number mail takes slot is state logs.members_are apart in
       let off = states.runs node.me (by slot) name slot state sets member in
       let takes_it = taken at words births rows seat node base course the_scene number mail takes mark is in
-      rows_keep_led.takes at over by words births rows seat (Deliver number) base course (the_stage (Deliver number) takes.timely)
-      (leaves_off (Deliver number) None after row (leads_stay.quiet at births rows seat (Deliver number) base course after.0 row.is off apart) off)
-      (states_take at births rows seat (Deliver number) base course node.me (by slot) slot state sets row takes_it logs.firsts member
-      (λ idle stands least. sent_waits at over by words births rows seat node base course s number mail takes slot is idle stands))
-      (goes_by (Deliver number) None after row mark takes_it (λ other. inl (hints_follow.made at by (first_ballot base.core) (Some base.core.first) node.me name slot state sets member)))
+      let kind = states_take at births rows seat (Deliver number) base course node.me (by slot) slot state sets row takes_it logs.firsts member
+      (λ idle stands least. sent_waits at over by words births rows seat node base course s number mail takes slot is idle stands) in
+      record {
+        later = course;
+        led = rows_keep_led.takes at over by words births rows seat (Deliver number) base course (the_stage (Deliver number) takes.timely)
+            (leaves_off (Deliver number) None after row (leads_stay.quiet at births rows seat (Deliver number) base course after.0 row.is off apart) off) kind
+            (goes_by (Deliver number) None after row mark takes_it (λ other. inl (hints_follow.made at by (first_ballot base.core) (Some base.core.first) node.me name slot state sets member)));
+        row = RowMakes refl (by slot) slot state sets (subst (λ n. IsReplicasRow births rows seat (Deliver number) name None (made_by n (by slot) name slot state sets)) me row) takes_it
+            (subst (λ n. IsLogsState at by base slot n state sets) logs.teller logs) kind;
+      }
 
   -- ---- an order
 
   pub stays_ordered : (line : OrderLine) (r : ReplicaState) → AreInTime (players words births) (with_event rows seat (Told line)) → HoldsReplica seat node base r → group_of_order line.order ≡ name → r.running ≡ false
-      → LedAfter at over by words births rows seat (Told line) base course
+      → IsLedStep at over by words births rows seat (Told line) base course
   stays_ordered line r timely has group off =
       let after : Place = ordered_row node.draws line (r, []) in
       let here : replica_of (group_of_order line.order) node.replicas ≡ Some r = ap (λ n. replica_of n node.replicas) group ∙ has.here in
       let row : IsReplicasRow births rows seat (Told line) name (Some r) after = subst (λ n. IsReplicasRow births rows seat (Told line) n (Some r) after) group (rows_replicas.ordered births rows seat line node r s.seated s.is here) in
       let still = asides_still.ordered node.draws line r off name in
-      rows_keep_led.idle at over by words births rows seat (Told line) base course (the_stage (Told line) timely)
-      (leaves_off (Told line) (Some r) after row (leads_stay.quiet at births rows seat (Told line) base course after.0 row.is still.off (idle_apart at words births rows seat node base course the_scene r row.was off)) still.off)
-      (still_idle births rows seat (Told line) base course r after row refl still.next_is still.promise_is still.silent)
-      (ap (hint_in base) row.is ∙ (still.hint_is ∙ sym (ap (hint_in base) row.was)))
+      stays_unmoved (Told line) r after timely row off refl still

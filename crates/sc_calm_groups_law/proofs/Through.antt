@@ -1,7 +1,7 @@
 -- A group is well led through a journal in which its log is one, from its birth on.
 use Rattle.std.proofs.Common.{◌≡◌, ℕ, List, [], ◌∷◌, ◌++◌, Some, None, inl, inr, refl, sym, ◌∙◌, ap, subst, append_assoc, arith}
 use Rattle.std.specs.Prelude.{is_some}
-use Rattle.std.proofs.lemmas.Bool.{cases_Bool, cond-true}
+use Rattle.std.proofs.lemmas.Bool.{cond-true}
 use Rattle.sc_base.specs.Among.{Among}
 use Rattle.sc_cmd.specs.declared.cores.Base.{Base}
 use Rattle.sc_cmd.specs.declared.orders.OrderLine.{OrderLine}
@@ -67,7 +67,7 @@ module _ (at : Sets) (over : Ends) (by : Tellers) (words : ℕ → ℕ → ℕ �
   begins_so = record {
     sets = one.begins;
     stands = sym first_logs.ends ∙ ap is_some (born_facts scenario bounded base a).2;
-    early = elim (cases_Bool (over 0)) [ inl t ↦ (let least = first_logs.rests 0 t in absurd (omega (arith, least))) | inr f ↦ f ];
+    early = one.early;
     rosters = one.log.rosters;
   }
 

@@ -1,6 +1,7 @@
 pub mod Begun
 pub mod Cleared
 pub mod Kept
+pub mod Kinds
 pub mod Led
 pub mod Logged
 pub mod Mailed

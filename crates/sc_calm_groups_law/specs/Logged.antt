@@ -12,13 +12,16 @@ use Rattle.sc_following_law.specs.Offers.{AreAt}
 use Rattle.sc_calm_rows_law.specs.Turns.{IsWholeState}
 use Rattle.sc_calm_groups_law.specs.Led.{Ends}
 
--- a replica's state is the log's: its members, those of its open slots, and whether the group is gone, which nothing follows
+-- a replica's state is the log's: its members, those of its open slots, and whether the group is gone
 pub record IsOfLog (at : Sets) (over : Ends) (r : ReplicaState) : Type 0 where
   pub members_are : members_at at (next r) ≡ members r
   pub opens : AreAt at (next r) r.sets
   pub many : length r.sets ≡ slots_ahead
   pub ends : is_some r.group.core.gone ≡ over (next r)
-  pub rests : (slot : ℕ) → over slot ≡ true → next r ≤ slot
+
+-- a replica has executed nothing of a group that is gone
+abbrev pub RestsBy : Ends → ReplicaState → Type 0
+RestsBy over r = (slot : ℕ) → over slot ≡ true → next r ≤ slot
 
 -- a replica has seen what it has promised, and a later round is left
 pub record HasRounds (r : ReplicaState) : Type 0 where
@@ -35,6 +38,10 @@ pub record IsLogsState (at : Sets) (by : Tellers) (base : Base) (slot from : ℕ
 -- a row that takes a replica on to a slot counts the entries before it, where the one of a node leads
 abbrev pub CountsTo : Tellers → ReplicaState → ReplicaState → ℕ → Type 0
 CountsTo by r after node = (slot : ℕ) → next r ≤ slot → slot < next after → by slot ≡ node
+
+-- .. if that node is a member at each of them
+abbrev pub CountsAsMember : Sets → Tellers → ReplicaState → ReplicaState → ℕ → Type 0
+CountsAsMember at by r after node = ((slot : ℕ) → next r ≤ slot → slot < next after → is_member (members_at at slot) node ≡ true) → CountsTo by r after node
 
 -- The members of each slot are a roster of nodes; and nobody comes by an entry by which the one that counts it goes.
 pub record IsLogOf (at : Sets) (by : Tellers) : Type 0 where

@@ -2,8 +2,11 @@
 use Rattle.std.specs.Prelude.{◌≡◌, ℕ, suc, ◌≤◌, true, List, Some, None, is_some}
 use Rattle.sc_base.specs.Among.{Each}
 use Rattle.sc_base.specs.declared.names.Ballot.{Ballot}
+use Rattle.sc_base.specs.declared.names.Draw.{Draw}
 use Rattle.sc_cmd.specs.declared.cores.Base.{Base}
 use Rattle.sc_cmd.specs.declared.orders.OrderLine.{OrderLine}
+use Rattle.sc_mail.specs.declared.bodies.Mail.{Mail}
+use Rattle.sc_mail.specs.declared.bodies.MailBody.TheVariants.{Install}
 use Rattle.sc_member.specs.Roster.{IsRoster}
 use Rattle.sc_actor.specs.declared.actors.Seat.{Seat}
 use Rattle.sc_actor.specs.declared.rows.Event.{Event}
@@ -38,12 +41,17 @@ pub record LeavesWell (at : Sets) (births : List (Seat Player)) (rows : Rows) (s
   pub orderly : (r : ReplicaState) → view_at births (with_event rows seat event) base.core.id seat.who ≡ Some r → r.running ≡ true → IsOrderly r
   pub there : view_at births (with_event rows seat event) base.core.id seat.who ≡ None → view_at births rows base.core.id seat.who ≡ None
 
--- a leader's row, of a leader that leaves last, counts its own promises and asks right behind a state; it is in order after it where it leads on, and the group is gone where the log says so, which nothing follows
+-- a mail with a state of a group is from this node
+abbrev pub IsStateFrom : Draw → ℕ → Mail → Type 0
+IsStateFrom name who mail = (slot : ℕ) (state : Base) (sets : List (List ℕ)) → mail.body ≡ Install name slot state sets → mail.from ≡ who
+
+-- a leader's row, of a leader that leaves last, counts its own promises, asks right behind a state, and sends its states itself; it is in order after it where it leads on, and the group is gone where the log says so, which nothing follows
 pub record LeadsWell (at : Sets) (over : Ends) (by : Tellers) (births : List (Seat Player)) (rows : Rows) (seat : Seat Player) (event : Event OrderLine) (base : Base) (course : Course) (after : Place) : Type 0 where
   pub led : LedBy at births rows seat event base course after
   pub last : LeavesLast at by (progress_at births rows base course) (progress_at births (with_event rows seat event) base (led_course led.bound course after.0))
   pub counts : CountsOwn (progress_at births rows base course) (progress_at births (with_event rows seat event) base (led_course led.bound course after.0)) (taken_mark base.core.id (mails rows) event)
   pub low : AsksLow base.core.id after.1
+  pub states : Each (IsStateFrom base.core.id seat.who) after.1
   pub orderly : after.0.running ≡ true → IsOrderly after.0
   pub ends : is_some after.0.group.core.gone ≡ over (next after.0)
   pub rests : (slot : ℕ) → over slot ≡ true → next after.0 ≤ slot

@@ -24,6 +24,7 @@ use Rattle.sc_scenario.specs.declared.scenarios.Scenario.{Scenario}
 use Rattle.sc_node_table.specs.Execute.{entered}
 use Rattle.sc_node_table.specs.Node.{NodeState, replica_of, group_of_mail, may_come}
 use Rattle.sc_node_table.specs.Replica.{ReplicaState, next, last_slot}
+use Rattle.sc_node_table.specs.Rows.{mailed}
 use Rattle.sc_node_table.specs.Slots.{slots_ahead}
 use Rattle.sc_law_lemmas.specs.Steps.{GoesOn}
 use Rattle.sc_sound.specs.Players.{Player, player_table, births, as_nodes}
@@ -36,8 +37,9 @@ use Rattle.sc_calm_rows_law.specs.Groups.{view_at}
 use Rattle.sc_calm_rows_law.specs.Senders.{PlaysAlone}
 use Rattle.sc_calm_rows_law.specs.Turns.{IsSeat, with_event, made_children, AreAsBegun}
 use Rattle.sc_calm_rows_law.specs.WellKept.{IsWellKeptNode}
+use Rattle.sc_calm_groups_law.specs.Kinds.{IsLedStep}
 use Rattle.sc_calm_groups_law.specs.Led.{Ends, IsWellLed, IsLedOn}
-use Rattle.sc_calm_groups_law.specs.Logged.{IsOfLog, HasRounds, IsLogsState, CountsTo, IsLogOf}
+use Rattle.sc_calm_groups_law.specs.Logged.{IsOfLog, HasRounds, IsLogsState, RestsBy, CountsAsMember, IsLogOf}
 
 -- a player with its number, each of whose replicas is well kept
 abbrev pub IsWellPlayer : ℕ → Player → Type 0
@@ -69,6 +71,7 @@ pub record HasOneLog (at : Sets) (over : Ends) (by : Tellers) (births : List (Se
   pub begins : (slot : ℕ) → slot < 1 + slots_ahead → at slot ≡ base.core.members
   pub first : is_member base.core.members base.core.first ≡ true
   pub stands : base.core.gone ≡ None
+  pub early : over 0 ≡ false
   -- each replica after any of the rows
   pub states : (rows more : Rows) (node : ℕ) (r : ReplicaState) → journal ≡ rows ++ more → view_at births rows base.core.id node ≡ Some r → IsOfLog at over r
   pub rounds : (rows more : Rows) (node : ℕ) (r : ReplicaState) → journal ≡ rows ++ more → view_at births rows base.core.id node ≡ Some r → HasRounds r
@@ -81,9 +84,12 @@ pub record HasOneLog (at : Sets) (over : Ends) (by : Tellers) (births : List (Se
   -- a vote that a leader counts
   pub decided : (rows : Rows) (seat : Seat Player) (number : ℕ) (mail : Mail) (ballot : Ballot) (slot : ℕ) (r : ReplicaState) → Delivers journal rows seat number mail → mail.body ≡ Accepted base.core.id ballot slot
       → view_at births rows base.core.id seat.who ≡ Some r → r.running ≡ true → DecidesNext at mail.from ballot slot r
+  -- .. by which it executes nothing of a group that is gone
+  pub rests : (rows : Rows) (seat : Seat Player) (number : ℕ) (mail : Mail) (ballot : Ballot) (slot : ℕ) (r : ReplicaState) → Delivers journal rows seat number mail → mail.body ≡ Accepted base.core.id ballot slot
+      → view_at births rows base.core.id seat.who ≡ Some r → r.running ≡ true → r.group.core.gone ≡ None → RestsBy over (mailed mail.from mail.body (r, [])).0.0
   -- entries that a leader executes
   pub counted : (rows : Rows) (seat : Seat Player) (event : Event OrderLine) (r after : ReplicaState) → IsRowOf journal rows seat event → view_at births rows base.core.id seat.who ≡ Some r → r.running ≡ true
-      → view_at births (with_event rows seat event) base.core.id seat.who ≡ Some after → CountsTo by r after seat.who
+      → view_at births (with_event rows seat event) base.core.id seat.who ≡ Some after → CountsAsMember at by r after seat.who
   -- a child that a mail of another group makes
   pub born : (rows : Rows) (seat : Seat Player) (number : ℕ) (mail : Mail) (node : NodeState) (group : Draw) → Delivers journal rows seat number mail → IsSeat births seat → value player_table seat rows ≡ Node node → group_of_mail mail.body ≡ Some group
       → (group ≡ base.core.id → ⊥) → AreAsBegun base seat.who (made_children (replica_of group node.replicas) mail.from mail.body)
@@ -99,7 +105,14 @@ pub record IsSentSo (births : List (Seat Player)) (journal : Rows) (base : Base)
   pub nacks : (rows : Rows) (seat : Seat Player) (number : ℕ) (mail : Mail) (promised : Ballot) (r : ReplicaState) → Delivers journal rows seat number mail → mail.body ≡ Nack base.core.id promised
       → view_at births rows base.core.id seat.who ≡ Some r → GoesOn promised r
 
--- So each event of a player in such a journal keeps the group well led ..
+-- So each event of a player in such a journal is a row of the group, which leaves it well led ..
+abbrev pub EventsGoOn : Type 0
+EventsGoOn =
+    (at : Sets) (over : Ends) (by : Tellers) (words : ℕ → ℕ → ℕ × ℕ) (births : List (Seat Player)) (journal : Rows) (base : Base) → AreWellBorn births → HasOneLog at over by births journal base → IsSentSo births journal base
+    → (rows : Rows) (seat : Seat Player) (event : Event OrderLine) (course : Course) → IsRowOf journal rows seat event → IsSeat births seat → IsCalmEvent (players words births) rows seat.who event
+    → AreInTime (players words births) (with_event rows seat event) → IsWellLed at over by words births rows base course → IsLedStep at over by words births rows seat event base course
+
+-- .. in some course ..
 abbrev pub EventsKeepLed : Type 0
 EventsKeepLed =
     (at : Sets) (over : Ends) (by : Tellers) (words : ℕ → ℕ → ℕ × ℕ) (births : List (Seat Player)) (journal : Rows) (base : Base) → AreWellBorn births → HasOneLog at over by births journal base → IsSentSo births journal base

@@ -12,7 +12,7 @@ ghost use Rattle.sc_calm_groups_law.specs.Rising.{PromisersRise};
 ghost use Rattle.sc_calm_groups_law.specs.Rows.{RowsKeepLed};
 ghost use Rattle.sc_calm_groups_law.specs.Slots.{NodesAreBornSlotted, NodesKeepSlots};
 ghost use Rattle.sc_calm_groups_law.specs.Tops.{NodesAreBornTopped, NodesKeepTops};
-ghost use Rattle.sc_calm_groups_law.specs.Through.{ChildrenAreLedThrough, EventsKeepLed, GroupsAreLedThrough, ScenariosAreLedThrough, ScenariosAreWellBorn};
+ghost use Rattle.sc_calm_groups_law.specs.Through.{ChildrenAreLedThrough, EventsGoOn, EventsKeepLed, GroupsAreLedThrough, ScenariosAreLedThrough, ScenariosAreWellBorn};
 
 /// Each row of players keeps a group well led, by what it is in the group: one that does nothing,
 /// of a node that takes a mail, of the leader, or of one that elects itself.
@@ -50,7 +50,14 @@ pub fn others_keep_led()
     ensures { OthersKeepLed }
 {}
 
-/// Each event of a player in a calm journal leaves a group well led whose log is one, and whose
+/// Each event of a player in a calm journal is a row of a group whose log is one, and whose mail is
+/// sent so: it does nothing in it, a replica rests or takes a mail, a node makes one, its leader
+/// acts, or one elects itself; and the group is well led in the course after it.
+pub fn events_go_on()
+    ensures { EventsGoOn }
+{}
+
+/// So each event of a player in a calm journal leaves a group well led whose log is one, and whose
 /// mail is sent so.
 pub fn events_keep_led()
     ensures { EventsKeepLed }

@@ -1,24 +1,30 @@
 -- A group is gone by its log as its replicas say.
-use Rattle.std.proofs.Common.{◌≡◌, ℕ, ◌+◌, ◌-◌, zero, suc, ◌⊎◌, inl, inr, ◌≤◌, true, false, List, ◌++◌, length, take, is_some, Some, None, refl, sym, ◌∙◌, ap, subst, arith}
+use Rattle.std.proofs.Common.{◌≡◌, ℕ, ◌+◌, ◌-◌, zero, suc, ◌⊎◌, inl, inr, ◌<◌, ◌≤◌, true, false, true≢false, List, [], ◌++◌, length, take, is_some, Some, None, refl, sym, ◌∙◌, ap, subst, arith}
+use Rattle.std.proofs.lemmas.Bool.{cases_lt}
+use Rattle.sc_base.specs.Among.{Among}
+use Rattle.sc_base.specs.declared.names.Ballot.{Ballot}
 use Rattle.sc_base.proofs.NameLemmas.{same_name}
 use Rattle.sc_cmd.specs.declared.commands.Command.{Command}
 use Rattle.sc_cmd.specs.declared.cores.Base.{Base}
 use Rattle.sc_cmd.specs.declared.links.Route.{Route}
 use Rattle.sc_mail.specs.declared.bodies.Mail.{Mail}
 use Rattle.sc_mail.specs.declared.bodies.MailBody.{MailBody}
-use Rattle.sc_mail.specs.declared.bodies.MailBody.TheVariants.{Learn}
+use Rattle.sc_mail.specs.declared.bodies.MailBody.TheVariants.{Accepted as AcceptedMail, Learn}
 use Rattle.sc_machine_table.specs.Group.{Group, group_of}
 use Rattle.sc_machine_table.specs.Logs.{state_after}
 use Rattle.sc_member.specs.Roster.{IsRoster, is_member}
 use Rattle.sc_actor.specs.declared.actors.Seat.{Seat}
 use Rattle.sc_actor.specs.Mail.{mails, numbered}
 use Rattle.sc_paxos_law.specs.Chosen.{IsLog}
+use Rattle.sc_paxos_law.specs.Steps.{Accepted}
 use Rattle.sc_paxos_law.specs.Lawful.{IsLawfulHistory}
 use Rattle.sc_scenario.specs.Valid.{ValidScenariosAreBounded}
 use Rattle.sc_scenario.specs.declared.scenarios.Scenario.{Scenario}
 use Rattle.sc_node_table.specs.Execute.{entered}
 use Rattle.sc_node_table.specs.Node.{NodeState}
 use Rattle.sc_node_table.specs.Replica.{ReplicaState, next}
+use Rattle.sc_node_table.specs.Rows.{mailed}
+use Rattle.sc_node_table.specs.Voting.{accepted_row}
 use Rattle.sc_sound.specs.Logs.{decided_log}
 use Rattle.sc_sound.specs.Players.{Ahead, Player, route_of}
 use Rattle.sc_log_law.specs.Descent.{Rows}
@@ -37,12 +43,14 @@ use Rattle.sc_whole_law.proofs.Scheduled.{orders_allowed}
 use Rattle.sc_following_law.specs.Following.{members_at}
 use Rattle.sc_calm_logs_law.specs.Logged.{logged_sets, IsGroupOf, HasReplica}
 use Rattle.sc_calm_logs_law.proofs.Along.{IsAlong, entered_along}
-use Rattle.sc_calm_logs_law.proofs.Journals.{part, roster, fronts, sent_in, along}
+use Rattle.sc_calm_logs_law.proofs.Journals.{part, roster, fronts, sent_in, along, opens, flying}
+use Rattle.sc_calm_groups_law.specs.Logged.{RestsBy}
 use Rattle.sc_calm_led_law.specs.Led.{over_at, GroupsBeginStanding, EndsAreLogged, ChildrenAreBegun, MembersMoveOneWay}
 use Rattle.sc_calm_led_law.proofs.Begins.{begun_first, begun_stands}
 use Rattle.sc_calm_led_law.proofs.Born.{children_as_begun}
 use Rattle.sc_calm_led_law.proofs.Gone.{later_gone}
 use Rattle.sc_calm_led_law.proofs.Moving.{next_moves}
+use Rattle.sc_calm_led_law.proofs.Voting.{vote_stood}
 
 -- what is gone by a log stays so
 over_stays : (ahead : Ahead) (base : Base) (journal : Rows) (slot later : ℕ) → slot ≤ later → over_at ahead base journal slot ≡ true → over_at ahead base journal later ≡ true
@@ -131,6 +139,27 @@ module _ (bounded : ValidScenariosAreBounded) (begin : ValidScenariosBeginWell) 
           let t = subst (λ n. IsLearnt (rule ahead base) h n command) at (said rows has.more has.front number mail (Learn base.core.id slot command) sent is (same_name base.core.id base.core.id refl)) in
           along_ends (entered command r) (entered_along ahead group.open_slots base first_members h lawful_steps all all_fronts command r k t)
 
+      voted_rests : r.running ≡ true → r.group.core.gone ≡ None → (number : ℕ) (mail : Mail) (ballot : Ballot) (slot : ℕ) → numbered (mails rows) number ≡ Some mail → mail.body ≡ AcceptedMail base.core.id ballot slot
+          → RestsBy (over_at ahead base journal) (mailed mail.from mail.body (r, [])).0.0
+      unfolding mailed
+      voted_rests runs stands number mail ballot slot sent is over_slot gone =
+          subst (λ b. next (mailed mail.from b (r, [])).0.0 ≤ over_slot) (sym is) (by (cases_lt over_slot (next r)) (cases_lt over_slot (next (accepted_row mail.from ballot slot (r, [])).0.0)))
+        where
+          did : (command : Command) × Among (Accepted mail.from ballot slot command) h
+          did = said rows has.more has.front number mail (AcceptedMail base.core.id ballot slot) sent is (same_name base.core.id base.core.id refl)
+
+          stood : over_at ahead base journal (next r) ≡ false
+          stood = sym replica_ends ∙ ap is_some stands
+
+          by : (over_slot < next r) ⊎ (next r ≤ over_slot) → (over_slot < next (accepted_row mail.from ballot slot (r, [])).0.0) ⊎ (next (accepted_row mail.from ballot slot (r, [])).0.0 ≤ over_slot)
+              → next (accepted_row mail.from ballot slot (r, [])).0.0 ≤ over_slot
+          by (inl low) other = absurd (true≢false (sym (over_stays ahead base journal over_slot (next r) (omega (arith, low)) gone) ∙ stood))
+          by (inr high) (inr rests) = rests
+          by (inr high) (inl low) =
+              absurd (true≢false (sym gone ∙ vote_stood ahead group.open_slots base first_members h lawful_steps all all_fronts (over_at ahead base journal) along_ends r k runs stands
+              (opens sources ahead words scenario route well journal orders group.lawful base group.stands rows seat node r has group.open_slots)
+              (flying sources ahead words scenario route well journal orders group.lawful base group.stands rows seat node r has) mail.from ballot slot did.0 did.1 over_slot high low))
+
     begins_first : is_member base.core.members base.core.first ≡ true
     begins_first = begun_first ahead scenario (bounded scenario group.valid) journal base group.stands
 
@@ -151,4 +180,4 @@ module _ (bounded : ValidScenariosAreBounded) (begin : ValidScenariosBeginWell) 
   groups_begin_standing = record { first = begins_first; stands = begins_standing }
 
   pub ends_are_logged : EndsAreLogged
-  ends_are_logged = record { stays = over_stays; begins = begins_over; replicas = replica_ends; entered = entered_ends }
+  ends_are_logged = record { stays = over_stays; begins = begins_over; replicas = replica_ends; entered = entered_ends; voted = voted_rests }

@@ -2,5 +2,10 @@ pub mod Begins
 pub mod Born
 pub mod Ends
 pub mod Gone
+pub mod Leaders
 pub mod Moving
 pub mod One
+pub mod Pumping
+pub mod Starting
+pub mod Telling
+pub mod Voting

@@ -1,11 +1,12 @@
 -- That a group's log in a lawful journal of a valid scenario is one, where it has leaders.
-use Rattle.std.specs.Prelude.{◌≡◌, ℕ, ◌+◌, ◌-◌, ◌≤◌, true, false, List, ◌++◌, take, is_some, Some, None, ◌⊎◌}
+use Rattle.std.specs.Prelude.{◌≡◌, ℕ, ◌+◌, ◌-◌, ◌≤◌, true, false, List, [], ◌++◌, take, is_some, Some, None, ◌⊎◌}
+use Rattle.sc_base.specs.declared.names.Ballot.{Ballot}
 use Rattle.sc_base.specs.declared.names.Draw.{Draw}
 use Rattle.sc_cmd.specs.declared.commands.Command.{Command}
 use Rattle.sc_cmd.specs.declared.cores.Base.{Base}
 use Rattle.sc_cmd.specs.declared.orders.OrderLine.{OrderLine}
 use Rattle.sc_mail.specs.declared.bodies.Mail.{Mail}
-use Rattle.sc_mail.specs.declared.bodies.MailBody.TheVariants.{Learn, Install}
+use Rattle.sc_mail.specs.declared.bodies.MailBody.TheVariants.{Accepted, Learn, Install}
 use Rattle.sc_mail.specs.declared.roles.Role.TheVariants.{Node}
 use Rattle.sc_member.specs.Roster.{is_member}
 use Rattle.sc_actor.specs.declared.actors.Seat.{Seat}
@@ -18,6 +19,7 @@ use Rattle.sc_scenario.specs.declared.scenarios.Scenario.{Scenario}
 use Rattle.sc_node_table.specs.Execute.{entered}
 use Rattle.sc_node_table.specs.Node.{NodeState, replica_of, group_of_mail}
 use Rattle.sc_node_table.specs.Replica.{ReplicaState, next, last_slot}
+use Rattle.sc_node_table.specs.Rows.{mailed}
 use Rattle.sc_sound.specs.Logs.{decided_log}
 use Rattle.sc_sound.specs.Players.{Ahead, Player, births, player_table}
 use Rattle.sc_log_law.specs.Descent.{Rows}
@@ -27,7 +29,7 @@ use Rattle.sc_calm_rows_law.specs.Groups.{view_at}
 use Rattle.sc_calm_rows_law.specs.Turns.{IsSeat, with_event, made_children, AreAsBegun}
 use Rattle.sc_calm_logs_law.specs.Logged.{logged_sets, IsGroupOf, HasReplica}
 use Rattle.sc_calm_groups_law.specs.Led.{Ends}
-use Rattle.sc_calm_groups_law.specs.Logged.{HasRounds, CountsTo}
+use Rattle.sc_calm_groups_law.specs.Logged.{HasRounds, RestsBy, CountsAsMember}
 use Rattle.sc_calm_groups_law.specs.Through.{IsRowOf, Delivers, HasOneLog}
 
 -- whether the group is gone in the state in which a slot is the next one, by its log in a journal; behind the log's end, in the last state
@@ -52,6 +54,10 @@ pub record EndsAreLogged : Type 0 where
       → (rows : Rows) (seat : Seat Player) (node : NodeState) (r : ReplicaState) → HasReplica ahead scenario journal base rows seat node r
       → (number : ℕ) (mail : Mail) (slot : ℕ) (command : Command) → numbered (mails rows) number ≡ Some mail → mail.body ≡ Learn base.core.id slot command → slot ≡ next r
       → is_some (entered command r).group.core.gone ≡ over_at ahead base journal (next (entered command r))
+  -- .. and by a vote one that leads executes nothing of a group that is gone
+  pub voted : (ahead : Ahead) (words : ℕ → ℕ → ℕ × ℕ) (scenario : Scenario) (journal : Rows) (base : Base) → IsGroupOf ahead words scenario journal base
+      → (rows : Rows) (seat : Seat Player) (node : NodeState) (r : ReplicaState) → HasReplica ahead scenario journal base rows seat node r → r.running ≡ true → r.group.core.gone ≡ None
+      → (number : ℕ) (mail : Mail) (ballot : Ballot) (slot : ℕ) → numbered (mails rows) number ≡ Some mail → mail.body ≡ Accepted base.core.id ballot slot → RestsBy (over_at ahead base journal) (mailed mail.from mail.body (r, [])).0.0
 
 -- By each entry of a group's log no member is lost, or nobody comes.
 abbrev pub MembersMoveOneWay : Type 0
@@ -66,23 +72,22 @@ ChildrenAreBegun = (ahead : Ahead) (words : ℕ → ℕ → ℕ × ℕ) (scenari
     → (number : ℕ) (mail : Mail) (group : Draw) → numbered (mails rows) number ≡ Some mail → group_of_mail mail.body ≡ Some group
     → AreAsBegun base seat.who (made_children (replica_of group node.replicas) mail.from mail.body)
 
--- What is left to be asked, of a group that has leaders: the one that leads at a slot is a member there; no replica executes an entry of a group that is gone, nor has used up its rounds; and what is told and sent is of slots up to the last one, and a state is sent by the one that leads at its slot, who counts its entry.
-pub record HasLeaders (ahead : Ahead) (by : Tellers) (scenario : Scenario) (journal : Rows) (base : Base) : Type 0 where
+-- What is left to be asked of the first rows of a journal, in which a group has leaders: the one that leads at a slot is a member there; no replica has used up its rounds; what is told and sent is of slots up to the last one; and who executes an entry as a leader and a member leads at its slot, and it alone sends the state of it.
+pub record HasLeaders (ahead : Ahead) (by : Tellers) (scenario : Scenario) (journal front : Rows) (base : Base) : Type 0 where
   pub leads : (slot : ℕ) → is_member (members_at (logged_sets ahead base journal) slot) (by slot) ≡ true
   -- each replica after any of the rows
-  pub rests : (rows more : Rows) (node : ℕ) (r : ReplicaState) → journal ≡ rows ++ more → view_at (births ahead scenario) rows base.core.id node ≡ Some r → (slot : ℕ) → over_at ahead base journal slot ≡ true → next r ≤ slot
-  pub rounds : (rows more : Rows) (node : ℕ) (r : ReplicaState) → journal ≡ rows ++ more → view_at (births ahead scenario) rows base.core.id node ≡ Some r → HasRounds r
+  pub rounds : (rows more : Rows) (node : ℕ) (r : ReplicaState) → front ≡ rows ++ more → view_at (births ahead scenario) rows base.core.id node ≡ Some r → HasRounds r
   -- an entry that a replica is told at its next slot
-  pub told : (rows : Rows) (seat : Seat Player) (number : ℕ) (mail : Mail) (slot : ℕ) (command : Command) (r : ReplicaState) → Delivers journal rows seat number mail → mail.body ≡ Learn base.core.id slot command
-      → view_at (births ahead scenario) rows base.core.id seat.who ≡ Some r → slot ≡ next r → (slot ≤ last_slot) × (r.group.core.gone ≡ None)
+  pub told : (rows : Rows) (seat : Seat Player) (number : ℕ) (mail : Mail) (slot : ℕ) (command : Command) (r : ReplicaState) → Delivers front rows seat number mail → mail.body ≡ Learn base.core.id slot command
+      → view_at (births ahead scenario) rows base.core.id seat.who ≡ Some r → slot ≡ next r → slot ≤ last_slot
   -- a state that is sent
-  pub sent : (rows : Rows) (seat : Seat Player) (number : ℕ) (mail : Mail) (slot : ℕ) (state : Base) (sets : List (List ℕ)) → Delivers journal rows seat number mail → mail.body ≡ Install base.core.id slot state sets
+  pub sent : (rows : Rows) (seat : Seat Player) (number : ℕ) (mail : Mail) (slot : ℕ) (state : Base) (sets : List (List ℕ)) → Delivers front rows seat number mail → mail.body ≡ Install base.core.id slot state sets
       → (mail.from ≡ by slot) × (slot ≤ last_slot)
   -- entries that a leader executes
-  pub counted : (rows : Rows) (seat : Seat Player) (event : Event OrderLine) (r after : ReplicaState) → IsRowOf journal rows seat event → view_at (births ahead scenario) rows base.core.id seat.who ≡ Some r → r.running ≡ true
-      → view_at (births ahead scenario) (with_event rows seat event) base.core.id seat.who ≡ Some after → CountsTo by r after seat.who
+  pub counted : (rows : Rows) (seat : Seat Player) (event : Event OrderLine) (r after : ReplicaState) → IsRowOf front rows seat event → view_at (births ahead scenario) rows base.core.id seat.who ≡ Some r → r.running ≡ true
+      → view_at (births ahead scenario) (with_event rows seat event) base.core.id seat.who ≡ Some after → CountsAsMember (logged_sets ahead base journal) by r after seat.who
 
--- So a group's log is one, where it has leaders.
+-- So a group's log is one in the first rows of a journal, where it has leaders in these: the members of its slots, and where it is gone, are those of the whole journal.
 abbrev pub LedLogsAreOne : Type 0
-LedLogsAreOne = (ahead : Ahead) (words : ℕ → ℕ → ℕ × ℕ) (by : Tellers) (scenario : Scenario) (journal : Rows) (base : Base) → IsGroupOf ahead words scenario journal base → HasLeaders ahead by scenario journal base
-    → HasOneLog (logged_sets ahead base journal) (over_at ahead base journal) by (births ahead scenario) journal base
+LedLogsAreOne = (ahead : Ahead) (words : ℕ → ℕ → ℕ × ℕ) (by : Tellers) (scenario : Scenario) (journal front more : Rows) (base : Base) → IsGroupOf ahead words scenario journal base → journal ≡ front ++ more → HasLeaders ahead by scenario journal front base
+    → HasOneLog (logged_sets ahead base journal) (over_at ahead base journal) by (births ahead scenario) front base

@@ -3,7 +3,12 @@
 #![tactic(auto)]
 
 ghost use Rattle.sc_calm_led_law.specs.Led.{ChildrenAreBegun, EndsAreLogged, GroupsBeginStanding, LedLogsAreOne, MembersMoveOneWay};
+ghost use Rattle.sc_calm_led_law.specs.Tellers.{GroupsAreLed, GroupsBeginLed};
 
+use sc_calm_groups_law::{
+    children_begin_led, events_go_on, replicas_are_kept, scenarios_are_kept_born,
+    scenarios_are_well_born, scenarios_begin_led,
+};
 use sc_calm_logs_law::{
     commands_come_next, members_are_nodes, replicas_are_logged, slots_have_rosters,
     states_are_logged, views_are_replicas,
@@ -63,4 +68,34 @@ pub fn led_logs_are_one()
     ends_are_logged();
     children_are_begun();
     members_move_one_way();
+}
+
+/// Each group of the journal is well led at the births: one of the scenario as it begins, and each
+/// other since no node has a replica of it.
+pub fn groups_begin_led()
+    ensures { GroupsBeginLed }
+{
+    valid_scenarios_are_bounded();
+    valid_scenarios_begin_well();
+    orders_are_allowed();
+    names_have_one_owner();
+    slots_have_rosters();
+    groups_begin_standing();
+    ends_are_logged();
+    scenarios_begin_led();
+    children_begin_led();
+}
+
+/// So it has leaders, by who executes each slot first, and is well led after each row, where rows
+/// come in time and its mail is sent so.
+pub fn groups_are_led()
+    ensures { GroupsAreLed }
+{
+    scenarios_are_well_born();
+    scenarios_are_kept_born();
+    replicas_are_kept();
+    events_go_on();
+    led_logs_are_one();
+    slots_have_rosters();
+    groups_begin_led();
 }

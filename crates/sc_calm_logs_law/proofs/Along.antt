@@ -1,5 +1,5 @@
 -- A replica along the log of its group: the members of its slots, and the commands that come next.
-use Rattle.std.proofs.Common.{◌≡◌, ℕ, ◌+◌, ◌≤◌, ◌&&◌, suc, true, List, [], ◌∷◌, ◌++◌, length, take, Option, Some, None, refl, sym, ◌∙◌, ap, subst, arith}
+use Rattle.std.proofs.Common.{◌≡◌, ℕ, ◌+◌, ◌≤◌, ◌&&◌, suc, true, true≢false, List, [], ◌∷◌, ◌++◌, length, take, Option, Some, None, refl, sym, ◌∙◌, ap, subst, arith}
 use Rattle.std.proofs.lemmas.Bool.{and_parts, cond_both}
 use Rattle.std.proofs.lemmas.List.{length_push, take-take}
 use Rattle.sc_base.specs.Among.{Among, Each}
@@ -43,7 +43,7 @@ unfolding entered forgotten
 entered_group command r = refl
 
 -- a ready command that is executed next is ready at the next slot, and the replica runs
-next_ready_is : (r : ReplicaState) (c : Command) → next_ready r ≡ Some c → Among (next r, c) r.ready × (r.running ≡ true)
+pub next_ready_is : (r : ReplicaState) (c : Command) → next_ready r ≡ Some c → Among (next r, c) r.ready × (r.running ≡ true)
 next_ready_is r c e =
     cond_both (r.running && has_room r) (at_slot r.ready (next r)) None (λ o. o ≡ Some c → Among (next r, c) r.ready × (r.running ≡ true))
     (λ t k. (slot_among r.ready (next r) c k, (and_parts r.running (has_room r) t).0)) (λ _ k. cc) e
@@ -172,8 +172,12 @@ module _ (ahead : Ahead) (open_slots : ahead.slots ≡ slots_ahead) (base : Base
     along : IsAlong (entered c r)
     along = entered_along c r k t
 
+    -- with it it is further along, and stands where it leads on
+    abbrev pub IsPast : ReplicaState → Type 0
+    IsPast q = IsAlong q × (next q ≡ next r + 1) × (q.running ≡ true → q.group.core.gone ≡ None)
+
     past : (acts calls : List Command) (more : List Mail)
-        → IsAlong (looked (left (landed true (next r) c (welcomed true (members r) (learnt_to true (members r) (next r) c (record (entered c r) { acts = acts; calls = calls }, more)))))).0
+        → IsPast (looked (left (landed true (next r) c (welcomed true (members r) (learnt_to true (members r) (next r) c (record (entered c r) { acts = acts; calls = calls }, more)))))).0
     unfolding ended
     past acts calls more =
         let here : ReplicaState = record (entered c r) { acts = acts; calls = calls } in
@@ -181,22 +185,25 @@ module _ (ahead : Ahead) (open_slots : ahead.slots ≡ slots_ahead) (base : Base
         let over : ReplicaState = record here { leader = without_flight_at (next r) here.leader; ready = without_slot here.ready (next r) } in
         let landed_there : landed true (next r) c told ≡ (over, told.1) =
         ap (λ (q : ReplicaState). landed true (next r) c (q, told.1)) (told_state (members r) (next r) c here more) ∙ landed_is (next r) c here told.1 in
-        subst (λ (p : Place). IsAlong (looked (left p)).0) (sym landed_there)
-        (ends (λ p. IsAlong p.0) over told.1 ((entered_keeps c r).0 ∙ runs) (is_next c r k t).roster
-        (λ stands stays. record { whole = along.whole; is_log = along.is_log; next_is = along.next_is; group_is = along.group_is; ready = Each-without_slot _ (entered c r).ready (next r) along.ready })
-        (λ why hint answer. record { whole = along.whole; is_log = along.is_log; next_is = along.next_is; group_is = along.group_is; ready = tt }))
+        subst (λ (p : Place). IsPast (looked (left p)).0) (sym landed_there)
+        (ends (λ p. IsPast p.0) over told.1 ((entered_keeps c r).0 ∙ runs) (is_next c r k t).roster
+        (λ stands stays. (record { whole = along.whole; is_log = along.is_log; next_is = along.next_is; group_is = along.group_is; ready = Each-without_slot _ (entered c r).ready (next r) along.ready }, entered_next c r, λ on. stands))
+        (λ why hint answer. (record { whole = along.whole; is_log = along.is_log; next_is = along.next_is; group_is = along.group_is; ready = tt }, entered_next c r, λ on. absurd (true≢false (sym on)))))
 
-    one_along : (mails : List Mail) → IsAlong (executed_one true c (r, mails)).0
+    pub one_past : (mails : List Mail) → IsPast (executed_one true c (r, mails)).0
     unfolding executed_one
-    one_along mails =
+    one_past mails =
         announced_keeps (name_of r)
-        (λ place. IsAlong (looked (left (landed true (next r) c (welcomed true (members r) (learnt_to true (members r) (next r) c (spoken true (before_of r.group.core) (applied r.group c).1 c place)))))).0) (entered c r) mails
+        (λ place. IsPast (looked (left (landed true (next r) c (welcomed true (members r) (learnt_to true (members r) (next r) c (spoken true (before_of r.group.core) (applied r.group c).1 c place)))))).0) (entered c r) mails
         (λ acts calls more same.
         let q : ReplicaState = record (entered c r) { acts = acts; calls = calls } in
         let said : Place = spoken true (before_of r.group.core) (applied r.group c).1 c (q, more) in
-        subst (λ (x : ReplicaState). IsAlong (looked (left (landed true (next r) c (welcomed true (members r) (learnt_to true (members r) (next r) c (x, said.1)))))).0)
+        subst (λ (x : ReplicaState). IsPast (looked (left (landed true (next r) c (welcomed true (members r) (learnt_to true (members r) (next r) c (x, said.1)))))).0)
         (sym (spoken_same (name_of r) 0 (before_of r.group.core) (applied r.group c).1 c q more).0) (past acts calls said.1))
         (applied r.group c).1 c
+
+    one_along : (mails : List Mail) → IsAlong (executed_one true c (r, mails)).0
+    one_along mails = (one_past mails).0
 
   -- the ready entries come one after another
   pub are_next : (es : List (ℕ × Command)) (place : Place) → IsAlong place.0 → AreNext at es place

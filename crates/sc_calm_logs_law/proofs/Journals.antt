@@ -110,7 +110,7 @@ module _ (sources : Sources) (ahead : Ahead) (words : ℕ → ℕ → ℕ × ℕ
   pub whole : All journal
   whole = holds sources ahead words scenario route b.place b.seats b.asks b.apart b.fresh journal orders lawful
 
-  found : AreFound ahead scenario.groups journal
+  pub found : AreFound ahead scenario.groups journal
   found = groups_are_found sources ahead scenario.groups b.place journal whole.turn
 
   -- .. and of each of its first parts
@@ -119,7 +119,7 @@ module _ (sources : Sources) (ahead : Ahead) (words : ℕ → ℕ → ℕ × ℕ
       holds sources ahead words scenario route b.place b.seats b.asks b.apart b.fresh rows (fewer_orders sources ahead scenario rows more (subst (OrdersAreAllowed sources ahead scenario) e orders))
       (lawful-prefix (system_of ahead words scenario) (schedule scenario) rows more (subst (Lawful ahead words scenario) e lawful))
 
-  stay : (rows more : Rows) → journal ≡ rows ++ more → StayAsTold ahead scenario.groups rows more
+  pub stay : (rows more : Rows) → journal ≡ rows ++ more → StayAsTold ahead scenario.groups rows more
   stay rows more e = told_rows_stay sources ahead scenario.groups b.place rows more (subst (DecideInTurn sources ahead scenario.groups []) e whole.turn)
 
   module _ (base : Base) (stands : Among base (bases journal)) where

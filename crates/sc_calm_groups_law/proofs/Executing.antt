@@ -1,0 +1,54 @@
+-- By a promise, an order and mail that is no part of the agreement a leader executes nothing.
+use Rattle.std.proofs.Common.{◌≡◌, ℕ, ◌&&◌, not, Bool, true, false, cond, List, [], ◌∷◌, ◌++◌, refl, ap}
+use Rattle.sc_base.specs.Drawing.{Drawer}
+use Rattle.sc_base.specs.Same.{same_ballot}
+use Rattle.sc_base.specs.declared.names.Ballot.{Ballot}
+use Rattle.sc_cmd.specs.declared.commands.Command.{Command}
+use Rattle.sc_cmd.specs.declared.orders.OrderLine.{OrderLine}
+use Rattle.sc_mail.specs.declared.bodies.MailBody.{MailBody}
+use Rattle.sc_mail.specs.declared.bodies.MailBody.TheVariants.{Promise}
+use Rattle.sc_member.specs.Roster.{is_member}
+use Rattle.sc_paxos_words.specs.declared.reports.Report.{Report}
+use Rattle.sc_paxos_words.specs.Leaders.{LeaderState, promise_counted}
+use Rattle.sc_node_table.specs.declared.ReplicaInput.TheVariants as Given
+use Rattle.sc_node_table.specs.Pump.{pumped}
+use Rattle.sc_node_table.specs.Replica.{ReplicaState, Place, name_of, next}
+use Rattle.sc_node_table.specs.Rows.{mailed, stepped}
+use Rattle.sc_node_table.specs.Voting.{leads, promise_row}
+use Rattle.sc_following_law.specs.Following.{Course, Progress, Sets}
+use Rattle.sc_following_law.specs.Leading.{IsLeadOf, IsAside}
+use Rattle.sc_following_law.specs.Offers.{MayOffer}
+use Rattle.sc_following_law.proofs.Asides.{aside_is, order_is}
+use Rattle.sc_following_law.proofs.Offers.{pumps_offer}
+
+module _ (at : Sets) (now : Progress) (r : ReplicaState) (was : IsLeadOf at now r) where
+  -- one with other queues may offer as well
+  queued_may : (acts calls : List Command) → MayOffer at now.course (record r { acts = acts; calls = calls })
+  queued_may acts calls = (let m = was.led.may in record { ballot = m.ballot; sets = m.sets; low = m.low; high = m.high; taken = m.taken; free = m.free })
+
+  -- what it offers then leaves what is executed
+  pumps_stay : (acts calls : List Command) → next (pumped (record r { acts = acts; calls = calls }, [])).0 ≡ next r
+  pumps_stay acts calls = ap next (pumps_offer at now.course (record r { acts = acts; calls = calls }, []) (queued_may acts calls)).is
+
+  pub asides_stay : (from : ℕ) (body : MailBody) → IsAside r body → next (mailed from body (r, [])).0.0 ≡ next r
+  asides_stay from body aside = aside_is (λ p. next p.0 ≡ next r) r was.led.running (λ top acts calls more none. refl) pumps_stay from body aside
+
+  pub orders_stay : (on : Bool) (drawer : Drawer) (line : OrderLine) → next (stepped on drawer (Given.Told line) (r, [])).0.0 ≡ next r
+  orders_stay on drawer line = order_is (λ p. next p.0 ≡ next r) r was.led.running (λ top acts calls more none. refl) pumps_stay on drawer line
+
+  -- a promise that is counted, or not
+  pledged_may : (promisers : List ℕ) (reports : List (Report Command)) (b : Bool) → MayOffer at now.course (record r { leader = (cond {A = Bool × LeaderState Command} b (true, record r.leader { promisers = promisers; reports = reports }) (false, r.leader)).1 })
+  pledged_may promisers reports true = (let m = was.led.may in record { ballot = m.ballot; sets = m.sets; low = m.low; high = m.high; taken = m.taken; free = m.free })
+  pledged_may promisers reports false = (let m = was.led.may in record { ballot = m.ballot; sets = m.sets; low = m.low; high = m.high; taken = m.taken; free = m.free })
+
+  pub promises_stay : (from : ℕ) (ballot : Ballot) (reports : List (Report Command)) → next (mailed from (Promise (name_of r) ballot reports) (r, [])).0.0 ≡ next r
+  unfolding mailed promise_row
+  promises_stay from ballot reports = by (leads ballot r)
+    where
+      counted : next (pumped (record r { leader = (promise_counted from ballot reports r.leader).1 }, [])).0 ≡ next r
+      counted = ap next (pumps_offer at now.course (record r { leader = (promise_counted from ballot reports r.leader).1 }, [])
+          (pledged_may (r.leader.promisers ++ from ∷ []) (r.leader.reports ++ reports) (same_ballot ballot r.leader.ballot && not (is_member r.leader.promisers from)))).is
+
+      by : (b : Bool) → next (cond b (pumped (record r { leader = (promise_counted from ballot reports r.leader).1 }, [])) (r, [])).0 ≡ next r
+      by true = counted
+      by false = refl

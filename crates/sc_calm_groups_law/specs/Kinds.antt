@@ -1,0 +1,43 @@
+-- What each row of players is to a group that is well led, and the course that the group has after it.
+use Rattle.std.specs.Prelude.{◌≡◌, ℕ, true, false, List, Some, None}
+use Rattle.sc_base.specs.declared.names.Ballot.{Ballot}
+use Rattle.sc_cmd.specs.declared.cores.Base.{Base}
+use Rattle.sc_cmd.specs.declared.orders.OrderLine.{OrderLine}
+use Rattle.sc_actor.specs.declared.actors.Seat.{Seat}
+use Rattle.sc_actor.specs.declared.rows.Event.{Event}
+use Rattle.sc_actor.specs.Mail.{mails}
+use Rattle.sc_node_table.specs.Replica.{ReplicaState, Place}
+use Rattle.sc_node_table.specs.Rows.{made_by}
+use Rattle.sc_sound.specs.Players.{Player}
+use Rattle.sc_calm_law.specs.Totals.{Rows}
+use Rattle.sc_following_law.specs.Following.{Mark, Installs, Course, Sets}
+use Rattle.sc_following_law.specs.Hints.{Tellers}
+use Rattle.sc_following_law.specs.Rows.{IsIdle, Takes}
+use Rattle.sc_following_law.specs.Tables.{StepsBy}
+use Rattle.sc_calm_rows_law.specs.Asides.{IsUnmoved}
+use Rattle.sc_calm_rows_law.specs.Groups.{taken_mark}
+use Rattle.sc_calm_rows_law.specs.Steps.{led_course, elected_course}
+use Rattle.sc_calm_rows_law.specs.Turns.{with_event, IsKind, IsReplicasRow, LeavesOrBears}
+use Rattle.sc_calm_groups_law.specs.Led.{Ends, IsWellLed}
+use Rattle.sc_calm_groups_law.specs.Logged.{IsLogsState, CountsTo}
+use Rattle.sc_calm_groups_law.specs.Rows.{LeadsWell, ElectsWell}
+
+-- What one row is to a group that is well led, and the group's course after it: it does nothing in it, but that the node may make its replica at the group's birth; a replica that does not run stays where it is; one takes a mail, or a node makes one of a state; its leader acts; or one elects itself.
+pub data IsGroupRow (at : Sets) (over : Ends) (by : Tellers) (births : List (Seat Player)) (rows : Rows) (seat : Seat Player) (event : Event OrderLine) (base : Base) (course later : Course) : Type 0 where
+  RowPasses : later ≡ course → LeavesOrBears births rows seat event base → IsGroupRow at over by births rows seat event base course later
+  RowRests : later ≡ course → (r : ReplicaState) (after : Place) → IsReplicasRow births rows seat event base.core.id (Some r) after → r.running ≡ false → IsUnmoved base.core.id r after → IsKind IsIdle births rows seat event base course course
+      → IsGroupRow at over by births rows seat event base course later
+  RowTakes : later ≡ course → (r : ReplicaState) (after : Place) (mark : Mark) → IsReplicasRow births rows seat event base.core.id (Some r) after → taken_mark base.core.id (mails rows) event ≡ Some mark → StepsBy mark r after
+      → IsKind (Takes at) births rows seat event base course course → IsGroupRow at over by births rows seat event base course later
+  RowMakes : later ≡ course → (from slot : ℕ) (state : Base) (sets : List (List ℕ)) → IsReplicasRow births rows seat event base.core.id None (made_by seat.who from base.core.id slot state sets) → taken_mark base.core.id (mails rows) event ≡ Some (Installs slot)
+      → IsLogsState at by base slot from state sets → IsKind (Takes at) births rows seat event base course course → IsGroupRow at over by births rows seat event base course later
+  RowLeads : (r : ReplicaState) (after : Place) → IsReplicasRow births rows seat event base.core.id (Some r) after → r.running ≡ true → CountsTo by r after.0 seat.who → (l : LeadsWell at over by births rows seat event base course after)
+      → later ≡ led_course l.led.bound course after.0 → IsGroupRow at over by births rows seat event base course later
+  RowElects : (r : ReplicaState) (after : Place) (ballot : Ballot) → IsReplicasRow births rows seat event base.core.id (Some r) after → r.running ≡ false → ElectsWell at births rows seat event base course ballot after → later ≡ elected_course course ballot
+      → IsGroupRow at over by births rows seat event base course later
+
+-- the group is well led after the event, in a course that comes of its row
+pub record IsLedStep (at : Sets) (over : Ends) (by : Tellers) (words : ℕ → ℕ → ℕ × ℕ) (births : List (Seat Player)) (rows : Rows) (seat : Seat Player) (event : Event OrderLine) (base : Base) (course : Course) : Type 0 where
+  pub later : Course
+  pub led : IsWellLed at over by words births (with_event rows seat event) base later
+  pub row : IsGroupRow at over by births rows seat event base course later
