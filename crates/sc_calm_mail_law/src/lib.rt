@@ -1,0 +1,10 @@
+//! What holds of each replica and of each mail in any journal whose rows come in time, whatever
+//! orders are given. Definitions and laws, no logic.
+#![tactic(auto)]
+
+ghost use Rattle.std.specs.Prelude.{◌≡◌};
+
+/// One.
+pub fn one() -> u32
+    ensures { result ≡ 1 }
+{ 1 }
