@@ -1,5 +1,9 @@
+pub mod Clients
+pub mod Journals
+pub mod Posting
 pub mod Waiting
 pub mod WalkMails
+pub mod WalkNodes
 pub mod WalkParts
 pub mod WalkRows
 pub mod Walks
