@@ -1,4 +1,6 @@
 pub mod Clients
+pub mod FewLists
+pub mod FewWalks
 pub mod Journals
 pub mod Posting
 pub mod Waiting
