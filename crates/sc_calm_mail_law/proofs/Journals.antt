@@ -3,7 +3,10 @@ use Rattle.std.proofs.Common.{◌≡◌, ℕ, zero, suc, ◌+◌, eqb, refl, con
 use Rattle.std.specs.Prelude.{slice_get}
 use Rattle.std.specs.Option.{option_map}
 use Rattle.std.proofs.lemmas.List.{length_push}
+use Rattle.std.proofs.lemmas.Bool.{eqb-true}
 use Rattle.sc_base.specs.Among.{Each, Among}
+use Rattle.sc_base.specs.Same.{same_draw}
+use Rattle.sc_base.specs.declared.names.Draw.{Draw}
 use Rattle.sc_base.specs.Limits.{client_actor}
 use Rattle.sc_cmd.specs.declared.cores.Base.{Base}
 use Rattle.sc_cmd.specs.declared.orders.OrderLine.{OrderLine}
@@ -25,15 +28,16 @@ use Rattle.sc_orderly_law.specs.Timely.{AreInTime}
 use Rattle.sc_orderly_law.proofs.InTime.{by_time, last_in_time, in_time_before}
 use Rattle.sc_client_table.specs.Client.{Client as ClientState}
 use Rattle.sc_paxos_words.proofs.ListLemmas.{Each-among, Each-append, Each-weaker, find_found}
-use Rattle.sc_node_table.specs.Node.{NodeState, born_replicas, node_table}
+use Rattle.sc_node_table.specs.Node.{NodeState, born_replicas, node_table, replica_of}
 use Rattle.sc_client_table.specs.Table.{table}
-use Rattle.sc_node_table.specs.Replica.{ReplicaState, born_replica}
+use Rattle.sc_node_table.specs.Replica.{ReplicaState, name_of, born_replica}
 use Rattle.sc_node_table.specs.Slots.{slots_ahead, numbers_from}
 use Rattle.sc_scenario.specs.declared.scenarios.Asks.{Asks as Requests}
 use Rattle.sc_scenario.specs.declared.scenarios.Scenario.{Scenario}
 use Rattle.sc_sound.specs.Players.{Player, player_table, node_seat, client_seat, client_seats, route_of, births, as_nodes}
 use Rattle.sc_calm_law.specs.Charts.{players}
 use Rattle.sc_calm_law.specs.Totals.{Rows}
+use Rattle.sc_calm_rows_law.specs.Groups.{replicas_of, replica_in, view_at}
 use Rattle.sc_calm_rows_law.specs.Turns.{IsSeat}
 use Rattle.sc_law_lemmas.proofs.Ways.{either_way}
 use Rattle.sc_calm_mail_law.specs.Idle.{IsPlainlyKept}
@@ -188,3 +192,28 @@ module _ (scenario : Scenario) (law : Law (births as_nodes scenario)) where
 
   pub journals_hold : (words : ℕ → ℕ → ℕ × ℕ) (rows : Rows) → AreInTime (players words (births as_nodes scenario)) rows → Holds (births as_nodes scenario) law rows
   journals_hold words rows timely = rows_hold (births as_nodes scenario) law words rows all_born timely
+
+-- ---- a replica that a node has after some rows
+
+module _ (births : List (Seat Player)) (law : Law births) (rows : Rows) (name : Draw) where
+  abbrev Has : ℕ → Option ReplicaState → Type 0
+  Has who None = Unit {0}
+  Has who (Some r) = IsKept births law (length rows) who r
+
+  replica_kept : (who : ℕ) (replicas : List ReplicaState) → Each (IsKept births law (length rows) who) replicas → Has who (replica_of name replicas)
+  replica_kept who [] k = tt
+  replica_kept who (r ∷ replicas) k = either_way (Has who) (same_draw (name_of r) name) (Some r) (replica_of name replicas) k.0 (replica_kept who replicas k.1)
+
+  player_kept : (seat : Seat Player) (player : Player) → Plays births law (length rows) seat player → Has seat.who (replica_of name (replicas_of player))
+  player_kept seat (Node node) k = replica_kept seat.who node.replicas k.3
+  player_kept seat (Client client) k = tt
+
+  pub view_kept : (who : ℕ) (r : ReplicaState) → Holds births law rows → view_at births rows name who ≡ Some r → IsKept births law (length rows) who r
+  view_kept who r holds e = by (find (λ other. eqb other.who who) births) refl e
+    where
+      by : (o : Option (Seat Player)) → find (λ other. eqb other.who who) births ≡ o → replica_in name rows o ≡ Some r → IsKept births law (length rows) who r
+      by None f e2 = cc
+      by (Some seat) f e2 =
+          let found = find_found (λ (other : Seat Player). eqb other.who who) births seat f in
+          let plays = Each-among (λ (s : Seat Player). Plays births law (length rows) s (value player_table s rows)) births seat holds.0 found.0 in
+          subst (λ w. IsKept births law (length rows) w r) (eqb-true seat.who who found.1) (subst (Has seat.who) e2 (player_kept seat (value player_table seat rows) plays))

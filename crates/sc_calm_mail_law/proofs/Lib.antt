@@ -1,4 +1,5 @@
 pub mod Clients
+pub mod FewJournals
 pub mod FewLists
 pub mod FewWalks
 pub mod Journals
@@ -9,3 +10,4 @@ pub mod WalkNodes
 pub mod WalkParts
 pub mod WalkRows
 pub mod Walks
+pub mod Works
