@@ -17,7 +17,7 @@ use Rattle.sc_calm_mail_law.specs.Few.{most_after, IsFewReport, SaysFew, Journal
 use Rattle.sc_calm_mail_law.specs.Idle.{JournalsKeepIdle}
 use Rattle.sc_calm_mail_law.proofs.Clients.{IsRequestOf}
 use Rattle.sc_calm_mail_law.proofs.FewLists.{FlyTo, WaitTo}
-use Rattle.sc_calm_mail_law.proofs.FewWalks.{Early, Late, few_walk}
+use Rattle.sc_calm_mail_law.proofs.FewWalks.{Early, Late, few_walk, few_births}
 use Rattle.sc_calm_mail_law.proofs.Journals.{Speaks, Law, Holds, journals_hold, view_kept}
 use Rattle.sc_calm_mail_law.proofs.Walks.{Walk, Part, next_in, Sends, Hears}
 
@@ -117,6 +117,7 @@ abbrev few_law : (births : List (Seat Player)) → Law births
 few_law births = record {
   walk = few_walk;
   mine = λ n who. refl;
+  births = few_births;
   Kept = λ n p. PartHas (most_after n) p;
   Good = λ n mail. SaysFew (most_after n) mail.body;
   begins = λ base. (omega arith, omega arith, omega arith, tt, omega arith, tt, tt, tt);

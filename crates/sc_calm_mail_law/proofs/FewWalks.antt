@@ -24,7 +24,7 @@ use Rattle.sc_law_lemmas.proofs.Ways.{either_way}
 use Rattle.sc_calm_rows_law.proofs.WellParts.{floor_most}
 use Rattle.sc_calm_mail_law.specs.Few.{most_after, IsFewReport, SaysFew}
 use Rattle.sc_calm_mail_law.proofs.FewLists.{FlyTo, WaitTo, flights_less, votes_few, entries_less, entries_more, found_low, reports_more, entry_low}
-use Rattle.sc_calm_mail_law.proofs.Walks.{Walk, Part, next_in, cut_part, entered_part, jumped_part, elected_part, born_part, IsReported}
+use Rattle.sc_calm_mail_law.proofs.Walks.{Walk, Births, Part, next_in, cut_part, entered_part, jumped_part, elected_part, born_part, IsReported}
 
 -- ---- the next slot
 
@@ -124,8 +124,6 @@ few_walk n who = (
       counts = λ from ballot slot set p k. (let v = votes_few (m + 4) p.leader from ballot slot set k.0.4 in let b = k.2 in let same = ap (λ (x : Ballot). x.round) v.0 in
       ((k.0.0, k.0.1, k.0.2, subst (Each (IsFewReport m)) (sym v.1) k.0.3, v.2, k.0.5), k.1, omega (arith, same, b)));
       flown = λ slot command p low k. (let a = k.0.0 in ((k.0.0, k.0.1, k.0.2, k.0.3, Each-append (λ (flight : Flight Command). flight.slot ≤ m + 4) p.leader.flights _ k.0.4 (omega (arith, a, low), tt), k.0.5), k.1, k.2, k.3));
-      born = λ base. ((omega arith, omega arith, tt, tt, tt, tt), omega arith, omega arith, λ some. (omega arith, omega arith));
-      made = λ slot base good. made_few m slot base (omega arith) good;
       tells = λ number result. tt;
       answers = λ client group seq answer. tt;
       asks = λ to slot command p low k. (let a = k.0.0 in let b = k.2 in (omega (arith, b), omega (arith, a, low)));
@@ -148,3 +146,9 @@ few_walk n who = (
       sends_on = λ to tx coord hint. tt;
     }
   )
+
+pub few_births : (n who : ℕ) → Births (few_walk n who)
+few_births n who = record {
+  born = λ base. ((omega arith, omega arith, tt, tt, tt, tt), omega arith, omega arith, λ some. (omega arith, omega arith));
+  made = λ slot base good. made_few (most_after n) slot base (omega arith) good;
+}

@@ -43,7 +43,7 @@ use Rattle.sc_law_lemmas.proofs.Ways.{either_way}
 use Rattle.sc_calm_mail_law.specs.Idle.{IsPlainlyKept}
 use Rattle.sc_calm_mail_law.proofs.Clients.{IsRequestOf, clients_ask}
 use Rattle.sc_calm_mail_law.proofs.WalkNodes.{Given, Starts, Stands, input_step}
-use Rattle.sc_calm_mail_law.proofs.Walks.{Walk, Part, part, born_part, Sends, AreSaid, EarlyAt, LateAt, Hears}
+use Rattle.sc_calm_mail_law.proofs.Walks.{Walk, Births, Part, part, born_part, Sends, AreSaid, EarlyAt, LateAt, Hears}
 
 -- a mail that has a number was sent
 among_place : {X : Type 0} (xs : List X) (place : ℕ) (x : X) → slice_get xs place ≡ Some x → Among x xs
@@ -60,9 +60,10 @@ abbrev pub Speaks : Walk → Seat Player → Mail → Type 0
 Speaks w seat mail = ((born : NodeState) × (seat.actor ≡ Node born) × Sends w mail) ⊎ ((born : ClientState) × (seat.actor ≡ Client born) × (seat.who ≡ client_actor born.me) × IsRequestOf born.me mail)
 
 -- a law of journals: what holds of replicas and of mail after so many rows, and the walk by which one more row keeps it
-pub record Law (births : List (Seat Player)) : Type 1 where
+pub record Law (seats : List (Seat Player)) : Type 1 where
   pub walk : ℕ → ℕ → Walk
   pub mine : (n who : ℕ) → (walk n who).me ≡ who
+  pub births : (n who : ℕ) → Births (walk n who)
   pub Kept : ℕ → Part → Type 0
   pub Good : ℕ → Mail → Type 0
   pub begins : (base : Base) → Kept 0 (born_part base)
@@ -70,7 +71,7 @@ pub record Law (births : List (Seat Player)) : Type 1 where
   pub keeps : (n who : ℕ) (p : Part) → (walk n who).Late p → Kept (n + 1) p
   pub more : (n : ℕ) (mail : Mail) → Good n mail → Good (n + 1) mail
   pub hears : (n who : ℕ) (mail : Mail) → Good n mail → Hears (walk n who) mail.body
-  pub said : (n : ℕ) (seat : Seat Player) (mail : Mail) → IsSeat births seat → Speaks (walk n seat.who) seat mail → Good (n + 1) mail
+  pub said : (n : ℕ) (seat : Seat Player) (mail : Mail) → IsSeat seats seat → Speaks (walk n seat.who) seat mail → Good (n + 1) mail
 
 module _ (births : List (Seat Player)) (law : Law births) where
   -- a replica after so many rows
@@ -83,12 +84,12 @@ module _ (births : List (Seat Player)) (law : Law births) where
   Plays n seat (Client client) = (born : ClientState) × (seat.actor ≡ Client born) × (seat.who ≡ client_actor born.me) × (client.me ≡ born.me)
 
   -- before a row and after it
-  begins_row : (n who : ℕ) (node : NodeState) → node.me ≡ who → Each (IsKept n who) node.replicas → Starts (law.walk n who) node
+  begins_row : (n who : ℕ) (node : NodeState) → node.me ≡ who → Each (IsKept n who) node.replicas → Starts (law.walk n who) (law.births n who) node
   begins_row n who node same kept =
       let me : (law.walk n who).me ≡ who = law.mine n who in
       (same ∙ sym me, Each-weaker (IsKept n who) (EarlyAt (law.walk n who)) (λ r k. (subst (λ m. IsPlainlyKept m r) (sym me) k.0, law.starts n who (part r) k.1)) node.replicas kept)
 
-  ends_row : (n who : ℕ) (node : NodeState) → Stands (law.walk n who) node → (node.me ≡ who) × Each (IsKept (n + 1) who) node.replicas
+  ends_row : (n who : ℕ) (node : NodeState) → Stands (law.walk n who) (law.births n who) node → (node.me ≡ who) × Each (IsKept (n + 1) who) node.replicas
   ends_row n who node k =
       let me : (law.walk n who).me ≡ who = law.mine n who in
       (k.0 ∙ me, Each-weaker (LateAt (law.walk n who)) (IsKept (n + 1) who) (λ r l. (subst (λ m. IsPlainlyKept m r) me l.0, law.keeps n who (part r) l.1)) node.replicas k.1)
@@ -100,15 +101,17 @@ module _ (births : List (Seat Player)) (law : Law births) where
   stays : (n : ℕ) (seat : Seat Player) (player : Player) → Plays n seat player → Plays (n + 1) seat player
   stays n seat (Node node) k =
       let w : Walk = law.walk n seat.who in
-      let s : Starts w node = begins_row n seat.who node k.2 k.3 in
-      let e = ends_row n seat.who node (input_step w node GoInput tt s).0 in
+      let b : Births w = law.births n seat.who in
+      let s : Starts w b node = begins_row n seat.who node k.2 k.3 in
+      let e = ends_row n seat.who node (input_step w b node GoInput tt s).0 in
       (k.0, k.1, e.0, e.1)
   stays n seat (Client client) k = k
 
-  gets_input : (n : ℕ) (seat : Seat Player) (player : Player) (input : Input Mail OrderLine) → Given (law.walk n seat.who) input → Plays n seat player → Turn n seat (player_table player input)
+  gets_input : (n : ℕ) (seat : Seat Player) (player : Player) (input : Input Mail OrderLine) → Given (law.walk n seat.who) (law.births n seat.who) input → Plays n seat player → Turn n seat (player_table player input)
   gets_input n seat (Node node) input h k =
       let w : Walk = law.walk n seat.who in
-      let s = input_step w node input h (begins_row n seat.who node k.2 k.3) in
+      let b : Births w = law.births n seat.who in
+      let s = input_step w b node input h (begins_row n seat.who node k.2 k.3) in
       let e = ends_row n seat.who (node_table node input).0 s.0 in
       ((k.0, k.1, e.0, e.1), Each-weaker (Sends w) (Speaks w seat) (λ mail said. inl (k.0, k.1, said)) (node_table node input).1 s.1)
   gets_input n seat (Client client) input h k =

@@ -53,8 +53,6 @@ posting who = record {
   polled = λ from ballot reports p good k. tt;
   counts = λ from ballot slot set p k. tt;
   flown = λ slot command p low k. tt;
-  born = λ base. tt;
-  made = λ slot base good. tt;
   tells = λ number result. refl;
   answers = λ client group seq answer. (client, refl);
   asks = λ to slot command p low k. tt;
@@ -119,6 +117,7 @@ module _ (births : List (Seat Player)) where
   posting_law = record {
     walk = λ n who. posting who;
     mine = λ n who. refl;
+    births = λ n who. record { born = λ base. tt; made = λ slot base good. tt };
     Kept = λ n p. Unit {0};
     Good = λ n mail. IsPosted births mail;
     begins = λ base. tt;

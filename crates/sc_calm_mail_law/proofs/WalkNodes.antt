@@ -32,9 +32,9 @@ use Rattle.sc_sound.specs.Players.{Player, player_table}
 use Rattle.sc_law_lemmas.proofs.Ways.{either_way}
 use Rattle.sc_calm_mail_law.proofs.WalkMails.{one_sent, client_told}
 use Rattle.sc_calm_mail_law.proofs.WalkRows.{takes_mail, orders, bears, makes}
-use Rattle.sc_calm_mail_law.proofs.Walks.{Walk, part, AreSaid, EarlyAt, LateAt, After, AfterAll, Hears}
+use Rattle.sc_calm_mail_law.proofs.Walks.{Walk, Births, part, AreSaid, EarlyAt, LateAt, After, AfterAll, Hears}
 
-module _ (w : Walk) where
+module _ (w : Walk) (b : Births w) where
   -- ---- replicas in their order
 
   abbrev pub AllLate : List ReplicaState → Type 0
@@ -89,11 +89,11 @@ module _ (w : Walk) where
       made : After w (made_by w.me from group slot base sets) → Step (with_made (made_by node.me from group slot base sets) node)
       made q = made_step (made_by node.me from group slot base sets) node (subst (λ m. After w (made_by m from group slot base sets)) (sym k.0) q) k
 
-      by : (b : Bool) → eqb (length sets) slots_ahead ≡ b → Step (cond {A = NodeState × List Mail} (not b || nat_lt last_slot slot) (node, []) (with_made (made_by node.me from group slot base sets) node))
+      by : (c : Bool) → eqb (length sets) slots_ahead ≡ c → Step (cond {A = NodeState × List Mail} (not c || nat_lt last_slot slot) (node, []) (with_made (made_by node.me from group slot base sets) node))
       by false e = (k, tt)
       by true e =
           either_way Step (nat_lt last_slot slot) (node, []) (with_made (made_by node.me from group slot base sets) node) (k, tt)
-          (made (makes w from group slot base sets (eqb-true (length sets) slots_ahead e) h.1))
+          (made (makes w b from group slot base sets (eqb-true (length sets) slots_ahead e) h.1))
   unknown_step from (Request group client seq op) node h k = (k, client_told w node.me k.0 client group seq (NotLeader None) [] tt)
   unknown_step from (Prepare group ballot from_slot) node h k = sent_one node from (Ask group 0) k (w.wants_all from group)
   unknown_step from (Accept group ballot slot command) node h k = sent_one node from (Ask group 0) k (w.wants_all from group)
@@ -114,7 +114,7 @@ module _ (w : Walk) where
   child_step : (child : Base) (node : NodeState) → Stands node → Stands (with_born child node)
   child_step child node k =
       either_way Stands (is_some (replica_of child.core.id node.replicas)) node (record node { replicas = with_new (born_replica slots_ahead node.me child) node.replicas }) k
-      (k.0, new_late (born_replica slots_ahead node.me child) node.replicas (subst (λ m. LateAt w (born_replica slots_ahead m child)) (sym k.0) (bears w child)) k.1)
+      (k.0, new_late (born_replica slots_ahead node.me child) node.replicas (subst (λ m. LateAt w (born_replica slots_ahead m child)) (sym k.0) (bears w b child)) k.1)
 
   children_step : (children : List Base) (node : NodeState) → Stands node → Stands (with_children children node)
   unfolding with_children

@@ -65,7 +65,7 @@ use Rattle.sc_calm_mail_law.specs.Idle.{IsFiled, IsAsked, IsPlainlyKept}
 use Rattle.sc_calm_mail_law.proofs.Waiting.{none_waits, without_asked, waiting, one_asked}
 use Rattle.sc_calm_mail_law.proofs.WalkMails.{one_sent, client_told, vote_told, watch_told, outcome_said, next_one_asked}
 use Rattle.sc_calm_mail_law.proofs.WalkParts.{pumps, acts_pump, leader_ends, sees_ballot, state_sent, looks, executes}
-use Rattle.sc_calm_mail_law.proofs.Walks.{Walk, part, IsReported, AreSaid, EarlyAt, LateAt, Before, After, AfterAll, on_late, Hears}
+use Rattle.sc_calm_mail_law.proofs.Walks.{Walk, Births, part, IsReported, AreSaid, EarlyAt, LateAt, Before, After, AfterAll, on_late, Hears}
 
 module _ (w : Walk) where
   -- ---- Request
@@ -346,13 +346,13 @@ module _ (w : Walk) where
 
   -- ---- births, and a replica that is made of a state
 
-  pub bears : (base : Base) → LateAt w (born_replica slots_ahead w.me base)
-  bears base = ((refl, refl, (λ off. (refl, refl, refl), refl, tt, tt)), w.born base)
+  pub bears : Births w → (base : Base) → LateAt w (born_replica slots_ahead w.me base)
+  bears b base = ((refl, refl, (λ off. (refl, refl, refl), refl, tt, tt)), b.born base)
 
-  makes_of : (slot : ℕ) (base : Base) (sets : List (List ℕ)) → length sets ≡ slots_ahead → w.State slot base → EarlyAt w (installed_replica w.me slot base sets)
+  makes_of : Births w → (slot : ℕ) (base : Base) (sets : List (List ℕ)) → length sets ≡ slots_ahead → w.State slot base → EarlyAt w (installed_replica w.me slot base sets)
   unfolding forgotten
-  makes_of slot base sets many good = ((refl, many, (λ off. (refl, refl, refl), refl, tt, tt)), w.made slot base good)
+  makes_of b slot base sets many good = ((refl, many, (λ off. (refl, refl, refl), refl, tt, tt)), b.made slot base good)
 
-  pub makes : (from : ℕ) (group : Draw) (slot : ℕ) (base : Base) (sets : List (List ℕ)) → length sets ≡ slots_ahead → w.State slot (named group base) → After w (made_by w.me from group slot base sets)
+  pub makes : Births w → (from : ℕ) (group : Draw) (slot : ℕ) (base : Base) (sets : List (List ℕ)) → length sets ≡ slots_ahead → w.State slot (named group base) → After w (made_by w.me from group slot base sets)
   unfolding made_by
-  makes from group slot base sets many good = looks_up from (installed_replica w.me slot (named group base) sets, []) (makes_of slot (named group base) sets many good, tt)
+  makes b from group slot base sets many good = looks_up from (installed_replica w.me slot (named group base) sets, []) (makes_of b slot (named group base) sets many good, tt)

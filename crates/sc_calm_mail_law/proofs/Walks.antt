@@ -96,8 +96,6 @@ pub record Walk : Type 1 where
   pub polled : (from : ℕ) (ballot : Ballot) (reports : List (Report Command)) (p : Part) → Each (IsReported Round Slot) reports → Early p → Early (record p { leader = (promise_counted from ballot reports p.leader).1 })
   pub counts : (from : ℕ) (ballot : Ballot) (slot : ℕ) (set : List ℕ) (p : Part) → Early p → Early (record p { leader = (counted from ballot slot set p.leader).1 })
   pub flown : (slot : ℕ) (command : Command) (p : Part) → slot < next_in p + slots_ahead → Late p → Late (record p { leader = with_flight_at slot command p.leader })
-  pub born : (base : Base) → Late (born_part base)
-  pub made : (slot : ℕ) (base : Base) → State slot base → Early (cut_part slot (record (born_part base) { log = installed slot }))
   -- what it says
   pub tells : (number : ℕ) (result : ToldResult) → Says 0 (Told number result)
   pub answers : (client : ℕ) (group : Draw) (seq : ℕ) (answer : AnswerBody) → Says (client_actor client) (Answer group seq answer)
@@ -118,6 +116,11 @@ pub record Walk : Type 1 where
   pub sees : (to : ℕ) (tx coord part : Draw) (vote : Past) → Says to (TxWatched tx coord part vote)
   pub ends : (to : ℕ) (tx part : Draw) (outcome : Outcome) → Says to (TxOutcome tx part outcome)
   pub sends_on : (to : ℕ) (tx coord : Draw) (hint : Option ℕ) → Says to (TxElsewhere tx coord hint)
+
+-- it is so at a group's birth, and where a replica is made of a state
+pub record Births (w : Walk) : Type 0 where
+  pub born : (base : Base) → w.Late (born_part base)
+  pub made : (slot : ℕ) (base : Base) → w.State slot base → w.Early (cut_part slot (record (born_part base) { log = installed slot }))
 
 module _ (w : Walk) where
   -- a mail of the node that it may send, and some mail
