@@ -28,14 +28,14 @@ use Rattle.sc_calm_mail_law.proofs.Walks.{Walk, Births, Part, next_in, cut_part,
 
 -- ---- the next slot
 
-entered_up : (command : Command) (p : Part) → next_in (entered_part command p) ≡ next_in p + 1
+pub entered_up : (command : Command) (p : Part) → next_in (entered_part command p) ≡ next_in p + 1
 entered_up command p =
     let log : LogState Command = record p.log { entries = p.log.entries ++ command ∷ [] } in
     let longer = length_push p.log.entries command in
     let low = floor_under (next_in p) (omega arith) in
     ap (λ l. next_of (log_cut (floor_of (next_in p)) l)) (entry_is command p.log) ∙ cut_next (floor_of (next_in p)) log (omega (arith, longer, low)) ∙ omega (arith, longer)
 
-installed_up : (slot : ℕ) → next_of (log_cut (floor_of slot) (installed {V = Command} slot)) ≡ slot + 1
+pub installed_up : (slot : ℕ) → next_of (log_cut (floor_of slot) (installed {V = Command} slot)) ≡ slot + 1
 installed_up slot = (let most = floor_most slot in cut_next (floor_of slot) (installed slot) (omega (arith, most)) ∙ omega arith)
 
 -- ---- one row, where all slots and rounds were so many at most

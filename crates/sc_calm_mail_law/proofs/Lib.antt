@@ -2,7 +2,9 @@ pub mod Clients
 pub mod FewJournals
 pub mod FewLists
 pub mod FewWalks
+pub mod Growing
 pub mod Journals
+pub mod Lasting
 pub mod Posting
 pub mod Waiting
 pub mod WalkMails

@@ -4,6 +4,7 @@
 
 ghost use Rattle.sc_calm_mail_law.specs.Few.{JournalsHaveFew, SlotsAreLeft};
 ghost use Rattle.sc_calm_mail_law.specs.Idle.{FiledIsWork, JournalsKeepIdle};
+ghost use Rattle.sc_calm_mail_law.specs.Lasting.{ReplicasLast};
 ghost use Rattle.sc_calm_mail_law.specs.Posted.{DesksAreNotBorn, MailIsPosted, MailMayCome, RowsPostTheirOwn};
 
 /// Each mail of a journal whose rows come in time is sent by a player of its number: an answer by
@@ -48,4 +49,10 @@ pub fn journals_keep_idle()
 /// A command of a transaction is the work of an order.
 pub fn filed_is_work()
     ensures { FiledIsWork }
+{}
+
+/// A node that has a replica of a group after some rows has one after more, which has seen no lower
+/// ballot and has executed no less.
+pub fn replicas_last()
+    ensures { ReplicasLast }
 {}
