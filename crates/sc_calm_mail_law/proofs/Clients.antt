@@ -1,0 +1,92 @@
+-- A client keeps its number, and sends requests of its own alone.
+use Rattle.std.proofs.Common.{◌≡◌, ℕ, ◌+◌, nat_le, Bool, cond, List, [], ◌∷◌, ◌++◌, length, Option, Some, None, ap}
+use Rattle.sc_base.specs.Among.{Each}
+use Rattle.sc_base.specs.declared.names.Draw.{Draw}
+use Rattle.sc_base.specs.declared.ops.Op.{Op}
+use Rattle.sc_cmd.specs.declared.orders.OrderLine.{OrderLine}
+use Rattle.sc_actor.specs.declared.rows.Input.{Input}
+use Rattle.sc_actor.specs.declared.rows.Input.TheVariants.{Got, Tick, Go, Told}
+use Rattle.sc_lookup.specs.Known.{target_in, preferring, passed_on, told_not_mine, told_gone}
+use Rattle.sc_mail.specs.declared.bodies.AnswerBody.{AnswerBody}
+use Rattle.sc_mail.specs.declared.bodies.AnswerBody.TheVariants as Says
+use Rattle.sc_mail.specs.declared.bodies.Mail.{Mail}
+use Rattle.sc_mail.specs.declared.bodies.MailBody.{MailBody}
+use Rattle.sc_mail.specs.declared.bodies.MailBody.TheVariants.{Request, Answer, Prepare, Promise, Accept, Accepted, Nack, Learn, Ask, Install, TxPrepare, TxVote, TxOutcome, TxElsewhere, TxWatch, TxWatched, Told as ToldMail}
+use Rattle.sc_client_table.specs.Client.{Client, waiting_request}
+use Rattle.sc_client_table.specs.Table.{ClientStep, request_of, asked_of, sent_to, sent_where, chosen_for, request_sent, started, client_ticked, waits_for, was_asked, redirected, answer_taken, got, table}
+use Rattle.sc_law_lemmas.proofs.Ways.{either_way}
+
+-- a request of a client
+abbrev pub IsRequestOf : ℕ → Mail → Type 0
+IsRequestOf me mail = (group : Draw) × (target : ℕ) × (request : ℕ × Op) × (mail ≡ request_of me group target request)
+
+module _ (me : ℕ) where
+  -- its number, and its requests alone
+  abbrev pub Asks : ClientStep → Type 0
+  Asks step = (step.0.me ≡ me) × Each (IsRequestOf me) step.1
+
+  asked_one : (client : Client) (group : Draw) (o : Option ℕ) (request : Option (ℕ × Op)) → client.me ≡ me → Asks (asked_of client group o request)
+  asked_one client group (Some target) (Some request) k = (k, ((group, target, request, ap (λ m. request_of m group target request) k), tt))
+  asked_one client group (Some target) None k = (k, tt)
+  asked_one client group None request k = (k, tt)
+
+  asked_where : (client : Client) (o : Option Draw) → client.me ≡ me → Asks (sent_where client o)
+  asked_where client (Some group) k = asked_one client group (target_in group client.known) (waiting_request client) k
+  asked_where client None k = (k, tt)
+
+  asked_on : (client : Client) → client.me ≡ me → Asks (request_sent client)
+  asked_on client k = asked_where client (chosen_for client (waiting_request client)) k
+
+  starts : (seq : ℕ) (client : Client) → client.me ≡ me → Asks (started seq client)
+  starts seq client k = either_way Asks (nat_le seq (length client.requests)) (request_sent (record client { waiting = Some seq })) (record client { waiting = None }, []) (asked_on (record client { waiting = Some seq }) k) (k, tt)
+
+  asked_to : (group : Draw) (client : Client) → client.me ≡ me → Asks (sent_to group client)
+  asked_to group client k = asked_one client group (target_in group client.known) (waiting_request client) k
+
+  ticks : (client : Client) (o : Option ℕ) (asked : Option (Draw × ℕ)) → client.me ≡ me → Asks (client_ticked client o asked)
+  ticks client (Some seq) (Some asked) k = asked_to asked.0 (record client { known = passed_on asked.0 client.known }) k
+  ticks client (Some seq) None k = (k, tt)
+  ticks client None asked k = (k, tt)
+
+  redirects : (group : Draw) (answer : AnswerBody) (client : Client) → client.me ≡ me → Asks (redirected group answer client)
+  redirects group (Says.NotLeader (Some hint)) client k = asked_to group (record client { known = preferring group hint client.known }) k
+  redirects group (Says.NotLeader None) client k = asked_to group (record client { known = passed_on group client.known }) k
+  redirects group (Says.NotMine arc succ) client k = asked_on (record client { known = told_not_mine group arc succ client.known }) k
+  redirects group (Says.Gone into) client k = asked_on (record client { known = told_gone group into client.known }) k
+  redirects group (Says.Value reply) client k = (k, tt)
+  redirects group (Says.Stale last) client k = (k, tt)
+
+  turns : (from : ℕ) (group : Draw) (answer : AnswerBody) (client : Client) → client.me ≡ me → Asks (cond (was_asked client.asked from group) (redirected group answer client) (client, []))
+  turns from group answer client k = either_way Asks (was_asked client.asked from group) (redirected group answer client) (client, []) (redirects group answer client k) (k, tt)
+
+  answered : (from : ℕ) (group : Draw) (seq : ℕ) (answer : AnswerBody) (client : Client) → client.me ≡ me → Asks (answer_taken from group seq answer client)
+  answered from group seq (Says.Value reply) client k = starts (seq + 1) (record client { replies = client.replies ++ reply ∷ [] }) k
+  answered from group seq (Says.NotLeader hint) client k = turns from group (Says.NotLeader hint) client k
+  answered from group seq (Says.NotMine arc succ) client k = turns from group (Says.NotMine arc succ) client k
+  answered from group seq (Says.Gone into) client k = turns from group (Says.Gone into) client k
+  answered from group seq (Says.Stale last) client k = turns from group (Says.Stale last) client k
+
+  gets : (from : ℕ) (body : MailBody) (client : Client) → client.me ≡ me → Asks (got from body client)
+  gets from (Answer group seq answer) client k = either_way Asks (waits_for client.waiting seq) (answer_taken from group seq answer client) (client, []) (answered from group seq answer client k) (k, tt)
+  gets from (Request group to seq op) client k = (k, tt)
+  gets from (Prepare group ballot from_slot) client k = (k, tt)
+  gets from (Promise group ballot reports) client k = (k, tt)
+  gets from (Accept group ballot slot command) client k = (k, tt)
+  gets from (Accepted group ballot slot) client k = (k, tt)
+  gets from (Nack group promised) client k = (k, tt)
+  gets from (Learn group slot command) client k = (k, tt)
+  gets from (Ask group from_slot) client k = (k, tt)
+  gets from (Install group slot base sets) client k = (k, tt)
+  gets from (TxPrepare tx offer) client k = (k, tt)
+  gets from (TxVote tx coord part vote) client k = (k, tt)
+  gets from (TxOutcome tx part outcome) client k = (k, tt)
+  gets from (TxElsewhere tx coord hint) client k = (k, tt)
+  gets from (TxWatch tx watch) client k = (k, tt)
+  gets from (TxWatched tx coord part vote) client k = (k, tt)
+  gets from (ToldMail order result) client k = (k, tt)
+
+  pub clients_ask : (client : Client) (input : Input Mail OrderLine) → client.me ≡ me → Asks (table client input)
+  clients_ask client (Got mail) k = gets mail.from mail.body client k
+  clients_ask client Tick k = ticks client client.waiting client.asked k
+  clients_ask client Go k = starts 1 client k
+  clients_ask client (Told line) k = (k, tt)

@@ -1,0 +1,148 @@
+-- Slots and rounds are few after any rows that come in time.
+use Rattle.std.proofs.Common.{◌≡◌, ℕ, ◌+◌, ◌-◌, ◌*◌, ◌^◌, ◌≤◌, ◌<◌, List, [], ◌∷◌, length, Option, Some, refl, sym, subst, inl, inr, arith}
+use Rattle.sc_base.specs.Among.{Each}
+use Rattle.sc_cmd.specs.declared.commands.Command.{Command}
+use Rattle.sc_mail.specs.declared.bodies.Mail.{Mail}
+use Rattle.sc_mail.specs.declared.bodies.MailBody.{MailBody}
+use Rattle.sc_mail.specs.declared.bodies.MailBody.TheVariants.{Request, Answer, Prepare, Promise, Accept, Accepted, Nack, Learn, Ask, Install, TxPrepare, TxVote, TxOutcome, TxElsewhere, TxWatch, TxWatched, Told}
+use Rattle.sc_actor.specs.declared.actors.Seat.{Seat}
+use Rattle.sc_client_table.specs.Table.{request_of}
+use Rattle.sc_paxos_words.specs.declared.flights.Flight.{Flight}
+use Rattle.sc_paxos_words.specs.declared.reports.Report.{Report}
+use Rattle.sc_paxos_words.proofs.ListLemmas.{Each-weaker}
+use Rattle.sc_node_table.specs.Replica.{last_slot}
+use Rattle.sc_node_table.specs.Slots.{slots_ahead}
+use Rattle.sc_sound.specs.Players.{Player, births, as_nodes}
+use Rattle.sc_calm_mail_law.specs.Few.{most_after, IsFewReport, SaysFew, JournalsHaveFew, SlotsAreLeft}
+use Rattle.sc_calm_mail_law.specs.Idle.{JournalsKeepIdle}
+use Rattle.sc_calm_mail_law.proofs.Clients.{IsRequestOf}
+use Rattle.sc_calm_mail_law.proofs.FewLists.{FlyTo, WaitTo}
+use Rattle.sc_calm_mail_law.proofs.FewWalks.{Early, Late, few_walk, few_births}
+use Rattle.sc_calm_mail_law.proofs.Journals.{Speaks, Law, Holds, journals_hold, view_kept}
+use Rattle.sc_calm_mail_law.proofs.Walks.{Walk, Part, next_in, Sends, Hears}
+
+-- a later bound
+module _ (most more : ℕ) (le : most ≤ more) where
+  reports_up : (reports : List (Report Command)) → Each (IsFewReport most) reports → Each (IsFewReport more) reports
+  reports_up reports k = Each-weaker (IsFewReport most) (IsFewReport more) (λ report q. (let a = q.0 in let b = q.1 in (omega (arith, a, le), omega (arith, b, le)))) reports k
+
+  both_up : (a b : ℕ) → (a ≤ most) × (b ≤ most) → (a ≤ more) × (b ≤ more)
+  both_up a b k = (let x = k.0 in let y = k.1 in (omega (arith, x, le), omega (arith, y, le)))
+
+  says_up : (body : MailBody) → SaysFew most body → SaysFew more body
+  says_up (Prepare group ballot from_slot) k = both_up ballot.round from_slot k
+  says_up (Promise group ballot reports) k = (let a = k.0 in (omega (arith, a, le), reports_up reports k.1))
+  says_up (Accept group ballot slot command) k = both_up ballot.round slot k
+  says_up (Accepted group ballot slot) k = both_up ballot.round slot k
+  says_up (Nack group promised) k = omega (arith, k, le)
+  says_up (Learn group slot command) k = omega (arith, k, le)
+  says_up (Ask group from_slot) k = omega (arith, k, le)
+  says_up (Install group slot base sets) k = omega (arith, k, le)
+  says_up (Request group client seq op) k = tt
+  says_up (Answer group seq answer) k = tt
+  says_up (TxPrepare tx offer) k = tt
+  says_up (TxVote tx coord part vote) k = tt
+  says_up (TxOutcome tx part outcome) k = tt
+  says_up (TxElsewhere tx coord hint) k = tt
+  says_up (TxWatch tx watch) k = tt
+  says_up (TxWatched tx coord part vote) k = tt
+  says_up (Told order result) k = tt
+
+-- a mail with few slots is one that a replica may take
+hears_few : (n who : ℕ) (body : MailBody) → SaysFew (most_after n) body → Hears (few_walk n who) body
+hears_few n who (Prepare group ballot from_slot) k = k.0
+hears_few n who (Promise group ballot reports) k = k.1
+hears_few n who (Accept group ballot slot command) k = k
+hears_few n who (Accepted group ballot slot) k = k.1
+hears_few n who (Nack group promised) k = k
+hears_few n who (Learn group slot command) k = k
+hears_few n who (Install group slot base sets) k = (k, k)
+hears_few n who (Ask group from_slot) k = tt
+hears_few n who (Request group client seq op) k = tt
+hears_few n who (Answer group seq answer) k = tt
+hears_few n who (TxPrepare tx offer) k = tt
+hears_few n who (TxVote tx coord part vote) k = tt
+hears_few n who (TxOutcome tx part outcome) k = tt
+hears_few n who (TxElsewhere tx coord hint) k = tt
+hears_few n who (TxWatch tx watch) k = tt
+hears_few n who (TxWatched tx coord part vote) k = tt
+hears_few n who (Told order result) k = tt
+
+-- a replica with few, as a part
+abbrev PartHas : ℕ → Part → Type 0
+PartHas most p =
+    (next_in p ≤ most) × (p.top.round ≤ most) × (p.acceptor.promised.round ≤ most) × Each (IsFewReport most) p.acceptor.accepted × (p.leader.ballot.round ≤ most) × Each (IsFewReport most) p.leader.reports
+    × FlyTo most p.leader.flights × WaitTo most p.ready
+
+part_starts : (n : ℕ) (p : Part) → PartHas (most_after n) p → Early (most_after n) p
+part_starts n p k = (
+  (
+    (let a = k.0 in omega (arith, a)),
+    k.2,
+    k.3,
+    k.5,
+    Each-weaker (λ (flight : Flight Command). flight.slot ≤ most_after n) (λ (flight : Flight Command). flight.slot ≤ most_after n + 4) (λ flight q. omega (arith, q)) p.leader.flights k.6,
+    k.7,
+  ),
+  k.1,
+  k.4,
+)
+
+part_ends : (n : ℕ) (p : Part) → Late (most_after n) p → PartHas (most_after (n + 1)) p
+part_ends n p k =
+    let m : ℕ = most_after n in
+    let x : ℕ = most_after (n + 1) in
+    let le : m ≤ x = omega arith in
+    let r = k.0 in
+    let next = r.0 in
+    let promise = r.1 in
+    let top = k.1 in
+    let round = k.2 in (
+      omega (arith, next),
+      omega (arith, top),
+      omega (arith, promise),
+      reports_up m x le p.acceptor.accepted r.2,
+      omega (arith, round),
+      reports_up m x le p.leader.reports r.3,
+      Each-weaker (λ (flight : Flight Command). flight.slot ≤ m + 4) (λ (flight : Flight Command). flight.slot ≤ x) (λ flight q. omega (arith, q)) p.leader.flights r.4,
+      Each-weaker (λ (entry : ℕ × Command). entry.0 ≤ m) (λ (entry : ℕ × Command). entry.0 ≤ x) (λ entry q. omega (arith, q)) p.ready r.5,
+    )
+
+-- who speaks says few
+said_few : (n : ℕ) (seat : Seat Player) (mail : Mail) → Speaks (few_walk n seat.who) seat mail → SaysFew (most_after (n + 1)) mail.body
+said_few n seat mail (inl (born, is, said)) = said.1
+said_few n seat mail (inr (born, is, who, (group, target, request, e))) = subst (λ (m : Mail). SaysFew (most_after (n + 1)) m.body) (sym e) tt
+
+abbrev few_law : (births : List (Seat Player)) → Law births
+few_law births = record {
+  walk = few_walk;
+  mine = λ n who. refl;
+  births = few_births;
+  Kept = λ n p. PartHas (most_after n) p;
+  Good = λ n mail. SaysFew (most_after n) mail.body;
+  begins = λ base. (omega arith, omega arith, omega arith, tt, omega arith, tt, tt, tt);
+  starts = λ n who p k. part_starts n p k;
+  keeps = λ n who p k. part_ends n p k;
+  more = λ n mail k. says_up (most_after n) (most_after (n + 1)) (omega arith) mail.body k;
+  hears = λ n who mail k. hears_few n who mail.body k;
+  said = λ n seat mail born s. said_few n seat mail s;
+}
+
+pub journals_few : JournalsHaveFew
+journals_few = record {
+  replicas = λ words scenario rows name who r timely e. (let law : Law (births as_nodes scenario) = few_law (births as_nodes scenario) in
+  (view_kept (births as_nodes scenario) law rows name who r (journals_hold scenario law words rows timely) e).1);
+  mails = λ words scenario rows timely. (journals_hold scenario (few_law (births as_nodes scenario)) words rows timely).1;
+}
+
+pub slots_left : SlotsAreLeft
+slots_left words scenario rows name who r timely short e =
+    let few = journals_few.replicas words scenario rows name who r timely e in
+    let next = few.0 in
+    let top = few.1 in
+    (omega (arith, next, short), omega (arith, top, short))
+
+pub journals_idle : JournalsKeepIdle
+journals_idle words scenario rows name who r timely e =
+    let law : Law (births as_nodes scenario) = few_law (births as_nodes scenario) in
+    (view_kept (births as_nodes scenario) law rows name who r (journals_hold scenario law words rows timely) e).0

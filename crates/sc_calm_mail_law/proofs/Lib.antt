@@ -1,0 +1,15 @@
+pub mod Clients
+pub mod FewJournals
+pub mod FewLists
+pub mod FewWalks
+pub mod Growing
+pub mod Journals
+pub mod Lasting
+pub mod Posting
+pub mod Waiting
+pub mod WalkMails
+pub mod WalkNodes
+pub mod WalkParts
+pub mod WalkRows
+pub mod Walks
+pub mod Works

@@ -1,0 +1,65 @@
+-- Slots and rounds are few: as many as a journal has rows, but for a factor.
+use Rattle.std.specs.Prelude.{◌≡◌, ℕ, ◌+◌, ◌-◌, ◌*◌, ◌^◌, ◌<◌, ◌≤◌, List, length, Some}
+use Rattle.sc_base.specs.Among.{Each}
+use Rattle.sc_base.specs.declared.names.Ballot.{Ballot}
+use Rattle.sc_base.specs.declared.names.Draw.{Draw}
+use Rattle.sc_cmd.specs.declared.commands.Command.{Command}
+use Rattle.sc_mail.specs.declared.bodies.Mail.{Mail}
+use Rattle.sc_mail.specs.declared.bodies.MailBody.{MailBody}
+use Rattle.sc_mail.specs.declared.bodies.MailBody.TheVariants.{Request, Answer, Prepare, Promise, Accept, Accepted, Nack, Learn, Ask, Install, TxPrepare, TxVote, TxOutcome, TxElsewhere, TxWatch, TxWatched, Told}
+use Rattle.sc_actor.specs.Mail.{mails}
+use Rattle.sc_orderly_law.specs.Timely.{AreInTime}
+use Rattle.sc_paxos_words.specs.declared.flights.Flight.{Flight}
+use Rattle.sc_paxos_words.specs.declared.reports.Report.{Report}
+use Rattle.sc_scenario.specs.declared.scenarios.Scenario.{Scenario}
+use Rattle.sc_node_table.specs.Replica.{ReplicaState, next, last_slot}
+use Rattle.sc_node_table.specs.Slots.{slots_ahead}
+use Rattle.sc_sound.specs.Players.{births, as_nodes}
+use Rattle.sc_calm_law.specs.Charts.{players}
+use Rattle.sc_calm_law.specs.Totals.{Rows}
+use Rattle.sc_calm_rows_law.specs.Groups.{view_at}
+
+-- the most that a slot or a round is after so many rows: each offers four slots at most, one above the last that was decided, and raises a round by one
+abbrev pub most_after : ℕ → ℕ
+most_after rows = 4 * rows + 1
+
+-- a report of a slot and a round no greater than so many
+abbrev pub IsFewReport : ℕ → Report Command → Type 0
+IsFewReport most report = (report.ballot.round ≤ most) × (report.slot ≤ most)
+
+-- no slot and no round of a replica is greater than so many
+abbrev pub HasFew : ℕ → ReplicaState → Type 0
+HasFew most r =
+    (next r ≤ most) × (r.top.round ≤ most) × (r.acceptor.promised.round ≤ most) × Each (IsFewReport most) r.acceptor.accepted × (r.leader.ballot.round ≤ most) × Each (IsFewReport most) r.leader.reports
+    × Each (λ (flight : Flight Command). flight.slot ≤ most) r.leader.flights × Each (λ (entry : ℕ × Command). entry.0 ≤ most) r.ready
+
+-- .. none of a body
+abbrev pub SaysFew : ℕ → MailBody → Type 0
+SaysFew most (Prepare group ballot from_slot) = (ballot.round ≤ most) × (from_slot ≤ most)
+SaysFew most (Promise group ballot reports) = (ballot.round ≤ most) × Each (IsFewReport most) reports
+SaysFew most (Accept group ballot slot command) = (ballot.round ≤ most) × (slot ≤ most)
+SaysFew most (Accepted group ballot slot) = (ballot.round ≤ most) × (slot ≤ most)
+SaysFew most (Nack group promised) = promised.round ≤ most
+SaysFew most (Learn group slot command) = slot ≤ most
+SaysFew most (Ask group from_slot) = from_slot ≤ most
+SaysFew most (Install group slot base sets) = slot ≤ most
+SaysFew most (Request group client seq op) = Unit {0}
+SaysFew most (Answer group seq answer) = Unit {0}
+SaysFew most (TxPrepare tx offer) = Unit {0}
+SaysFew most (TxVote tx coord part vote) = Unit {0}
+SaysFew most (TxOutcome tx part outcome) = Unit {0}
+SaysFew most (TxElsewhere tx coord hint) = Unit {0}
+SaysFew most (TxWatch tx watch) = Unit {0}
+SaysFew most (TxWatched tx coord part vote) = Unit {0}
+SaysFew most (Told number result) = Unit {0}
+
+-- So it is of each replica and each mail after rows that come in time, by how many there are.
+pub record JournalsHaveFew : Type 0 where
+  pub replicas : (words : ℕ → ℕ → ℕ × ℕ) (scenario : Scenario) (rows : Rows) (name : Draw) (who : ℕ) (r : ReplicaState) → AreInTime (players words (births as_nodes scenario)) rows → view_at (births as_nodes scenario) rows name who ≡ Some r → HasFew (most_after (length rows)) r
+  pub mails : (words : ℕ → ℕ → ℕ × ℕ) (scenario : Scenario) (rows : Rows) → AreInTime (players words (births as_nodes scenario)) rows → Each (λ mail. SaysFew (most_after (length rows)) mail.body) (mails rows)
+
+-- In a journal that is not too long each slot that is open is one at which commands are learnt, and each round has one above it.
+abbrev pub SlotsAreLeft : Type 0
+SlotsAreLeft =
+    (words : ℕ → ℕ → ℕ × ℕ) (scenario : Scenario) (rows : Rows) (name : Draw) (who : ℕ) (r : ReplicaState) → AreInTime (players words (births as_nodes scenario)) rows → length rows ≤ 2 ^ 28
+    → view_at (births as_nodes scenario) rows name who ≡ Some r → (next r + slots_ahead ≤ last_slot) × (r.top.round < 2 ^ 32 - 1)

@@ -1,0 +1,25 @@
+-- A node that has a replica of a group keeps one, whose greatest ballot and next slot never fall.
+use Rattle.std.specs.Prelude.{◌≡◌, ℕ, ◌≤◌, ◌++◌, Option, Some}
+use Rattle.sc_base.specs.declared.names.Draw.{Draw}
+use Rattle.sc_orderly_law.specs.Timely.{AreInTime}
+use Rattle.sc_paxos_words.specs.Ballots.{IsAtLeast}
+use Rattle.sc_scenario.specs.declared.scenarios.Scenario.{Scenario}
+use Rattle.sc_node_table.specs.Replica.{ReplicaState, next}
+use Rattle.sc_sound.specs.Players.{births, as_nodes}
+use Rattle.sc_calm_law.specs.Charts.{players}
+use Rattle.sc_calm_law.specs.Totals.{Rows}
+use Rattle.sc_calm_rows_law.specs.Groups.{view_at}
+
+-- a later replica has seen no lower ballot, and has executed no less
+abbrev pub HasGrown : ReplicaState → ReplicaState → Type 0
+HasGrown r later = IsAtLeast later.top r.top × (next r ≤ next later)
+
+-- there is one
+abbrev pub IsLater : ReplicaState → Option ReplicaState → Type 0
+IsLater r o = (later : ReplicaState) × (o ≡ Some later) × HasGrown r later
+
+-- A node of a scenario that has a replica of a group after some rows has a later one after more.
+abbrev pub ReplicasLast : Type 0
+ReplicasLast =
+    (words : ℕ → ℕ → ℕ × ℕ) (scenario : Scenario) (rows more : Rows) (name : Draw) (who : ℕ) (r : ReplicaState) → AreInTime (players words (births as_nodes scenario)) (rows ++ more) → view_at (births as_nodes scenario) rows name who ≡ Some r
+    → IsLater r (view_at (births as_nodes scenario) (rows ++ more) name who)

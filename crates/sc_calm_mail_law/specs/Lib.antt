@@ -1,0 +1,4 @@
+pub mod Few
+pub mod Idle
+pub mod Lasting
+pub mod Posted
