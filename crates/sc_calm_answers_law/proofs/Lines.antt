@@ -28,7 +28,7 @@ one_more : {X : Type 0} (p : X → Bool) (x : X) (xs : List X) → p x ≡ true 
 one_more p x xs e = sum_by-cons (λ y. cond (p y) 1 0) x xs ∙ ap (λ b. cond b 1 0 + count_by p xs) e
 
 -- the walk counts the orders that a scenario gives
-orders_same : (lines : List SchedLine) → orders_given (map line_of lines) ≡ count_by gives_order lines
+pub orders_same : (lines : List SchedLine) → orders_given (map line_of lines) ≡ count_by gives_order lines
 orders_same [] = refl
 orders_same (Told node order ∷ lines) =
     one_more order_line (line.Told node order) (map line_of lines) refl ∙ ap (λ n. 1 + n) (orders_same lines) ∙ sym (one_more gives_order (Told node order) lines refl)
