@@ -1,4 +1,5 @@
 mod Begins
 mod Covered
 pub mod Given
-mod Lines
+pub mod Lines
+mod Short

@@ -28,7 +28,7 @@ one_more : {X : Type 0} (p : X → Bool) (x : X) (xs : List X) → p x ≡ true 
 one_more p x xs e = sum_by-cons (λ y. cond (p y) 1 0) x xs ∙ ap (λ b. cond b 1 0 + count_by p xs) e
 
 -- the walk counts the orders that a scenario gives
-orders_same : (lines : List SchedLine) → orders_given (map line_of lines) ≡ count_by gives_order lines
+pub orders_same : (lines : List SchedLine) → orders_given (map line_of lines) ≡ count_by gives_order lines
 orders_same [] = refl
 orders_same (Told node order ∷ lines) =
     one_more order_line (line.Told node order) (map line_of lines) refl ∙ ap (λ n. 1 + n) (orders_same lines) ∙ sym (one_more gives_order (Told node order) lines refl)
@@ -86,13 +86,10 @@ plain_budget scenario none =
     omega (arith, less, same, shorter, plain)
 
 -- what is owed at birth, and what all orders raise, is no more than all deliveries
-within_deliveries : (still raise orders budget : ℕ) → still + raise ≤ budget → still + orders * raise ≤ budget * (1 + orders)
-within_deliveries still raise orders budget within =
-    let less = mul-le-mul_left orders (let low : raise ≤ budget = omega (arith, within) in low) in
-    let parts = mul-add budget 1 orders in
-    let once : budget * 1 ≡ budget = grind arith in
-    let turned = mul_comm budget orders in
-    omega (arith, less, parts, once, turned, within)
+within_deliveries : (still most orders budget : ℕ) → most ≡ orders + 1 → still + (242 + 4 * most) ≤ budget → still + orders * (242 + 4 * most) ≤ budget + orders * (242 + 4 * (orders + 1))
+within_deliveries still most orders budget is within =
+    let same : orders * (242 + 4 * most) ≡ orders * (242 + 4 * (orders + 1)) = ap (λ n. orders * (242 + 4 * n)) is in
+    omega (arith, same, within)
 
 module _ (all_bounded : ValidScenariosAreBounded) (spaced : CalmLinesAreSpaced) (quiet : KeptCalmEndsQuiet) (plain : PlainLinesEndQuiet) where
   pub calm_end_quiet : CalmLinesEndQuiet
@@ -106,7 +103,7 @@ module _ (all_bounded : ValidScenariosAreBounded) (spaced : CalmLinesAreSpaced) 
         quiet words (births as_nodes scenario) (schedule scenario) charts (calm_deliveries_of scenario) journal (all_apart scenario (all_bounded scenario valid)) charted.keeps charted.rests
         lines.0
         (rooms_for (still + raise) (calm_budget_of scenario) within (schedule scenario) lines.1)
-        (subst (λ (n : ℕ). still + n * raise ≤ calm_deliveries_of scenario) (sym given) (within_deliveries still raise (orders_of scenario) (calm_budget_of scenario) within))
+        (subst (λ (n : ℕ). still + n * raise ≤ calm_deliveries_of scenario) (sym given) (within_deliveries still (charts []).ways.most (orders_of scenario) (calm_budget_of scenario) charted.first.most within))
         lawful)
     | inr none ↦ (
         let zero_is : orders_of scenario ≡ 0 = omega (arith, none) in

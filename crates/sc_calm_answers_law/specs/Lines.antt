@@ -14,9 +14,9 @@ use Rattle.sc_calm_law.specs.Totals.{Rows}
 use Rattle.sc_budget_law.specs.Calm.{orders_of, calm_budget_of, IsCalmAtBudget}
 use Rattle.sc_calm_answers_law.specs.Covered.{IsFirstChart}
 
--- how many deliveries a calm scenario at its budget makes at most: its budget once, and once more for each order
+-- how many deliveries a calm scenario at its budget makes at most: its budget, and for each order what one raises
 abbrev pub calm_deliveries_of : Scenario → ℕ
-calm_deliveries_of scenario = calm_budget_of scenario * (1 + orders_of scenario)
+calm_deliveries_of scenario = calm_budget_of scenario + orders_of scenario * (242 + 4 * (orders_of scenario + 1))
 
 -- There are charts, one for each lawful journal of a scenario with no more deliveries than it makes, by which each row finds what it needs, and by which quiet journals rest.
 pub record AreCharted (words : ℕ → ℕ → ℕ × ℕ) (scenario : Scenario) (charts : Rows → Chart) : Type 0 where

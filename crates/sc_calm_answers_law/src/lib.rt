@@ -6,6 +6,7 @@ ghost use Rattle.sc_calm_answers_law.specs.Begins.{QuietJournalsBegin};
 ghost use Rattle.sc_calm_answers_law.specs.Covered.{BirthsAreCovered};
 ghost use Rattle.sc_calm_answers_law.specs.Given.{OrdersMayBeGiven};
 ghost use Rattle.sc_calm_answers_law.specs.Lines.{CalmLinesEndQuiet};
+ghost use Rattle.sc_calm_answers_law.specs.Short.{CalmJournalsAreShort};
 
 use sc_budget_law::{calm_lines_are_spaced, plain_lines_end_quiet};
 use sc_calm_law::kept_calm_ends_quiet;
@@ -44,4 +45,13 @@ pub fn quiet_journals_begin()
     ensures { QuietJournalsBegin }
 {
     valid_scenarios_are_bounded();
+}
+
+/// A journal of a valid calm scenario at its budget has few rows, so slots and rounds are left in each:
+/// its budget is no more than a line may deliver, and so it gives few orders.
+pub fn calm_journals_are_short()
+    ensures { CalmJournalsAreShort }
+{
+    valid_scenarios_are_bounded();
+    calm_lines_are_spaced();
 }
