@@ -1,5 +1,5 @@
 -- A group of a journal whose rows come in time has leaders, and is well led after each of them.
-use Rattle.std.proofs.Common.{◌≡◌, ℕ, ◌+◌, ◌<◌, ◌≤◌, true, false, List, [], ◌∷◌, ◌++◌, Option, Some, None, ◌⊎◌, inl, inr, refl, sym, ◌∙◌, ap, subst, arith, append_assoc, append-nil}
+use Rattle.std.proofs.Common.{◌≡◌, ℕ, ◌+◌, ◌≤◌, true, false, List, [], ◌∷◌, ◌++◌, Option, Some, None, inl, inr, refl, sym, ◌∙◌, ap, subst, arith, append_assoc, append-nil}
 use Rattle.std.proofs.lemmas.Bool.{lt-ltb, le-ltb}
 use Rattle.sc_base.specs.Among.{Among, Each}
 use Rattle.sc_base.specs.declared.names.Draw.{Draw}
@@ -7,7 +7,6 @@ use Rattle.sc_cmd.specs.declared.cores.Base.{Base}
 use Rattle.sc_cmd.specs.declared.orders.OrderLine.{OrderLine}
 use Rattle.sc_mail.specs.declared.bodies.Mail.{Mail}
 use Rattle.sc_mail.specs.declared.bodies.MailBody.TheVariants.{Install}
-use Rattle.sc_member.specs.Roster.{is_member}
 use Rattle.sc_actor.specs.declared.actors.Seat.{Seat}
 use Rattle.sc_actor.specs.declared.rows.Event.{Event}
 use Rattle.sc_actor.specs.declared.rows.Row.{Row}
@@ -37,7 +36,7 @@ use Rattle.sc_calm_logs_law.specs.Logged.{logged_sets, IsGroupOf, SlotsHaveRoste
 use Rattle.sc_calm_groups_law.specs.Kept.{ReplicasAreKept, ScenariosAreKeptBorn}
 use Rattle.sc_calm_groups_law.specs.Kinds.{IsGroupRow, RowPasses, RowRests, RowTakes, RowMakes, RowLeads, RowElects, IsLedStep}
 use Rattle.sc_calm_groups_law.specs.Led.{Ends, IsWellLed, IsLedOn}
-use Rattle.sc_calm_groups_law.specs.Logged.{HasRounds, CountsAsMember}
+use Rattle.sc_calm_groups_law.specs.Logged.{CountsAsMember}
 use Rattle.sc_calm_groups_law.specs.Rows.{IsStateFrom}
 use Rattle.sc_calm_groups_law.specs.Through.{IsRowOf, Delivers, HasOneLog, IsSentSo, ScenariosAreWellBorn, EventsGoOn}
 use Rattle.sc_calm_groups_law.proofs.Sending.{each_among, among_marks}
