@@ -1,12 +1,10 @@
 -- In each row of its table a replica's greatest ballot and its next slot do not fall.
-use Rattle.std.proofs.Common.{◌≡◌, ℕ, ◌+◌, ◌≤◌, true, List, [], ◌∷◌, Option, Some, None, inl, arith}
-use Rattle.sc_base.specs.Among.{Each}
+use Rattle.std.proofs.Common.{ℕ, ◌+◌, ◌≤◌, [], inl, arith}
 use Rattle.sc_base.specs.declared.names.Ballot.{Ballot}
 use Rattle.sc_base.specs.Drawing.{Drawer}
 use Rattle.sc_cmd.specs.declared.commands.Command.{Command}
 use Rattle.sc_cmd.specs.declared.orders.OrderLine.{OrderLine}
 use Rattle.sc_mail.specs.declared.bodies.MailBody.{MailBody}
-use Rattle.sc_mail.specs.declared.bodies.MailBody.TheVariants.{Request, Answer, Prepare, Promise, Accept, Accepted, Nack, Learn, Ask, Install, TxPrepare, TxVote, TxOutcome, TxElsewhere, TxWatch, TxWatched, Told}
 use Rattle.sc_paxos_words.specs.Ballots.{IsAtLeast}
 use Rattle.sc_paxos_words.proofs.BallotLemmas.{below_from, at_least_trans, at_least_itself, at_least_from_below}
 use Rattle.sc_node_table.specs.Ordering.{ordered_row}
@@ -16,7 +14,7 @@ use Rattle.sc_calm_mail_law.specs.Idle.{IsPlainlyKept}
 use Rattle.sc_calm_mail_law.specs.Lasting.{HasGrown}
 use Rattle.sc_calm_mail_law.proofs.FewWalks.{entered_up, installed_up}
 use Rattle.sc_calm_mail_law.proofs.WalkRows.{takes_mail, orders}
-use Rattle.sc_calm_mail_law.proofs.Walks.{Walk, Part, part, next_in, entered_part, jumped_part, elected_part, hears_all}
+use Rattle.sc_calm_mail_law.proofs.Walks.{Walk, Part, next_in, entered_part, elected_part, hears_all}
 
 module _ (top : Ballot) (slot : ℕ) where
   -- no lower ballot was seen than this, and no fewer slots executed

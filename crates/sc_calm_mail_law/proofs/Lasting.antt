@@ -1,12 +1,11 @@
 -- A node keeps the replica of a group that it has, in each of its rows and those of others.
-use Rattle.std.proofs.Common.{◌≡◌, ℕ, ◌+◌, ◌||◌, not, nat_lt, eqb, true, false, true≢false, Bool, cond, List, [], ◌∷◌, ◌++◌, length, find, Option, Some, None, refl, sym, ◌∙◌, ap, subst, inl, inr, append_assoc, append-nil}
+use Rattle.std.proofs.Common.{◌≡◌, ℕ, ◌||◌, not, nat_lt, eqb, true≢false, List, [], ◌∷◌, ◌++◌, length, Option, Some, None, refl, sym, ◌∙◌, ap, subst, inl, inr, append_assoc, append-nil}
 use Rattle.std.specs.Option.{option_map}
 use Rattle.std.proofs.lemmas.Bool.{cases_Bool, eqb-true, eq-eqb}
 use Rattle.sc_base.specs.Same.{same_draw}
 use Rattle.sc_base.specs.Drawing.{Drawer}
 use Rattle.sc_base.specs.declared.names.Draw.{Draw}
 use Rattle.sc_base.proofs.NameLemmas.{draw_is, same_name}
-use Rattle.sc_cmd.specs.declared.cores.Base.{Base}
 use Rattle.sc_cmd.specs.declared.orders.OrderLine.{OrderLine}
 use Rattle.sc_mail.specs.declared.bodies.Mail.{Mail}
 use Rattle.sc_mail.specs.declared.bodies.MailBody.{MailBody}
@@ -25,7 +24,7 @@ use Rattle.sc_orderly_law.specs.Orderly.{IsCalmEvent}
 use Rattle.sc_orderly_law.specs.Timely.{AreInTime}
 use Rattle.sc_orderly_law.proofs.InTime.{last_in_time, in_time_before}
 use Rattle.sc_scenario.specs.declared.scenarios.Scenario.{Scenario}
-use Rattle.sc_node_table.specs.Node.{NodeState, replica_of, with_replica, with_new, with_made, unknown, may_come, with_children, group_of_mail, taken_by, routed, on_mail, group_of_order, ordered_of}
+use Rattle.sc_node_table.specs.Node.{NodeState, replica_of, with_replica, with_made, unknown, may_come, group_of_mail, taken_by, routed, group_of_order, ordered_of}
 use Rattle.sc_node_table.specs.Ordering.{ordered_row}
 use Rattle.sc_node_table.specs.Replica.{ReplicaState, Place, Executed, name_of, last_slot}
 use Rattle.sc_node_table.specs.Rows.{mailed, made_by}
@@ -100,9 +99,11 @@ module _ (name : Draw) (r : ReplicaState) (R : ReplicaState → Type 0) (H : Mai
       elim (cases_Bool (same_draw name group)) [
         | inl t ↦ (let n : name ≡ group = draw_is name group t in
             let is : Some r ≡ Some x = sym e ∙ (ap (λ (d : Draw). replica_of d node.replicas) n ∙ f) in
-            let same : r ≡ x = cc in
-            (after.0, ap (λ (d : Draw). replica_of d (with_replica group after.0 node.replicas)) n ∙ put_found group after.0 x node.replicas own f,
-            subst (λ (y : ReplicaState). R (ordered_row node.draws line (y, [])).0) same (by_order node.draws line)))
+            let same : r ≡ x = cc in (
+              after.0,
+              ap (λ (d : Draw). replica_of d (with_replica group after.0 node.replicas)) n ∙ put_found group after.0 x node.replicas own f,
+              subst (λ (y : ReplicaState). R (ordered_row node.draws line (y, [])).0) same (by_order node.draws line),
+            ))
         | inr t ↦ (r, put_others group name after.0 node.replicas own (λ n. true≢false (sym (same_name name group n) ∙ t)) ∙ e, holds)
       ]
 

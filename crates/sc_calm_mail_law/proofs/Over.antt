@@ -1,35 +1,26 @@
 -- A group that is gone and free stays so, whatever its replica does, but where it takes a state.
-use Rattle.std.proofs.Common.{◌≡◌, ℕ, true, cond, List, [], ◌∷◌, ◌++◌, Option, Some, None, refl, sym, ◌∙◌, ap, subst}
-use Rattle.sc_base.specs.Among.{Each}
+use Rattle.std.proofs.Common.{◌≡◌, ℕ, cond, List, [], Option, Some, None, sym, ◌∙◌, ap, subst}
 use Rattle.sc_base.specs.declared.names.Draw.{Draw}
 use Rattle.sc_cmd.specs.declared.commands.Command.{Command}
 use Rattle.sc_cmd.specs.declared.commands.Command.TheVariants.{Noop, Call, Join, Leave, Split, Begin, Prepared, RecordVote, GiveUp, Finish, Watched, RecordWatch}
 use Rattle.sc_cmd.specs.declared.cores.Base.{Base}
-use Rattle.sc_cmd.specs.declared.cores.Core.{Core}
 use Rattle.sc_cmd.specs.declared.cores.Lock.{Lock}
 use Rattle.sc_cmd.specs.declared.links.Route.{Route}
 use Rattle.sc_cmd.specs.declared.effects.Effect.{Effect}
 use Rattle.sc_cmd.specs.declared.effects.Effect.TheVariants.{NoEffect}
 use Rattle.sc_cmd.specs.declared.orders.OrderRefusal.{OrderRefusal}
 use Rattle.sc_cmd.specs.declared.votes.No.{No}
-use Rattle.sc_mail.specs.declared.bodies.Mail.{Mail}
 use Rattle.sc_mail.specs.declared.bodies.MailBody.{MailBody}
 use Rattle.sc_mail.specs.declared.bodies.MailBody.TheVariants.{Install}
-use Rattle.sc_actor.specs.declared.rows.Input.TheVariants.{Got}
-use Rattle.sc_actor.specs.Mail.{mails}
-use Rattle.sc_actor.specs.Replay.{input_of}
 use Rattle.sc_orderly_law.proofs.InTime.{in_time_before}
 use Rattle.sc_machine_table.specs.Finishes.{finished}
 use Rattle.sc_machine_table.specs.Group.{Group}
-use Rattle.sc_machine_table.specs.Machine.{called, ordered_by, applied, split_group}
-use Rattle.sc_machine_table.specs.Orders.{locked_in, ordered, refusal_of, with_node, without_node}
+use Rattle.sc_machine_table.specs.Machine.{called, ordered_by, applied}
+use Rattle.sc_machine_table.specs.Orders.{locked_in, ordered}
 use Rattle.sc_machine_table.specs.Splits.{has_named}
-use Rattle.sc_machine_table.specs.Transactions.{vote_recorded, watch_recorded, aborted, is_coordinating, begun_group}
-use Rattle.sc_machine_table.specs.Votes.{no_of, offer_no, watch_no, has_voted, voted_on, past_of}
+use Rattle.sc_machine_table.specs.Transactions.{vote_recorded, watch_recorded, aborted, is_coordinating}
+use Rattle.sc_machine_table.specs.Votes.{no_of, offer_no, watch_no, has_voted, voted_on}
 use Rattle.sc_node_table.specs.Node.{group_of_mail}
-use Rattle.sc_node_table.specs.Ordering.{ordered_row}
-use Rattle.sc_node_table.specs.Replica.{ReplicaState}
-use Rattle.sc_node_table.specs.Rows.{mailed}
 use Rattle.sc_law_lemmas.proofs.Ways.{either_way}
 use Rattle.sc_sound.specs.Players.{births, as_nodes}
 use Rattle.sc_calm_law.specs.Charts.{players}
@@ -38,7 +29,7 @@ use Rattle.sc_calm_mail_law.specs.Over.{IsOver, EntriesLeaveOver, OverStays}
 use Rattle.sc_calm_mail_law.proofs.FewJournals.{journals_idle}
 use Rattle.sc_calm_mail_law.proofs.Lasting.{row_later}
 use Rattle.sc_calm_mail_law.proofs.WalkRows.{takes_mail, orders}
-use Rattle.sc_calm_mail_law.proofs.Walks.{Walk, Part, part, Hears, hears_all}
+use Rattle.sc_calm_mail_law.proofs.Walks.{Walk, Part, Hears, hears_all}
 
 -- ---- an entry
 
