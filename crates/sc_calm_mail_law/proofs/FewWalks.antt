@@ -48,11 +48,6 @@ module _ (m : ℕ) where
   abbrev pub Late : Part → Type 0
   Late p = Rests p × (p.top.round ≤ m + 1) × (p.leader.ballot.round ≤ m + 1) × ((p.ready ≡ [] → ⊥) → (p.top.round ≤ m) × (p.leader.ballot.round ≤ m))
 
-  cut_few : (last next : ℕ) (p : Part) → next_in (cut_part last p) ≡ next → next ≤ m + 1 → Early p → Early (cut_part last p)
-  cut_few last next p e low k =
-      let r = k.0 in
-      ((omega (arith, e, low), r.1, Each-filter (IsFewReport m) (λ report. nat_lt (floor_of last) report.slot) p.acceptor.accepted r.2, r.3, r.4, r.5), k.1, k.2)
-
   pub again_few : (p : Part) (command : Command) → at_slot p.ready (next_in p) ≡ Some command → Late p → Early p × (next_in p ≤ m)
   again_few p command e k =
       let some : p.ready ≡ [] → ⊥ = λ none. (let bad : None ≡ Some command = ap (λ es. at_slot es (next_in p)) (sym none) ∙ e in cc) in
@@ -89,9 +84,6 @@ module _ (m : ℕ) where
   made_few slot base some low = (let up = installed_up slot in ((omega (arith, up, low), some, tt, tt, tt, tt), some, some))
 
 -- ---- the walk, by how many rows there were
-
-four_more : (n : ℕ) → most_after (n + 1) ≡ most_after n + 4
-four_more n = omega arith
 
 abbrev pub few_walk : ℕ → ℕ → Walk
 few_walk n who = (
