@@ -1,25 +1,21 @@
 -- Slots and rounds are few after any rows that come in time.
-use Rattle.std.proofs.Common.{◌≡◌, ℕ, ◌+◌, ◌-◌, ◌*◌, ◌^◌, ◌≤◌, ◌<◌, List, [], ◌∷◌, length, Option, Some, refl, sym, subst, inl, inr, arith}
+use Rattle.std.proofs.Common.{ℕ, ◌+◌, ◌≤◌, List, refl, sym, subst, inl, inr, arith}
 use Rattle.sc_base.specs.Among.{Each}
 use Rattle.sc_cmd.specs.declared.commands.Command.{Command}
 use Rattle.sc_mail.specs.declared.bodies.Mail.{Mail}
 use Rattle.sc_mail.specs.declared.bodies.MailBody.{MailBody}
 use Rattle.sc_mail.specs.declared.bodies.MailBody.TheVariants.{Request, Answer, Prepare, Promise, Accept, Accepted, Nack, Learn, Ask, Install, TxPrepare, TxVote, TxOutcome, TxElsewhere, TxWatch, TxWatched, Told}
 use Rattle.sc_actor.specs.declared.actors.Seat.{Seat}
-use Rattle.sc_client_table.specs.Table.{request_of}
 use Rattle.sc_paxos_words.specs.declared.flights.Flight.{Flight}
 use Rattle.sc_paxos_words.specs.declared.reports.Report.{Report}
 use Rattle.sc_paxos_words.proofs.ListLemmas.{Each-weaker}
-use Rattle.sc_node_table.specs.Replica.{last_slot}
-use Rattle.sc_node_table.specs.Slots.{slots_ahead}
 use Rattle.sc_sound.specs.Players.{Player, births, as_nodes}
 use Rattle.sc_calm_mail_law.specs.Few.{most_after, IsFewReport, SaysFew, JournalsHaveFew, SlotsAreLeft}
 use Rattle.sc_calm_mail_law.specs.Idle.{JournalsKeepIdle}
-use Rattle.sc_calm_mail_law.proofs.Clients.{IsRequestOf}
 use Rattle.sc_calm_mail_law.proofs.FewLists.{FlyTo, WaitTo}
 use Rattle.sc_calm_mail_law.proofs.FewWalks.{Early, Late, few_walk, few_births}
-use Rattle.sc_calm_mail_law.proofs.Journals.{Speaks, Law, Holds, journals_hold, view_kept}
-use Rattle.sc_calm_mail_law.proofs.Walks.{Walk, Part, next_in, Sends, Hears}
+use Rattle.sc_calm_mail_law.proofs.Journals.{Speaks, Law, journals_hold, view_kept}
+use Rattle.sc_calm_mail_law.proofs.Walks.{Part, next_in, Hears}
 
 -- a later bound
 module _ (most more : ℕ) (le : most ≤ more) where
@@ -131,7 +127,7 @@ few_law births = record {
 pub journals_few : JournalsHaveFew
 journals_few = record {
   replicas = λ words scenario rows name who r timely e. (let law : Law (births as_nodes scenario) = few_law (births as_nodes scenario) in
-  (view_kept (births as_nodes scenario) law rows name who r (journals_hold scenario law words rows timely) e).1);
+      (view_kept (births as_nodes scenario) law rows name who r (journals_hold scenario law words rows timely) e).1);
   mails = λ words scenario rows timely. (journals_hold scenario (few_law (births as_nodes scenario)) words rows timely).1;
 }
 

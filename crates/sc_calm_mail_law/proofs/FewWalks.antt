@@ -1,30 +1,26 @@
 -- Slots and rounds are few in each row, and so after any.
-use Rattle.std.proofs.Common.{◌≡◌, ℕ, zero, suc, ◌+◌, ◌-◌, ◌*◌, ◌^◌, ◌≤◌, ◌<◌, nat_le, nat_lt, eqb, ltb, not, ◌&&◌, Bool, true, false, cond, List, [], ◌∷◌, ◌++◌, length, filter, Option, Some, None, refl, sym, ◌∙◌, ap, subst, arith, max}
-use Rattle.std.proofs.lemmas.Bool.{cond_both, ltb-true, ltb-false}
+use Rattle.std.proofs.Common.{◌≡◌, ℕ, ◌+◌, ◌≤◌, nat_le, nat_lt, not, ◌&&◌, Bool, true, false, List, [], ◌∷◌, ◌++◌, Some, None, refl, sym, ◌∙◌, ap, subst, arith}
 use Rattle.std.proofs.lemmas.List.{length_push}
 use Rattle.sc_base.specs.Among.{Each}
 use Rattle.sc_base.specs.Same.{same_ballot}
 use Rattle.sc_base.specs.declared.names.Ballot.{Ballot}
-use Rattle.sc_base.specs.declared.names.Draw.{Draw}
 use Rattle.sc_cmd.specs.declared.commands.Command.{Command}
 use Rattle.sc_cmd.specs.declared.cores.Base.{Base}
 use Rattle.sc_member.specs.Roster.{is_member}
 use Rattle.sc_paxos_words.specs.declared.flights.Flight.{Flight}
 use Rattle.sc_paxos_words.specs.declared.reports.Report.{Report}
-use Rattle.sc_paxos_words.specs.Acceptors.{after_cut, reports_from}
+use Rattle.sc_paxos_words.specs.Acceptors.{reports_from}
 use Rattle.sc_paxos_words.specs.Leaders.{LeaderState, promise_counted}
-use Rattle.sc_paxos_words.specs.Logs.{LogState, installed, entry_at, log_cut, next_of}
+use Rattle.sc_paxos_words.specs.Logs.{LogState, installed, log_cut, next_of}
 use Rattle.sc_paxos_words.proofs.ListLemmas.{Each-append, Each-filter, Each-weaker}
-use Rattle.sc_machine_table.specs.Machine.{applied}
-use Rattle.sc_node_table.specs.Execute.{with_entry}
 use Rattle.sc_node_table.specs.Replica.{floor_of}
-use Rattle.sc_node_table.specs.Slots.{slots_ahead, at_slot}
+use Rattle.sc_node_table.specs.Slots.{at_slot}
 use Rattle.sc_law_lemmas.proofs.Entries.{entry_is, floor_under, cut_next}
 use Rattle.sc_law_lemmas.proofs.Ways.{either_way}
 use Rattle.sc_calm_rows_law.proofs.WellParts.{floor_most}
 use Rattle.sc_calm_mail_law.specs.Few.{most_after, IsFewReport, SaysFew}
 use Rattle.sc_calm_mail_law.proofs.FewLists.{FlyTo, WaitTo, flights_less, votes_few, entries_less, entries_more, found_low, reports_more, entry_low}
-use Rattle.sc_calm_mail_law.proofs.Walks.{Walk, Births, Part, next_in, cut_part, entered_part, jumped_part, elected_part, born_part, IsReported}
+use Rattle.sc_calm_mail_law.proofs.Walks.{Walk, Births, Part, next_in, cut_part, entered_part, jumped_part, elected_part, born_part}
 
 -- ---- the next slot
 
@@ -51,11 +47,6 @@ module _ (m : ℕ) where
 
   abbrev pub Late : Part → Type 0
   Late p = Rests p × (p.top.round ≤ m + 1) × (p.leader.ballot.round ≤ m + 1) × ((p.ready ≡ [] → ⊥) → (p.top.round ≤ m) × (p.leader.ballot.round ≤ m))
-
-  cut_few : (last next : ℕ) (p : Part) → next_in (cut_part last p) ≡ next → next ≤ m + 1 → Early p → Early (cut_part last p)
-  cut_few last next p e low k =
-      let r = k.0 in
-      ((omega (arith, e, low), r.1, Each-filter (IsFewReport m) (λ report. nat_lt (floor_of last) report.slot) p.acceptor.accepted r.2, r.3, r.4, r.5), k.1, k.2)
 
   pub again_few : (p : Part) (command : Command) → at_slot p.ready (next_in p) ≡ Some command → Late p → Early p × (next_in p ≤ m)
   again_few p command e k =
@@ -94,9 +85,6 @@ module _ (m : ℕ) where
 
 -- ---- the walk, by how many rows there were
 
-four_more : (n : ℕ) → most_after (n + 1) ≡ most_after n + 4
-four_more n = omega arith
-
 abbrev pub few_walk : ℕ → ℕ → Walk
 few_walk n who = (
     let m : ℕ = most_after n in
@@ -122,7 +110,7 @@ few_walk n who = (
       readied = λ slot command p low k. ((k.0.0, k.0.1, k.0.2, k.0.3, k.0.4, entries_more m slot command p.ready low k.0.5), k.1, k.2);
       polled = λ from ballot reports p good k. polled_few m from ballot reports p good k;
       counts = λ from ballot slot set p k. (let v = votes_few (m + 4) p.leader from ballot slot set k.0.4 in let b = k.2 in let same = ap (λ (x : Ballot). x.round) v.0 in
-      ((k.0.0, k.0.1, k.0.2, subst (Each (IsFewReport m)) (sym v.1) k.0.3, v.2, k.0.5), k.1, omega (arith, same, b)));
+          ((k.0.0, k.0.1, k.0.2, subst (Each (IsFewReport m)) (sym v.1) k.0.3, v.2, k.0.5), k.1, omega (arith, same, b)));
       flown = λ slot command p low k. (let a = k.0.0 in ((k.0.0, k.0.1, k.0.2, k.0.3, Each-append (λ (flight : Flight Command). flight.slot ≤ m + 4) p.leader.flights _ k.0.4 (omega (arith, a, low), tt), k.0.5), k.1, k.2, k.3));
       tells = λ number result. tt;
       answers = λ client group seq answer. tt;
@@ -134,8 +122,11 @@ few_walk n who = (
       recalls = λ to slot command p e k. (let a = k.0.0 in let low = entry_low slot p.log command e in omega (arith, a, low));
       wants = λ to p k. (let a = k.0.0 in omega (arith, a));
       wants_all = λ to group. omega arith;
-      promises = λ to ballot from_slot p good k. (omega (arith, good), Each-weaker (IsFewReport m) (IsFewReport x) (λ report q. (let a = q.0 in let b = q.1 in (omega (arith, a), omega (arith, b)))) (reports_from from_slot p.acceptor.accepted)
-      (Each-filter (IsFewReport m) (λ report. nat_le from_slot report.slot) p.acceptor.accepted k.0.2));
+      promises = λ to ballot from_slot p good k. (
+        omega (arith, good),
+        Each-weaker (IsFewReport m) (IsFewReport x) (λ report q. (let a = q.0 in let b = q.1 in (omega (arith, a), omega (arith, b)))) (reports_from from_slot p.acceptor.accepted)
+            (Each-filter (IsFewReport m) (λ report. nat_le from_slot report.slot) p.acceptor.accepted k.0.2),
+      );
       votes = λ to ballot slot group good low. (omega (arith, good), omega (arith, low));
       nacks = λ to p k. (let a = k.0.1 in omega (arith, a));
       offers = λ to tx offer own. tt;
@@ -145,7 +136,7 @@ few_walk n who = (
       ends = λ to tx part outcome. tt;
       sends_on = λ to tx coord hint. tt;
     }
-  )
+    )
 
 pub few_births : (n who : ℕ) → Births (few_walk n who)
 few_births n who = record {

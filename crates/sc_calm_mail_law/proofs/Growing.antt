@@ -1,12 +1,10 @@
 -- In each row of its table a replica's greatest ballot and its next slot do not fall.
-use Rattle.std.proofs.Common.{◌≡◌, ℕ, ◌+◌, ◌≤◌, true, List, [], ◌∷◌, Option, Some, None, inl, arith}
-use Rattle.sc_base.specs.Among.{Each}
+use Rattle.std.proofs.Common.{ℕ, ◌+◌, ◌≤◌, [], inl, arith}
 use Rattle.sc_base.specs.declared.names.Ballot.{Ballot}
 use Rattle.sc_base.specs.Drawing.{Drawer}
 use Rattle.sc_cmd.specs.declared.commands.Command.{Command}
 use Rattle.sc_cmd.specs.declared.orders.OrderLine.{OrderLine}
 use Rattle.sc_mail.specs.declared.bodies.MailBody.{MailBody}
-use Rattle.sc_mail.specs.declared.bodies.MailBody.TheVariants.{Request, Answer, Prepare, Promise, Accept, Accepted, Nack, Learn, Ask, Install, TxPrepare, TxVote, TxOutcome, TxElsewhere, TxWatch, TxWatched, Told}
 use Rattle.sc_paxos_words.specs.Ballots.{IsAtLeast}
 use Rattle.sc_paxos_words.proofs.BallotLemmas.{below_from, at_least_trans, at_least_itself, at_least_from_below}
 use Rattle.sc_node_table.specs.Ordering.{ordered_row}
@@ -16,7 +14,7 @@ use Rattle.sc_calm_mail_law.specs.Idle.{IsPlainlyKept}
 use Rattle.sc_calm_mail_law.specs.Lasting.{HasGrown}
 use Rattle.sc_calm_mail_law.proofs.FewWalks.{entered_up, installed_up}
 use Rattle.sc_calm_mail_law.proofs.WalkRows.{takes_mail, orders}
-use Rattle.sc_calm_mail_law.proofs.Walks.{Walk, Part, part, next_in, entered_part, jumped_part, elected_part, Hears}
+use Rattle.sc_calm_mail_law.proofs.Walks.{Walk, Part, next_in, entered_part, elected_part, hears_all}
 
 module _ (top : Ballot) (slot : ℕ) where
   -- no lower ballot was seen than this, and no fewer slots executed
@@ -75,32 +73,8 @@ module _ (top : Ballot) (slot : ℕ) where
     sends_on = λ to tx coord hint. tt;
   }
 
-  -- any mail will do
-  all_reported : {X : Type 0} (xs : List X) → Each (λ x. Unit {0} × Unit {0}) xs
-  all_reported [] = tt
-  all_reported (x ∷ xs) = ((tt, tt), all_reported xs)
-
-  any_heard : (who : ℕ) (body : MailBody) → Hears (growing who) body
-  any_heard who (Prepare group ballot from_slot) = tt
-  any_heard who (Promise group ballot reports) = all_reported reports
-  any_heard who (Accept group ballot slot command) = (tt, tt)
-  any_heard who (Accepted group ballot slot) = tt
-  any_heard who (Nack group promised) = tt
-  any_heard who (Learn group slot command) = tt
-  any_heard who (Install group slot base sets) = (tt, tt)
-  any_heard who (Ask group from_slot) = tt
-  any_heard who (Request group client seq op) = tt
-  any_heard who (Answer group seq answer) = tt
-  any_heard who (TxPrepare tx offer) = tt
-  any_heard who (TxVote tx coord part vote) = tt
-  any_heard who (TxOutcome tx part outcome) = tt
-  any_heard who (TxElsewhere tx coord hint) = tt
-  any_heard who (TxWatch tx watch) = tt
-  any_heard who (TxWatched tx coord part vote) = tt
-  any_heard who (Told order result) = tt
-
 pub mailed_grown : (who from : ℕ) (body : MailBody) (r : ReplicaState) → IsPlainlyKept who r → HasGrown r (mailed from body (r, [])).0.0
-mailed_grown who from body r kept = (takes_mail (growing r.top (next r) who) from body (r, []) (any_heard r.top (next r) who body) ((kept, (at_least_itself r.top, omega arith)), tt)).0.1
+mailed_grown who from body r kept = (takes_mail (growing r.top (next r) who) from body (r, []) (hears_all (growing r.top (next r) who) (λ ballot. tt) (λ slot. tt) body (λ group slot base sets e. (tt, tt))) ((kept, (at_least_itself r.top, omega arith)), tt)).0.1
 
 pub ordered_grown : (who : ℕ) (drawer : Drawer) (line : OrderLine) (r : ReplicaState) → IsPlainlyKept who r → HasGrown r (ordered_row drawer line (r, [])).0
 ordered_grown who drawer line r kept = (orders (growing r.top (next r) who) drawer line (r, []) ((kept, (at_least_itself r.top, omega arith)), tt)).0.1

@@ -1,5 +1,5 @@
 -- What a walk says is kept by each row of a journal, and so holds after any rows that come in time: of each player, and of each mail.
-use Rattle.std.proofs.Common.{◌≡◌, ℕ, zero, suc, ◌+◌, eqb, refl, cond, List, [], ◌∷◌, ◌++◌, length, map, find, Option, Some, None, sym, ◌∙◌, subst, ap, ◌⊎◌, inl, inr}
+use Rattle.std.proofs.Common.{◌≡◌, ℕ, zero, suc, ◌+◌, eqb, refl, List, [], ◌∷◌, ◌++◌, length, map, find, Option, Some, None, sym, ◌∙◌, subst, ◌⊎◌, inl, inr}
 use Rattle.std.specs.Prelude.{slice_get}
 use Rattle.std.specs.Option.{option_map}
 use Rattle.std.proofs.lemmas.List.{length_push}
@@ -17,7 +17,7 @@ use Rattle.sc_actor.specs.declared.actors.Seat.{Seat}
 use Rattle.sc_actor.specs.declared.rows.Event.{Event}
 use Rattle.sc_actor.specs.declared.rows.Event.TheVariants.{Deliver, Tick as TickEvent, Go as GoEvent, Told as ToldEvent, Crash, Drop, Again}
 use Rattle.sc_actor.specs.declared.rows.Input.{Input}
-use Rattle.sc_actor.specs.declared.rows.Input.TheVariants.{Got, Tick, Go as GoInput, Told as ToldInput}
+use Rattle.sc_actor.specs.declared.rows.Input.TheVariants.{Got, Go as GoInput, Told as ToldInput}
 use Rattle.sc_actor.specs.declared.rows.Row.{Row}
 use Rattle.sc_actor.specs.Mail.{mails, numbered}
 use Rattle.sc_actor.specs.Replay.{value, acted, input_of}
@@ -25,7 +25,7 @@ use Rattle.sc_actor.specs.System.{row_of}
 use Rattle.sc_actor.proofs.ReplayLemmas.{value-snoc, mails-snoc}
 use Rattle.sc_orderly_law.specs.Orderly.{IsCalmEvent}
 use Rattle.sc_orderly_law.specs.Timely.{AreInTime}
-use Rattle.sc_orderly_law.proofs.InTime.{by_time, last_in_time, in_time_before}
+use Rattle.sc_orderly_law.proofs.InTime.{by_time, last_in_time}
 use Rattle.sc_client_table.specs.Client.{Client as ClientState}
 use Rattle.sc_paxos_words.proofs.ListLemmas.{Each-among, Each-append, Each-weaker, find_found}
 use Rattle.sc_node_table.specs.Node.{NodeState, born_replicas, node_table, replica_of}
@@ -43,7 +43,7 @@ use Rattle.sc_law_lemmas.proofs.Ways.{either_way}
 use Rattle.sc_calm_mail_law.specs.Idle.{IsPlainlyKept}
 use Rattle.sc_calm_mail_law.proofs.Clients.{IsRequestOf, clients_ask}
 use Rattle.sc_calm_mail_law.proofs.WalkNodes.{Given, Starts, Stands, input_step}
-use Rattle.sc_calm_mail_law.proofs.Walks.{Walk, Births, Part, part, born_part, Sends, AreSaid, EarlyAt, LateAt, Hears}
+use Rattle.sc_calm_mail_law.proofs.Walks.{Walk, Births, Part, part, born_part, Sends, EarlyAt, LateAt, Hears}
 
 -- a mail that has a number was sent
 among_place : {X : Type 0} (xs : List X) (place : ℕ) (x : X) → slice_get xs place ≡ Some x → Among x xs

@@ -5,6 +5,7 @@ pub mod FewWalks
 pub mod Growing
 pub mod Journals
 pub mod Lasting
+pub mod Over
 pub mod Posting
 pub mod Waiting
 pub mod WalkMails

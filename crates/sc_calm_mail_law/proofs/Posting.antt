@@ -1,9 +1,8 @@
 -- Each mail of a journal is sent by a player of its number, to whom such a player sends such mail.
-use Rattle.std.proofs.Common.{◌≡◌, ℕ, zero, suc, ◌+◌, ◌≤◌, nat_le, eqb, true, false, List, [], ◌∷◌, ◌++◌, length, map, find, Option, Some, None, refl, sym, ◌∙◌, ap, subst, inl, inr, arith, rules, tests}
+use Rattle.std.proofs.Common.{◌≡◌, ℕ, zero, suc, ◌+◌, ◌≤◌, nat_le, eqb, true, false, List, [], ◌∷◌, map, refl, sym, ◌∙◌, ap, subst, inl, inr, arith, rules, tests}
 use Rattle.std.proofs.lemmas.Bool.{le-leb}
 use Rattle.sc_base.specs.Among.{Each}
-use Rattle.sc_base.specs.Limits.{client_actor, most_nodes}
-use Rattle.sc_base.specs.declared.names.Ballot.{Ballot}
+use Rattle.sc_base.specs.Limits.{most_nodes}
 use Rattle.sc_cmd.specs.declared.cores.Base.{Base}
 use Rattle.sc_mail.specs.declared.bodies.Mail.{Mail}
 use Rattle.sc_mail.specs.declared.bodies.MailBody.{MailBody}
@@ -14,20 +13,17 @@ use Rattle.sc_actor.specs.declared.rows.Row.{Row}
 use Rattle.sc_actor.specs.Mail.{mails}
 use Rattle.sc_actor.specs.System.{row_of}
 use Rattle.sc_orderly_law.proofs.InTime.{last_in_time, in_time_before}
-use Rattle.sc_client_table.specs.Table.{request_of}
 use Rattle.sc_paxos_words.proofs.ListLemmas.{Each-among, Each-append, Each-weaker, find_found, find_nothing}
-use Rattle.sc_scenario.specs.Valid.{IsBounded}
 use Rattle.sc_scenario.specs.declared.scenarios.Asks.{Asks as Requests}
 use Rattle.sc_scenario.specs.declared.scenarios.Scenario.{Scenario}
-use Rattle.sc_node_table.specs.Node.{NodeState, may_come, is_node}
+use Rattle.sc_node_table.specs.Node.{may_come, is_node}
 use Rattle.sc_node_table.specs.Slots.{numbers_from}
 use Rattle.sc_sound.specs.Players.{Player, player_table, node_seat, client_seat, client_seats, route_of, births, as_nodes}
 use Rattle.sc_calm_law.specs.Charts.{players}
 use Rattle.sc_calm_rows_law.specs.Turns.{IsSeat}
 use Rattle.sc_calm_mail_law.specs.Posted.{IsNodesBody, IsClientsBody, IsPlayers, IsPosted, MailIsPosted, RowsPostTheirOwn, MailMayCome, DesksAreNotBorn}
-use Rattle.sc_calm_mail_law.proofs.Clients.{IsRequestOf}
 use Rattle.sc_calm_mail_law.proofs.Journals.{Speaks, Law, Holds, row_speaks, journals_hold}
-use Rattle.sc_calm_mail_law.proofs.Walks.{Walk, Sends, Hears}
+use Rattle.sc_calm_mail_law.proofs.Walks.{Walk, hears_all}
 
 -- nothing is asked of a replica, and of mail what its sender sends
 abbrev posting : ℕ → Walk
@@ -74,33 +70,6 @@ posting who = record {
   sends_on = λ to tx coord hint. tt;
 }
 
--- a report of anything is one
-reported : (who : ℕ) (mail : Mail) → Hears (posting who) mail.body
-reported who mail = by mail.body
-  where
-    each : {X : Type 0} (xs : List X) → Each (λ x. Unit {0} × Unit {0}) xs
-    each [] = tt
-    each (x ∷ xs) = ((tt, tt), each xs)
-
-    by : (body : MailBody) → Hears (posting who) body
-    by (Prepare group ballot from_slot) = tt
-    by (Promise group ballot reports) = each reports
-    by (Accept group ballot slot command) = (tt, tt)
-    by (Accepted group ballot slot) = tt
-    by (Nack group promised) = tt
-    by (Learn group slot command) = tt
-    by (Install group slot base sets) = (tt, tt)
-    by (Ask group from_slot) = tt
-    by (Request group client seq op) = tt
-    by (Answer group seq answer) = tt
-    by (TxPrepare tx offer) = tt
-    by (TxVote tx coord part vote) = tt
-    by (TxOutcome tx part outcome) = tt
-    by (TxElsewhere tx coord hint) = tt
-    by (TxWatch tx watch) = tt
-    by (TxWatched tx coord part vote) = tt
-    by (Told order result) = tt
-
 module _ (births : List (Seat Player)) where
   -- who speaks posts it
   posts : (seat : Seat Player) (mail : Mail) → Speaks (posting seat.who) seat mail → (mail.from ≡ seat.who) × IsPlayers seat.who seat.actor mail
@@ -124,7 +93,7 @@ module _ (births : List (Seat Player)) where
     starts = λ n who p k. tt;
     keeps = λ n who p k. tt;
     more = λ n mail good. good;
-    hears = λ n who mail good. reported who mail;
+    hears = λ n who mail good. hears_all (posting who) (λ ballot. tt) (λ slot. tt) mail.body (λ group slot base sets e. (tt, tt));
     said = λ n seat mail born s. posted seat mail born s;
   }
 

@@ -1,12 +1,11 @@
 -- What waits at a replica is kept by what puts it there and takes it away.
-use Rattle.std.proofs.Common.{◌≡◌, ℕ, ◌||◌, nat_lt, Bool, true, false, true≢false, cond, List, [], ◌∷◌, ◌++◌, Option, Some, None, refl, sym, ◌∙◌}
+use Rattle.std.proofs.Common.{◌≡◌, ℕ, nat_lt, true, true≢false, List, [], ◌∷◌, ◌++◌, Option, Some, None, refl, sym, ◌∙◌}
 use Rattle.sc_base.specs.Among.{Each}
 use Rattle.sc_cmd.specs.declared.commands.Command.{Command}
 use Rattle.sc_cmd.specs.declared.commands.Command.TheVariants.{Noop, Call, Join, Leave, Split, Begin, Prepared, RecordVote, GiveUp, Finish, Watched, RecordWatch}
 use Rattle.sc_cmd.specs.declared.cores.Lock.{Lock}
 use Rattle.sc_cmd.specs.declared.cores.Lock.TheVariants.{Free, Coordinating, Promised, Watching}
 use Rattle.sc_paxos_words.proofs.ListLemmas.{Each-append}
-use Rattle.sc_node_table.specs.Acts.{has_act, with_act}
 use Rattle.sc_node_table.specs.Queues.{put_back, call_of, is_call_of, without_call, call_before}
 use Rattle.sc_node_table.specs.Replica.{ReplicaState, waits_in}
 use Rattle.sc_law_lemmas.proofs.Ways.{either_way}

@@ -1,15 +1,12 @@
 -- What a walk says is kept by each row of a node's table.
-use Rattle.std.proofs.Common.{◌≡◌, ℕ, ◌||◌, not, nat_lt, eqb, refl, Bool, true, false, cond, List, [], ◌∷◌, ◌++◌, length, map, Option, Some, None, sym, subst}
+use Rattle.std.proofs.Common.{◌≡◌, ℕ, ◌||◌, not, nat_lt, eqb, refl, Bool, true, false, cond, List, [], ◌∷◌, length, Option, Some, None, sym, subst}
 use Rattle.std.specs.Prelude.{is_some}
 use Rattle.std.proofs.lemmas.Bool.{eqb-true}
 use Rattle.sc_base.specs.Among.{Each}
-use Rattle.sc_base.specs.Drawing.{Drawer}
 use Rattle.sc_base.specs.Same.{same_draw}
 use Rattle.sc_base.specs.declared.names.Draw.{Draw}
 use Rattle.sc_actor.specs.declared.rows.Input.{Input}
 use Rattle.sc_actor.specs.declared.rows.Input.TheVariants.{Got, Tick, Go, Told}
-use Rattle.sc_actor.specs.declared.rows.Row.{Row}
-use Rattle.sc_actor.specs.Replay.{acted, input_of, replay}
 use Rattle.sc_cmd.specs.declared.cores.Base.{Base}
 use Rattle.sc_cmd.specs.declared.orders.OrderLine.{OrderLine}
 use Rattle.sc_mail.specs.declared.bodies.Mail.{Mail}
@@ -20,15 +17,11 @@ use Rattle.sc_cmd.specs.declared.orders.OrderRefusal.TheVariants.{NotLeader as O
 use Rattle.sc_cmd.specs.declared.orders.ToldResult.TheVariants.{Refused}
 use Rattle.sc_paxos_words.proofs.ListLemmas.{Each-weaker}
 use Rattle.sc_node_table.specs.Mails.{sent}
-use Rattle.sc_mail.specs.declared.roles.Role.TheVariants.{Node, Client}
-use Rattle.sc_member.specs.Roster.{is_member}
 use Rattle.sc_node_table.specs.Node.{NodeState, replica_of, with_replica, is_before, with_new, group_of_mail, with_made, unknown, may_come, with_born, with_children, taken_by, routed, on_mail, group_of_order, ordered_of, node_table}
 use Rattle.sc_node_table.specs.Ordering.{ordered_row}
-use Rattle.sc_node_table.specs.Policy.{names_after_tick}
 use Rattle.sc_node_table.specs.Replica.{ReplicaState, Place, Executed, name_of, last_slot, born_replica}
-use Rattle.sc_node_table.specs.Rows.{made_by, tick_row, mailed}
+use Rattle.sc_node_table.specs.Rows.{made_by, mailed}
 use Rattle.sc_node_table.specs.Slots.{slots_ahead}
-use Rattle.sc_sound.specs.Players.{Player, player_table}
 use Rattle.sc_law_lemmas.proofs.Ways.{either_way}
 use Rattle.sc_calm_mail_law.proofs.WalkMails.{one_sent, client_told}
 use Rattle.sc_calm_mail_law.proofs.WalkRows.{takes_mail, orders, bears, makes}

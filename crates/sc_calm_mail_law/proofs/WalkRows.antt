@@ -5,7 +5,6 @@ use Rattle.sc_base.specs.Among.{Each}
 use Rattle.std.proofs.lemmas.Bool.{cond_both, and_parts, eqb-true, ltb-false}
 use Rattle.sc_base.specs.Same.{same_ballot}
 use Rattle.sc_base.specs.Drawing.{Drawer, next_name}
-use Rattle.sc_base.specs.Limits.{client_actor}
 use Rattle.sc_base.specs.declared.names.Ballot.{Ballot}
 use Rattle.sc_base.specs.declared.names.Draw.{Draw}
 use Rattle.sc_base.specs.declared.ops.Op.{Op}
@@ -106,9 +105,10 @@ module _ (w : Walk) where
   promises_to : (from : ℕ) (ballot : Ballot) (from_slot : ℕ) (place : Place) → w.Round ballot → Before w place → Before w (promise_to from ballot (prepared ballot from_slot place.0.acceptor) place)
   promises_to from ballot from_slot (r, mails) good k =
       either_way (λ (p : PrepareAnswer Command × AcceptorState Command). Before w (promise_to from ballot p (r, mails))) (may_promise r.acceptor ballot)
-      (Prepared.Promise (reports_from from_slot r.acceptor.accepted), after_promise ballot r.acceptor) (Prepared.Ignored r.acceptor.promised, r.acceptor)
-      (hints ballot (record r { acceptor = after_promise ballot r.acceptor }) (k.0.0, w.promised ballot (part r) good k.0.1),
-      one_sent w r.me k.0.0.0 from (Promise (name_of r) ballot (reports_from from_slot r.acceptor.accepted)) mails (w.promises from ballot from_slot (part r) good k.0.1) k.1)
+      (Prepared.Promise (reports_from from_slot r.acceptor.accepted), after_promise ballot r.acceptor) (Prepared.Ignored r.acceptor.promised, r.acceptor) (
+        hints ballot (record r { acceptor = after_promise ballot r.acceptor }) (k.0.0, w.promised ballot (part r) good k.0.1),
+        one_sent w r.me k.0.0.0 from (Promise (name_of r) ballot (reports_from from_slot r.acceptor.accepted)) mails (w.promises from ballot from_slot (part r) good k.0.1) k.1,
+      )
       (nacked from (r, mails) k)
 
   prepares : (from : ℕ) (ballot : Ballot) (from_slot : ℕ) (place : Place) → w.Round ballot → Before w place → Before w (prepare_row from ballot from_slot place)
@@ -121,9 +121,10 @@ module _ (w : Walk) where
   accepts_to : (from : ℕ) (report : Report Command) (place : Place) → IsReported w.Round w.Slot report → Before w place → Before w (accepted_to from report.ballot report.slot (accepted_by report place.0.acceptor) place)
   accepts_to from report (r, mails) good k =
       either_way (λ (p : AcceptAnswer × AcceptorState Command). Before w (accepted_to from report.ballot report.slot p (r, mails))) (may_accept r.acceptor report.ballot) (Asked.Accepted, after_accept report r.acceptor)
-      (Asked.Ignored r.acceptor.promised, r.acceptor)
-      (hints report.ballot (record r { acceptor = after_accept report r.acceptor }) (k.0.0, w.accepted report (part r) good k.0.1),
-      one_sent w r.me k.0.0.0 from (Accepted (name_of r) report.ballot report.slot) mails (w.votes from report.ballot report.slot (name_of r) good.0 good.1) k.1)
+      (Asked.Ignored r.acceptor.promised, r.acceptor) (
+        hints report.ballot (record r { acceptor = after_accept report r.acceptor }) (k.0.0, w.accepted report (part r) good k.0.1),
+        one_sent w r.me k.0.0.0 from (Accepted (name_of r) report.ballot report.slot) mails (w.votes from report.ballot report.slot (name_of r) good.0 good.1) k.1,
+      )
       (nacked from (r, mails) k)
 
   takes : (from : ℕ) (report : Report Command) (place : Place) → IsReported w.Round w.Slot report → Before w place → Before w (took from report place)

@@ -1,5 +1,5 @@
 -- What a law says of replicas and of the mail that they send, as one walk through their table takes it: what it is that holds before a row and after it, and that each part of a row keeps it.
-use Rattle.std.proofs.Common.{◌≡◌, ℕ, ◌+◌, ◌-◌, ◌<◌, ◌≤◌, true, Bool, List, [], ◌∷◌, ◌++◌, Option, Some, None}
+use Rattle.std.proofs.Common.{◌≡◌, ℕ, ◌+◌, ◌-◌, ◌<◌, ◌≤◌, true, List, [], ◌∷◌, Option, Some, refl}
 use Rattle.sc_base.specs.Among.{Each}
 use Rattle.sc_base.specs.declared.names.Ballot.{Ballot}
 use Rattle.sc_base.specs.declared.names.Draw.{Draw}
@@ -170,3 +170,28 @@ module _ (w : Walk) where
   Hears (TxWatch tx watch) = Unit {0}
   Hears (TxWatched tx coord part vote) = Unit {0}
   Hears (Told order result) = Unit {0}
+
+  -- where each ballot and each slot is good, all mail but states is heard
+  all_reported : ((ballot : Ballot) → w.Round ballot) → ((slot : ℕ) → w.Slot slot) → (reports : List (Report Command)) → Each (IsReported w.Round w.Slot) reports
+  all_reported rounds slots [] = tt
+  all_reported rounds slots (report ∷ reports) = ((rounds report.ballot, slots report.slot), all_reported rounds slots reports)
+
+  pub hears_all : ((ballot : Ballot) → w.Round ballot) → ((slot : ℕ) → w.Slot slot) → (body : MailBody)
+      → ((group : Draw) (slot : ℕ) (base : Base) (sets : List (List ℕ)) → body ≡ Install group slot base sets → w.State slot base × w.State slot (named group base)) → Hears body
+  hears_all rounds slots (Prepare group ballot from_slot) states = rounds ballot
+  hears_all rounds slots (Promise group ballot reports) states = all_reported rounds slots reports
+  hears_all rounds slots (Accept group ballot slot command) states = (rounds ballot, slots slot)
+  hears_all rounds slots (Accepted group ballot slot) states = slots slot
+  hears_all rounds slots (Nack group promised) states = rounds promised
+  hears_all rounds slots (Learn group slot command) states = slots slot
+  hears_all rounds slots (Install group slot base sets) states = states group slot base sets refl
+  hears_all rounds slots (Ask group from_slot) states = tt
+  hears_all rounds slots (Request group client seq op) states = tt
+  hears_all rounds slots (Answer group seq answer) states = tt
+  hears_all rounds slots (TxPrepare tx offer) states = tt
+  hears_all rounds slots (TxVote tx coord part vote) states = tt
+  hears_all rounds slots (TxOutcome tx part outcome) states = tt
+  hears_all rounds slots (TxElsewhere tx coord hint) states = tt
+  hears_all rounds slots (TxWatch tx watch) states = tt
+  hears_all rounds slots (TxWatched tx coord part vote) states = tt
+  hears_all rounds slots (Told order result) states = tt

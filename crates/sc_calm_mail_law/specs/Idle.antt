@@ -1,5 +1,5 @@
 -- What waits at a replica.
-use Rattle.std.specs.Prelude.{◌≡◌, ℕ, false, List, [], length, Some}
+use Rattle.std.specs.Prelude.{◌≡◌, ℕ, false, [], length, Some}
 use Rattle.sc_base.specs.Among.{Each}
 use Rattle.sc_cmd.specs.declared.commands.Command.{Command}
 use Rattle.sc_cmd.specs.declared.commands.Command.TheVariants.{Noop, Call, Join, Leave, Split, Begin, Prepared, RecordVote, GiveUp, Finish, Watched, RecordWatch}

@@ -1,4 +1,5 @@
 pub mod Few
 pub mod Idle
 pub mod Lasting
+pub mod Over
 pub mod Posted

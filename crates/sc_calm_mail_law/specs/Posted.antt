@@ -1,6 +1,6 @@
 -- Who sends each mail of a journal, and to whom.
-use Rattle.std.specs.Prelude.{◌≡◌, ℕ, ◌==◌, true, List, [], ◌∷◌, ◌++◌, find, Option, Some, None}
-use Rattle.sc_base.specs.Among.{Each, Among}
+use Rattle.std.specs.Prelude.{◌≡◌, ℕ, ◌==◌, true, List, [], ◌∷◌, ◌++◌, find, None}
+use Rattle.sc_base.specs.Among.{Each}
 use Rattle.sc_base.specs.Limits.{client_actor}
 use Rattle.sc_cmd.specs.declared.orders.OrderLine.{OrderLine}
 use Rattle.sc_mail.specs.declared.bodies.Mail.{Mail}
@@ -9,12 +9,11 @@ use Rattle.sc_mail.specs.declared.bodies.MailBody.TheVariants.{Request, Answer, 
 use Rattle.sc_mail.specs.declared.roles.Role.TheVariants.{Node, Client}
 use Rattle.sc_actor.specs.declared.actors.Seat.{Seat}
 use Rattle.sc_actor.specs.declared.rows.Row.{Row}
-use Rattle.sc_actor.specs.Mail.{mails, numbered}
+use Rattle.sc_actor.specs.Mail.{mails}
 use Rattle.sc_orderly_law.specs.Timely.{AreInTime}
-use Rattle.sc_client_table.specs.Client.{Client as ClientState}
 use Rattle.sc_scenario.specs.Valid.{IsBounded}
 use Rattle.sc_scenario.specs.declared.scenarios.Scenario.{Scenario}
-use Rattle.sc_node_table.specs.Node.{NodeState, may_come}
+use Rattle.sc_node_table.specs.Node.{may_come}
 use Rattle.sc_sound.specs.Players.{Player, births, as_nodes}
 use Rattle.sc_calm_law.specs.Charts.{players}
 use Rattle.sc_calm_law.specs.Totals.{Rows}

@@ -5,6 +5,7 @@
 ghost use Rattle.sc_calm_mail_law.specs.Few.{JournalsHaveFew, SlotsAreLeft};
 ghost use Rattle.sc_calm_mail_law.specs.Idle.{FiledIsWork, JournalsKeepIdle};
 ghost use Rattle.sc_calm_mail_law.specs.Lasting.{ReplicasLast};
+ghost use Rattle.sc_calm_mail_law.specs.Over.{EntriesLeaveOver, OverStays};
 ghost use Rattle.sc_calm_mail_law.specs.Posted.{DesksAreNotBorn, MailIsPosted, MailMayCome, RowsPostTheirOwn};
 
 /// Each mail of a journal whose rows come in time is sent by a player of its number: an answer by
@@ -55,4 +56,15 @@ pub fn filed_is_work()
 /// ballot and has executed no less.
 pub fn replicas_last()
     ensures { ReplicasLast }
+{}
+
+/// A group that is gone and bound by no transaction stays so, whatever it executes.
+pub fn entries_leave_over()
+    ensures { EntriesLeaveOver }
+{}
+
+/// So does each replica of it in a row that comes in time, unless it is sent a state of the group
+/// that is not over.
+pub fn over_stays()
+    ensures { OverStays }
 {}

@@ -1,0 +1,43 @@
+-- A group that is gone stays gone at a node, but where it takes a state.
+use Rattle.std.specs.Prelude.{◌≡◌, ℕ, List, [], ◌∷◌, ◌++◌, Some}
+use Rattle.sc_base.specs.declared.names.Draw.{Draw}
+use Rattle.sc_cmd.specs.declared.commands.Command.{Command}
+use Rattle.sc_cmd.specs.declared.cores.Base.{Base}
+use Rattle.sc_cmd.specs.declared.cores.Core.{Core}
+use Rattle.sc_cmd.specs.declared.cores.Lock.TheVariants.{Free}
+use Rattle.sc_cmd.specs.declared.links.Route.{Route}
+use Rattle.sc_cmd.specs.declared.orders.OrderLine.{OrderLine}
+use Rattle.sc_mail.specs.declared.bodies.Mail.{Mail}
+use Rattle.sc_mail.specs.declared.bodies.MailBody.TheVariants.{Install}
+use Rattle.sc_actor.specs.declared.rows.Input.TheVariants.{Got}
+use Rattle.sc_actor.specs.declared.rows.Row.{Row}
+use Rattle.sc_actor.specs.Mail.{mails}
+use Rattle.sc_actor.specs.Replay.{input_of}
+use Rattle.sc_orderly_law.specs.Timely.{AreInTime}
+use Rattle.sc_scenario.specs.declared.scenarios.Scenario.{Scenario}
+use Rattle.sc_machine_table.specs.Group.{Group}
+use Rattle.sc_machine_table.specs.Machine.{applied}
+use Rattle.sc_node_table.specs.Replica.{ReplicaState}
+use Rattle.sc_sound.specs.Players.{births, as_nodes}
+use Rattle.sc_calm_law.specs.Charts.{players}
+use Rattle.sc_calm_law.specs.Totals.{Rows}
+use Rattle.sc_calm_rows_law.specs.Groups.{view_at}
+
+-- a group went into another, and is bound by no transaction
+abbrev pub IsOver : Route → Core → Type 0
+IsOver into core = (core.gone ≡ Some into) × (core.lock ≡ Free)
+
+-- It stays so, whatever it executes.
+abbrev pub EntriesLeaveOver : Type 0
+EntriesLeaveOver = (into : Route) (group : Group) (command : Command) → IsOver into group.core → IsOver into (applied group command).0.core
+
+-- each state of the group that the node is sent by a row is of one that is over
+abbrev pub SendsOver : Route → Rows → Row Mail OrderLine → Draw → Type 0
+SendsOver into rows row name = (mail : Mail) (slot : ℕ) (base : Base) (sets : List (List ℕ)) → input_of (mails rows) row.event ≡ Some (Got mail) → mail.body ≡ Install name slot base sets → IsOver into base.core
+
+-- .. and so does each replica of it in a row that comes in time.
+abbrev pub OverStays : Type 0
+OverStays =
+    (words : ℕ → ℕ → ℕ × ℕ) (scenario : Scenario) (rows : Rows) (row : Row Mail OrderLine) (name : Draw) (who : ℕ) (into : Route) (r : ReplicaState) → AreInTime (players words (births as_nodes scenario)) (rows ++ row ∷ []) → (who ≡ row.who → SendsOver into rows row name)
+    → view_at (births as_nodes scenario) rows name who ≡ Some r → IsOver into r.group.core
+    → (later : ReplicaState) × (view_at (births as_nodes scenario) (rows ++ row ∷ []) name who ≡ Some later) × IsOver into later.group.core
