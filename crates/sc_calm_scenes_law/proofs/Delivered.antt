@@ -47,7 +47,7 @@ use Rattle.sc_calm_scenes_law.specs.Scenes.{is_running, lead_of, scene_at}
 use Rattle.sc_calm_orders_law.specs.Follows.{ByTaking}
 use Rattle.sc_calm_scenes_law.proofs.Newest.{lead_runs}
 use Rattle.sc_calm_scenes_law.specs.Taken.{IsTaking}
-use Rattle.sc_calm_scenes_law.specs.Kept.{ComesTo, StageAfter}
+use Rattle.sc_calm_scenes_law.specs.Kept.{GoesBy, ComesTo, StageAfter}
 use Rattle.sc_calm_scenes_law.specs.Found.{BesideFinds, FindsReplica, AtLeader, AtAnother}
 use Rattle.sc_calm_scenes_law.specs.Fresh.{IsFresh, IsThere, AreThere, IsNowhere, AreUntouched, IsDelivered, after_all, AreDelivered, IsToldInQuiet, FreshGroupsStay}
 use Rattle.sc_calm_scenes_law.proofs.Found.{IsQuestion, leader_asked, found_step}
@@ -73,7 +73,7 @@ module _ (words : ℕ → ℕ → ℕ × ℕ) (births : List (Seat Player)) (qui
   Left name = Leaves words births rows seat event d.seated d.timely name
 
   abbrev Done : Type 0
-  Done = (later : Stage) × AreUntouched words births quiet (with_event rows seat event) later
+  Done = (later : Stage) × AreUntouched words births quiet (with_event rows seat event) later × ((later ≡ stage) ⊎ GoesBy rows event stage later)
 
   tidy_calm : IsCalmRow s rows (row_of player_table seat rows event)
   tidy_calm = (last_in_time s rows (row_of player_table seat rows event) d.timely).0
@@ -94,8 +94,8 @@ module _ (words : ℕ → ℕ → ℕ × ℕ) (births : List (Seat Player)) (qui
 
   -- ---- the stage after it
 
-  finish : (later : Stage) → IsAt later (scene_at births (with_event rows seat event)) → AreThere births quiet later → ((name : Draw) → IsFresh later name → IsThere births quiet name → IsFresh stage name × Left name) → Done
-  finish later a there all = (
+  finish : (later : Stage) → IsAt later (scene_at births (with_event rows seat event)) → AreThere births quiet later → (later ≡ stage) ⊎ GoesBy rows event stage later → ((name : Draw) → IsFresh later name → IsThere births quiet name → IsFresh stage name × Left name) → Done
+  finish later a there goes all = (
     later,
     record {
       stands = a;
@@ -103,6 +103,7 @@ module _ (words : ℕ → ℕ → ℕ × ℕ) (births : List (Seat Player)) (qui
       views = λ name f t who. (let l = all name f t in left_view words births rows seat event d.seated d.timely name l.1 who ∙ u.views name l.0 t who);
       mails = λ name f t who born. (let l = all name f t in left_mail words births rows seat event d.seated d.timely name l.1 who (u.mails name l.0 t who born));
     },
+    goes,
   )
 
   found : StageAfter births rows seat event stage
@@ -122,7 +123,7 @@ module _ (words : ℕ → ℕ → ℕ × ℕ) (births : List (Seat Player)) (qui
   fresh_before name f = elim found.2 [ inl e ↦ subst (λ x. IsFresh x name) e f | inr g ↦ step_back g.group stage found.0 name g.step g.begins f ]
 
   by_found : ((name : Draw) → IsFresh stage name → IsThere births quiet name → Left name) → Done
-  by_found all = finish found.0 found.1 found_there (λ name f t. (let b = fresh_before name f in (b, all name b t)))
+  by_found all = finish found.0 found.1 found_there found.2 (λ name f t. (let b = fresh_before name f in (b, all name b t)))
 
   -- ---- by who takes it
 
@@ -192,7 +193,9 @@ module _ (words : ℕ → ℕ → ℕ × ℕ) (births : List (Seat Player)) (qui
         comes_by : (c : ComesTo words births rows seat number mail group r) → c.node ≡ node → FindsReplica births rows seat number mail group r → Done
         comes_by c same (AtLeader leads f) = elim (is_asked mail.body) [
           | inl q ↦ (let to = leader_asked words births rows seat number mail group r (record { comes = c; leads = leads }) mail.body q refl f (stage, u.stands) in
-              finish to.0 to.1 (step_there births quiet group stage to.0 (ByTaking to.2) (taken_on group stage to.0 to.2) (asked_there to.0 to.1) u.parties) (λ name fr th. (let b = taken_back group stage to.0 name to.2 fr in (b.0, other_leaves name b.1 th))))
+              finish to.0 to.1 (step_there births quiet group stage to.0 (ByTaking to.2) (taken_on group stage to.0 to.2) (asked_there to.0 to.1) u.parties)
+              (inr (record { group = group; step = ByTaking to.2; of = (mail, t.sent, t.named); begins = λ still. absurd (taken_on group stage to.0 to.2 still) }))
+              (λ name fr th. (let b = taken_back group stage to.0 name to.2 fr in (b.0, other_leaves name b.1 th))))
           | inr other ↦ by_found (λ name fr th. elim (cases-draw name group) [ inl i ↦ absurd (other (asked c same name i fr th)) | inr ne ↦ other_leaves name ne th ])
         ]
         comes_by c same (AtAnother beside f) =
@@ -310,7 +313,7 @@ module _ (words : ℕ → ℕ → ℕ × ℕ) (births : List (Seat Player)) (qui
 all_so : (words : ℕ → ℕ → ℕ × ℕ) (births : List (Seat Player)) (quiet rows : Rows) (turns : List (Seat Player × ℕ)) → (stage : Stage) × AreUntouched words births quiet rows stage → AreDelivered words births quiet rows turns
     → (stage : Stage) × AreUntouched words births quiet (after_all rows turns) stage
 all_so words births quiet rows [] u d = u
-all_so words births quiet rows (turn ∷ turns) u d = all_so words births quiet (with_event rows turn.0 (Deliver turn.1)) turns (delivered_so words births quiet rows turn.0 turn.1 u.0 u.1 d.0) d.1
+all_so words births quiet rows (turn ∷ turns) u d = all_so words births quiet (with_event rows turn.0 (Deliver turn.1)) turns (let next = delivered_so words births quiet rows turn.0 turn.1 u.0 u.1 d.0 in (next.0, next.1)) d.1
 
 pub fresh_stay : FreshGroupsStay
 fresh_stay = record {

@@ -1,5 +1,5 @@
 -- Which groups an order has not touched so far, and that these stay as they were in the quiet before it.
-use Rattle.std.specs.Prelude.{◌≡◌, ℕ, true, List, [], ◌∷◌, Some, None}
+use Rattle.std.specs.Prelude.{◌≡◌, ℕ, true, List, [], ◌∷◌, Some, None, ◌⊎◌}
 use Rattle.sc_base.specs.Among.{Each}
 use Rattle.sc_base.specs.declared.names.Draw.{Draw}
 use Rattle.sc_cmd.specs.declared.orders.OrderLine.{OrderLine}
@@ -24,6 +24,7 @@ use Rattle.sc_calm_orders_law.specs.Parts.{errand_by}
 use Rattle.sc_calm_rows_law.specs.Groups.{view_at}
 use Rattle.sc_calm_rows_law.specs.Turns.{IsSeat, with_event}
 use Rattle.sc_calm_scenes_law.specs.Found.{FindsOrder}
+use Rattle.sc_calm_scenes_law.specs.Kept.{GoesBy}
 use Rattle.sc_calm_scenes_law.specs.Scenes.{scene_at}
 use Rattle.sc_calm_scenes_law.specs.Taken.{IsTaking}
 
@@ -104,12 +105,12 @@ pub record IsToldInQuiet (words : ℕ → ℕ → ℕ × ℕ) (births : List (Se
   pub calm : is_quiet (players words births) quiet ≡ true
   pub finds : FindsOrder words births quiet seat (Told line)
 
--- So it is from the order on: after it, after each delivery, and so after all; what such a group is delivered is an errand; and a group that is asked, and has not taken the question, is one.
+-- So it is from the order on: after it, after each delivery, which leaves the stage or is a step to the next one, and so after all; what such a group is delivered is an errand; and a group that is asked, and has not taken the question, is one.
 pub record FreshGroupsStay : Type 0 where
   pub begins : (words : ℕ → ℕ → ℕ × ℕ) (births : List (Seat Player)) (quiet : Rows) (seat : Seat Player) (line : OrderLine) → IsToldInQuiet words births quiet seat line
       → (stage : Stage) × AreUntouched words births quiet (with_event quiet seat (Told line)) stage
   pub goes_on : (words : ℕ → ℕ → ℕ × ℕ) (births : List (Seat Player)) (quiet rows : Rows) (seat : Seat Player) (number : ℕ) (stage : Stage) → AreUntouched words births quiet rows stage
-      → IsDelivered words births quiet rows seat number → (later : Stage) × AreUntouched words births quiet (with_event rows seat (Deliver number)) later
+      → IsDelivered words births quiet rows seat number → (later : Stage) × AreUntouched words births quiet (with_event rows seat (Deliver number)) later × ((later ≡ stage) ⊎ GoesBy rows (Deliver number) stage later)
   pub through : (words : ℕ → ℕ → ℕ × ℕ) (births : List (Seat Player)) (quiet : Rows) (seat : Seat Player) (line : OrderLine) (turns : List (Seat Player × ℕ)) → IsToldInQuiet words births quiet seat line
       → AreDelivered words births quiet (with_event quiet seat (Told line)) turns → (stage : Stage) × AreUntouched words births quiet (after_all (with_event quiet seat (Told line)) turns) stage
   pub errands : (words : ℕ → ℕ → ℕ × ℕ) (births : List (Seat Player)) (quiet rows : Rows) (seat : Seat Player) (number : ℕ) (stage : Stage) (name : Draw) (mail : Mail) → AreUntouched words births quiet rows stage
