@@ -35,11 +35,10 @@ use Rattle.sc_node_table.specs.Voting.{nack_row}
 use Rattle.sc_law_lemmas.specs.Steps.{GoesOn}
 use Rattle.sc_law_lemmas.proofs.Entries.{idle_pump}
 use Rattle.sc_law_lemmas.proofs.Ways.{either_way}
-use Rattle.sc_following_law.specs.Following.{mark_of}
 use Rattle.sc_following_law.specs.Leading.{IsAside}
 use Rattle.sc_calm_rows_law.specs.Asides.{IsUnmoved, AsidesStayStill}
 use Rattle.sc_calm_rows_law.proofs.Hearing.{quiet_marks}
-use Rattle.sc_calm_rows_law.proofs.Silent.{AreQuiet, one_sent, vote_told, watch_told, outcome_said, next_one_asked}
+use Rattle.sc_calm_rows_law.proofs.Silent.{wide_mark, AreQuiet, one_sent, vote_told, watch_told, outcome_said, next_one_asked}
 
 module _ (r : ReplicaState) (other : Draw) where
   -- one that does not run, is where it was, and has sent no mail of agreement
@@ -65,7 +64,7 @@ module _ (r : ReplicaState) (other : Draw) where
   act_keeps act (q, mails) k =
       pumped_keeps (with_act act q, mails) (either_way (λ (x : ReplicaState). Keeps (x, mails)) (has_act act q) q (record q { acts = q.acts ++ act ∷ [] }) k (with_queues q mails (q.acts ++ act ∷ []) q.calls q.top k))
 
-  one_more : (q : ReplicaState) (mails : List Mail) (to : ℕ) (body : MailBody) → Keeps (q, mails) → ((name : Draw) → mark_of name q.me body ≡ None) → Keeps (q, sent q.me to body mails)
+  one_more : (q : ReplicaState) (mails : List Mail) (to : ℕ) (body : MailBody) → Keeps (q, mails) → ((name : Draw) → wide_mark name q.me body ≡ None) → Keeps (q, sent q.me to body mails)
   one_more q mails to body k none = with_mails q mails (sent q.me to body mails) k (one_sent other q.me to body mails (λ name f. none name) k.quiet)
 
   -- ---- Request

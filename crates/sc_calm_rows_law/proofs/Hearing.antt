@@ -25,7 +25,7 @@ use Rattle.sc_following_law.specs.Following.{Mark, mark_of, marks_of}
 use Rattle.sc_following_law.specs.Tables.{marks_for}
 use Rattle.sc_calm_law.proofs.OwedParties.{apart}
 use Rattle.sc_calm_rows_law.specs.Turns.{NamesStay, OthersHearNothing}
-use Rattle.sc_calm_rows_law.proofs.Silent.{AreQuiet}
+use Rattle.sc_calm_rows_law.proofs.Silent.{narrow, AreQuiet}
 use Rattle.sc_calm_rows_law.proofs.Mailing.{mailed_keeps, order_keeps, made_keeps}
 
 pub names_stay : NamesStay
@@ -44,7 +44,7 @@ none_marked name who (mail ∷ mails) all =
 
 quiet_none : (group name : Draw) (mails : List Mail) → (group ≡ name → ⊥) → AreQuiet group mails → Each (λ mail. mark_of name mail.from mail.body ≡ None) mails
 quiet_none group name [] ne q = tt
-quiet_none group name (mail ∷ mails) ne q = (q.0 name (apart group name ne), quiet_none group name mails ne q.1)
+quiet_none group name (mail ∷ mails) ne q = (narrow name mail.from mail.body (q.0 name (apart group name ne)), quiet_none group name mails ne q.1)
 
 pub quiet_marks : (group name : Draw) (who : ℕ) (mails : List Mail) → (group ≡ name → ⊥) → AreQuiet group mails → marks_for name who mails ≡ []
 quiet_marks group name who mails ne q = none_marked name who mails (quiet_none group name mails ne q)

@@ -88,7 +88,7 @@ module _ (name : Draw) where
   hinted_keeps ballot r k = either_way (λ (x : ReplicaState). name_of x ≡ name) r.running r (record r { hint = Some ballot.node }) k k
 
   nacked : (r : ReplicaState) (acceptor : AcceptorState Command) (from : ℕ) (was : Ballot) (mails : List Mail) → K (r, mails) → K (record r { acceptor = acceptor }, sent r.me from (Nack (name_of r) was) mails)
-  nacked r acceptor from was mails k = (k.0, one_sent name r.me from (Nack (name_of r) was) mails (λ other f. refl) k.1)
+  nacked r acceptor from was mails k = (k.0, one_sent name r.me from (Nack (name_of r) was) mails (λ other f. own_quiet name (name_of r) other (Tells 0) k.0 f) k.1)
 
   promise_keeps : (from : ℕ) (ballot : Ballot) (p : PrepareAnswer Command × AcceptorState Command) (place : Place) → K place → K (promise_to from ballot p place)
   promise_keeps from ballot (Prepared.Promise reports, acceptor) (r, mails) k =
@@ -150,7 +150,7 @@ module _ (name : Draw) where
   learn_keeps from slot command (r, mails) k =
       either_way After (nat_lt last_slot slot) _ _ k
       (either_way After (eqb slot (next r)) _ _ (executed_keeps name false command (r, mails) k)
-      (either_way After (nat_lt (next r) slot) (childless (r, sent r.me from (Ask (name_of r) (next r)) mails)) (childless (r, mails)) (k.0, one_sent name r.me from (Ask (name_of r) (next r)) mails (λ other f. refl) k.1) k))
+      (either_way After (nat_lt (next r) slot) (childless (r, sent r.me from (Ask (name_of r) (next r)) mails)) (childless (r, mails)) (k.0, one_sent name r.me from (Ask (name_of r) (next r)) mails (λ other f. own_quiet name (name_of r) other (Tells 0) k.0 f) k.1) k))
 
   taught_by : (count : ℕ) (r : ReplicaState) (from slot : ℕ) (mails : List Mail) (o : Option Command) → name_of r ≡ name → AreQuiet name mails → ((more : List Mail) → AreQuiet name more → AreQuiet name (taught count r from (slot + 1) more))
       → AreQuiet name (elim o [ None ↦ mails | Some command ↦ taught count r from (slot + 1) (sent r.me from (Learn (name_of r) slot command) mails) ])

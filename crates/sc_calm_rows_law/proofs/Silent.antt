@@ -27,7 +27,7 @@ use Rattle.sc_cmd.specs.Effects.{decided_in, cast_in, is_changed}
 use Rattle.sc_mail.specs.declared.bodies.AnswerBody.{AnswerBody}
 use Rattle.sc_mail.specs.declared.bodies.Mail.{Mail}
 use Rattle.sc_mail.specs.declared.bodies.MailBody.{MailBody}
-use Rattle.sc_mail.specs.declared.bodies.MailBody.TheVariants.{Answer, TxPrepare, TxVote, TxOutcome, TxWatched, Told}
+use Rattle.sc_mail.specs.declared.bodies.MailBody.TheVariants.{Request, Answer, Prepare, Promise, Accept, Accepted, Nack, Learn, Ask, Install, TxPrepare, TxVote, TxOutcome, TxElsewhere, TxWatch, TxWatched, Told}
 use Rattle.sc_member.specs.Roster.{least_of}
 use Rattle.sc_machine_table.specs.Group.{Group}
 use Rattle.sc_machine_table.specs.Plans.{frozen_of}
@@ -39,11 +39,51 @@ use Rattle.sc_node_table.specs.Questions.{offer_of, question, asked_first, asked
 use Rattle.sc_node_table.specs.Transactions.{voted_to, watched_to, told_outcome, next_asked, asked_next}
 use Rattle.sc_node_table.specs.Spoken.{begun_result, spoken_number, told_result, told_begun, asked_on, begun_asks, vote_sent, watch_sent, aborted_to, aborted_watcher, given_up_by, vote_answered, released_to, watch_answered_by, went_on, spoken_mails}
 use Rattle.sc_law_lemmas.proofs.Ways.{either_way}
-use Rattle.sc_following_law.specs.Following.{Mark, mark_of}
+use Rattle.sc_following_law.specs.Following.{Mark, Tells, named_mark, mark_of}
 
--- a body from a node leaves no mark for another group than the one of this name
+-- the mark of a mail of the group with this name, where a refusal, a request and what asks for entries leave one too: all mail of the group but that of a transaction
+abbrev pub wide_mark : Draw → ℕ → MailBody → Option Mark
+wide_mark name from (Nack group promised) = named_mark name group (Tells 0)
+wide_mark name from (Ask group from_slot) = named_mark name group (Tells 0)
+wide_mark name from (Request group client seq op) = named_mark name group (Tells 0)
+wide_mark name from (Accept group ballot slot command) = mark_of name from (Accept group ballot slot command)
+wide_mark name from (Accepted group ballot slot) = mark_of name from (Accepted group ballot slot)
+wide_mark name from (Learn group slot command) = mark_of name from (Learn group slot command)
+wide_mark name from (Install group slot base sets) = mark_of name from (Install group slot base sets)
+wide_mark name from (Prepare group ballot from_slot) = mark_of name from (Prepare group ballot from_slot)
+wide_mark name from (Promise group ballot reports) = mark_of name from (Promise group ballot reports)
+wide_mark name from (Answer group seq answer) = None
+wide_mark name from (TxPrepare tx offer) = None
+wide_mark name from (TxVote tx coord part vote) = None
+wide_mark name from (TxOutcome tx part outcome) = None
+wide_mark name from (TxElsewhere tx coord hint) = None
+wide_mark name from (TxWatch tx watch) = None
+wide_mark name from (TxWatched tx coord part vote) = None
+wide_mark name from (Told order result) = None
+
+-- one that leaves none of these leaves no mark
+pub narrow : (name : Draw) (from : ℕ) (body : MailBody) → wide_mark name from body ≡ None → mark_of name from body ≡ None
+narrow name from (Nack group promised) e = refl
+narrow name from (Ask group from_slot) e = refl
+narrow name from (Request group client seq op) e = refl
+narrow name from (Accept group ballot slot command) e = e
+narrow name from (Accepted group ballot slot) e = e
+narrow name from (Learn group slot command) e = e
+narrow name from (Install group slot base sets) e = e
+narrow name from (Prepare group ballot from_slot) e = e
+narrow name from (Promise group ballot reports) e = e
+narrow name from (Answer group seq answer) e = refl
+narrow name from (TxPrepare tx offer) e = refl
+narrow name from (TxVote tx coord part vote) e = refl
+narrow name from (TxOutcome tx part outcome) e = refl
+narrow name from (TxElsewhere tx coord hint) e = refl
+narrow name from (TxWatch tx watch) e = refl
+narrow name from (TxWatched tx coord part vote) e = refl
+narrow name from (Told order result) e = refl
+
+-- a body from a node leaves no such mark for another group than the one of this name
 abbrev pub IsQuietBody : Draw → ℕ → MailBody → Type 0
-IsQuietBody name me body = (other : Draw) → same_draw name other ≡ false → mark_of other me body ≡ None
+IsQuietBody name me body = (other : Draw) → same_draw name other ≡ false → wide_mark other me body ≡ None
 
 -- .. a mail
 abbrev pub IsQuietMail : Draw → Mail → Type 0

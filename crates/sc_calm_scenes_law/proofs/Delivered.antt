@@ -1,4 +1,9 @@
 -- A delivery leaves the groups that an order has not touched as they were; so does the order, and so all deliveries behind it.
+use Rattle.sc_base.specs.Among.{Each}
+use Rattle.sc_calm_orders_law.specs.Scenes.{Elsewhere}
+use Rattle.sc_calm_rows_law.proofs.Mailing.{mailed_keeps, order_keeps}
+use Rattle.sc_calm_scenes_law.specs.Fresh.{IsErrandFor}
+use Rattle.sc_calm_scenes_law.proofs.Fresh.{quiet_errands, absent_errand, got_nothing}
 use Rattle.std.proofs.Common.{◌≡◌, ◌⊎◌, ℕ, Bool, true, false, List, [], ◌∷◌, Option, Some, None, inl, inr, refl, sym, ◌∙◌, ap, subst}
 use Rattle.std.specs.Option.{option_map}
 use Rattle.std.proofs.lemmas.Bool.{cond-true, cond-false}
@@ -14,7 +19,7 @@ use Rattle.sc_actor.specs.declared.rows.Event.{Event}
 use Rattle.sc_actor.specs.declared.rows.Event.TheVariants.{Deliver, Told}
 use Rattle.sc_actor.specs.declared.rows.Input.TheVariants.{Got, Told as ToldInput}
 use Rattle.sc_actor.specs.Mail.{mails, numbered}
-use Rattle.sc_actor.specs.Replay.{value, input_of}
+use Rattle.sc_actor.specs.Replay.{value}
 use Rattle.sc_actor.specs.System.{System, row_of, numbers_of}
 use Rattle.sc_calm_rows_law.proofs.Viewing.{view_was}
 use Rattle.sc_orderly_law.specs.Orderly.{IsCalmRow, is_born}
@@ -25,11 +30,8 @@ use Rattle.sc_node_table.specs.Mails.{told_desk}
 use Rattle.sc_node_table.specs.Ordering.{ordered_row}
 use Rattle.sc_node_table.specs.Replica.{ReplicaState, Place, Executed, name_of}
 use Rattle.sc_node_table.specs.Rows.{mailed}
-use Rattle.sc_node_table.specs.Transactions.{sent_elsewhere}
 use Rattle.sc_law_lemmas.proofs.Ways.{either_way}
 use Rattle.sc_sound.specs.Players.{Player, player_table}
-use Rattle.sc_following_law.specs.Following.{mark_of, marks_of}
-use Rattle.sc_following_law.specs.Tables.{marks_for}
 use Rattle.sc_calm_law.specs.Charts.{players}
 use Rattle.sc_calm_law.specs.Totals.{Rows}
 use Rattle.sc_calm_law.proofs.OwedParties.{put_others}
@@ -39,15 +41,15 @@ use Rattle.sc_calm_orders_law.specs.Parts.{errand_by}
 use Rattle.sc_calm_orders_law.proofs.Lists.{cases-draw}
 use Rattle.sc_calm_rows_law.specs.Groups.{view_at}
 use Rattle.sc_calm_rows_law.specs.Turns.{with_event}
-use Rattle.sc_calm_rows_law.proofs.Hearing.{names_stay, others_hear_nothing, none_marked}
+use Rattle.sc_calm_rows_law.proofs.Hearing.{names_stay}
 use Rattle.sc_calm_rows_law.proofs.Turning.{found_name}
 use Rattle.sc_calm_scenes_law.specs.Scenes.{is_running, lead_of, scene_at}
 use Rattle.sc_calm_orders_law.specs.Follows.{ByTaking}
 use Rattle.sc_calm_scenes_law.proofs.Newest.{lead_runs}
 use Rattle.sc_calm_scenes_law.specs.Taken.{IsTaking}
-use Rattle.sc_calm_scenes_law.specs.Kept.{ComesTo, StageAfter}
+use Rattle.sc_calm_scenes_law.specs.Kept.{GoesBy, ComesTo, StageAfter}
 use Rattle.sc_calm_scenes_law.specs.Found.{BesideFinds, FindsReplica, AtLeader, AtAnother}
-use Rattle.sc_calm_scenes_law.specs.Fresh.{IsFresh, IsThere, AreThere, IsNowhere, AreUntouched, IsOrderly, OfOrder, OfAgreement, IsDelivered, after_all, AreDelivered, IsToldInQuiet, FreshGroupsStay}
+use Rattle.sc_calm_scenes_law.specs.Fresh.{IsFresh, IsThere, AreThere, IsNowhere, AreUntouched, IsDelivered, after_all, AreDelivered, IsToldInQuiet, FreshGroupsStay}
 use Rattle.sc_calm_scenes_law.proofs.Found.{IsQuestion, leader_asked, found_step}
 use Rattle.sc_calm_scenes_law.proofs.Keeping.{taken_on, row_of_comes}
 use Rattle.sc_calm_scenes_law.proofs.Left.{takes_one}
@@ -55,7 +57,7 @@ use Rattle.sc_calm_scenes_law.proofs.Reaching.{errand_among}
 use Rattle.sc_calm_scenes_law.proofs.Taking.{errand_unknown, OneOf, all_children, each_is}
 use Rattle.sc_calm_scenes_law.proofs.Turning.{calm_is}
 use Rattle.sc_calm_scenes_law.proofs.Untouched.{taken_back, step_back, step_there, begun_other, begun_there, fresh_errand, asked_fresh, sent_on_fresh}
-use Rattle.sc_calm_scenes_law.proofs.Fresh.{Leaves, left_view, left_marks, client_leaves, node_leaves, listed_none, is_asked, asks_it, aside_is, unknown_apart}
+use Rattle.sc_calm_scenes_law.proofs.Fresh.{Leaves, left_view, left_mail, client_leaves, node_leaves, is_asked, asks_it, aside_is, unknown_apart}
 
 none_some : {X : Type 0} {x : X} → None ≡ Some x → ⊥
 none_some e = cc
@@ -71,7 +73,7 @@ module _ (words : ℕ → ℕ → ℕ × ℕ) (births : List (Seat Player)) (qui
   Left name = Leaves words births rows seat event d.seated d.timely name
 
   abbrev Done : Type 0
-  Done = (later : Stage) × AreUntouched words births quiet (with_event rows seat event) later
+  Done = (later : Stage) × AreUntouched words births quiet (with_event rows seat event) later × ((later ≡ stage) ⊎ GoesBy rows event stage later)
 
   tidy_calm : IsCalmRow s rows (row_of player_table seat rows event)
   tidy_calm = (last_in_time s rows (row_of player_table seat rows event) d.timely).0
@@ -79,7 +81,7 @@ module _ (words : ℕ → ℕ → ℕ × ℕ) (births : List (Seat Player)) (qui
   -- what an untouched group is delivered is an errand
   pub own_errand : (name : Draw) (mail : Mail) → IsFresh stage name → IsThere births quiet name → numbered (mails rows) number ≡ Some mail → group_of_mail mail.body ≡ Some name
       → (entry : Draw × Errand) × (errand_by mail.from mail.to mail.body ≡ Some entry)
-  own_errand name mail fresh there at named = by (d.orderly stage name mail u.stands fresh there at named)
+  own_errand name mail fresh there at named = subst (IsErrandFor name) same (subst (Each (IsErrandFor name)) first.first (u.mails name fresh there seat.who born)).0 named
     where
       born : is_born s seat.who ≡ true
       born = is_born-from s seat.who seat d.seated
@@ -90,26 +92,18 @@ module _ (words : ℕ → ℕ → ℕ × ℕ) (births : List (Seat Player)) (qui
       same : first.mail ≡ mail
       same = (let e : Some first.mail ≡ Some mail = sym first.sent ∙ at in cc)
 
-      unmarked : mark_of name mail.from mail.body ≡ None
-      unmarked =
-          ap (λ (m : Mail). mark_of name m.from m.body) (sym same)
-          ∙ listed_none (mark_of name first.mail.from first.mail.body) (marks_of name first.behind) (sym (ap (marks_of name) first.first) ∙ u.marks name fresh there seat.who born)
-
-      by : IsOrderly name mail.from mail.to mail.body → (entry : Draw × Errand) × (errand_by mail.from mail.to mail.body ≡ Some entry)
-      by (OfOrder entry e) = (entry, e)
-      by (OfAgreement mark m) = absurd (none_some (sym unmarked ∙ m))
-
   -- ---- the stage after it
 
-  finish : (later : Stage) → IsAt later (scene_at births (with_event rows seat event)) → AreThere births quiet later → ((name : Draw) → IsFresh later name → IsThere births quiet name → IsFresh stage name × Left name) → Done
-  finish later a there all = (
+  finish : (later : Stage) → IsAt later (scene_at births (with_event rows seat event)) → AreThere births quiet later → (later ≡ stage) ⊎ GoesBy rows event stage later → ((name : Draw) → IsFresh later name → IsThere births quiet name → IsFresh stage name × Left name) → Done
+  finish later a there goes all = (
     later,
     record {
       stands = a;
       parties = there;
       views = λ name f t who. (let l = all name f t in left_view words births rows seat event d.seated d.timely name l.1 who ∙ u.views name l.0 t who);
-      marks = λ name f t who born. (let l = all name f t in left_marks words births rows seat event d.seated d.timely name l.1 who (u.marks name l.0 t who born));
+      mails = λ name f t who born. (let l = all name f t in left_mail words births rows seat event d.seated d.timely name l.1 who (u.mails name l.0 t who born));
     },
+    goes,
   )
 
   found : StageAfter births rows seat event stage
@@ -129,12 +123,12 @@ module _ (words : ℕ → ℕ → ℕ × ℕ) (births : List (Seat Player)) (qui
   fresh_before name f = elim found.2 [ inl e ↦ subst (λ x. IsFresh x name) e f | inr g ↦ step_back g.group stage found.0 name g.step g.begins f ]
 
   by_found : ((name : Draw) → IsFresh stage name → IsThere births quiet name → Left name) → Done
-  by_found all = finish found.0 found.1 found_there (λ name f t. (let b = fresh_before name f in (b, all name b t)))
+  by_found all = finish found.0 found.1 found_there found.2 (λ name f t. (let b = fresh_before name f in (b, all name b t)))
 
   -- ---- by who takes it
 
   module _ (node : NodeState) (is : value player_table seat rows ≡ Node node) (mail : Mail) (at : numbered (mails rows) number ≡ Some mail) where
-    makes : (step : NodeState × List Mail) → on_mail mail.from mail.body node ≡ step → (name : Draw) → replica_of name step.0.replicas ≡ replica_of name node.replicas → ((who : ℕ) → marks_for name who step.1 ≡ []) → Left name
+    makes : (step : NodeState × List Mail) → on_mail mail.from mail.body node ≡ step → (name : Draw) → replica_of name step.0.replicas ≡ replica_of name node.replicas → Each (IsErrandFor name) step.1 → Left name
     makes step e name same silent =
         node_leaves words births rows seat event d.seated d.timely node is step (Some (Got mail)) (ap (option_map Got) at) (ap (λ (x : NodeState × List Mail). (Node x.0, x.1)) e) name same silent
 
@@ -151,7 +145,7 @@ module _ (words : ℕ → ℕ → ℕ × ℕ) (births : List (Seat Player)) (qui
       none_leaves : replica_of group node.replicas ≡ None → (name : Draw) → IsFresh stage name → IsThere births quiet name → Left name
       none_leaves here name fresh there = elim (cases-draw name group) [
         | inl i ↦ (let own = own_errand name mail fresh there at (named_so name i) in
-            makes (node, absent node.me mail.from mail.body) (takes_by None here ∙ errand_unknown mail.from mail.to mail.body node own.0 own.1) name refl (λ who. others_hear_nothing.missed name who node.me mail.from mail.body))
+            makes (node, absent node.me mail.from mail.body) (takes_by None here ∙ errand_unknown mail.from mail.to mail.body node own.0 own.1) name refl (absent_errand name node.me mail.from mail.to mail.body own.0 own.1))
         | inr ne ↦ (let apart = unknown_apart name group ne node mail.from mail.body t.named in makes (unknown mail.from mail.body node) (takes_by None here) name apart.0 apart.1)
       ]
 
@@ -166,7 +160,7 @@ module _ (words : ℕ → ℕ → ℕ × ℕ) (births : List (Seat Player)) (qui
         other_leaves : (name : Draw) → (name ≡ group → ⊥) → IsThere births quiet name → Left name
         other_leaves name ne there =
             makes (with_children made.1 put, made.0.1) (takes_by (Some r) here) name (by (all_children seat.who name made.1 put t.me_is))
-            (λ who. others_hear_nothing.mailed name who mail.from mail.body r (λ i. ne (sym i ∙ own)))
+            (quiet_errands (name_of r) name made.0.1 (λ i. ne (sym i ∙ own)) (mailed_keeps (name_of r) mail.from mail.body (r, []) (refl, tt)).1)
           where
             own : name_of r ≡ group
             own = found_name group node.replicas r here
@@ -193,13 +187,15 @@ module _ (words : ℕ → ℕ → ℕ × ℕ) (births : List (Seat Player)) (qui
             let sent_on = aside_is mail r mail.body q f in
             record {
               view = row.is ∙ (ap (λ (p : Place). Some p.0) sent_on.2 ∙ sym row.was);
-              silent = λ who. ap (marks_for group who) (row.sends ∙ ap (λ (p : Place). p.1) sent_on.2) ∙ none_marked group who (sent_elsewhere mail.from sent_on.0 sent_on.1 (r, [])).1 (refl, tt);
+              silent = subst (Each (IsErrandFor group)) (sym (row.sends ∙ ap (λ (p : Place). p.1) sent_on.2)) ((λ n. ((sent_on.1, Elsewhere sent_on.0 mail.from), refl)), tt);
             }
 
         comes_by : (c : ComesTo words births rows seat number mail group r) → c.node ≡ node → FindsReplica births rows seat number mail group r → Done
         comes_by c same (AtLeader leads f) = elim (is_asked mail.body) [
           | inl q ↦ (let to = leader_asked words births rows seat number mail group r (record { comes = c; leads = leads }) mail.body q refl f (stage, u.stands) in
-              finish to.0 to.1 (step_there births quiet group stage to.0 (ByTaking to.2) (taken_on group stage to.0 to.2) (asked_there to.0 to.1) u.parties) (λ name fr th. (let b = taken_back group stage to.0 name to.2 fr in (b.0, other_leaves name b.1 th))))
+              finish to.0 to.1 (step_there births quiet group stage to.0 (ByTaking to.2) (taken_on group stage to.0 to.2) (asked_there to.0 to.1) u.parties)
+              (inr (record { group = group; step = ByTaking to.2; of = (mail, t.sent, t.named); begins = λ still. absurd (taken_on group stage to.0 to.2 still) }))
+              (λ name fr th. (let b = taken_back group stage to.0 name to.2 fr in (b.0, other_leaves name b.1 th))))
           | inr other ↦ by_found (λ name fr th. elim (cases-draw name group) [ inl i ↦ absurd (other (asked c same name i fr th)) | inr ne ↦ other_leaves name ne th ])
         ]
         comes_by c same (AtAnother beside f) =
@@ -211,16 +207,19 @@ module _ (words : ℕ → ℕ → ℕ × ℕ) (births : List (Seat Player)) (qui
 
     mail_so : (b : Bool) → may_come mail.from mail.body ≡ b → (o : Option Draw) → group_of_mail mail.body ≡ o → Done
     mail_so false bar o e =
-        by_found (λ name f th. makes (node, []) (cond-false (may_come mail.from mail.body) (routed (group_of_mail mail.body) mail.from mail.body node) (node, []) bar) name refl (λ who. refl))
+        by_found (λ name f th. makes (node, []) (cond-false (may_come mail.from mail.body) (routed (group_of_mail mail.body) mail.from mail.body node) (node, []) bar) name refl tt)
     mail_so true comes None e =
         by_found (λ name f th. makes (node, [])
         (either_way (λ (step : NodeState × List Mail). step ≡ (node, [])) (may_come mail.from mail.body) (routed (group_of_mail mail.body) mail.from mail.body node) (node, []) (ap (λ g. routed g mail.from mail.body node) e) refl)
-        name refl (λ who. refl))
+        name refl tt)
     mail_so true comes (Some group) e =
         taken_so group (record { seated = d.seated; timely = d.timely; is_node = is; me_is = d.finds.me_is node is; sent = at; comes = comes; named = e }) (replica_of group node.replicas) refl
 
   player_so : (player : Player) → value player_table seat rows ≡ player → Done
-  player_so (Client client) is = by_found (λ name f th. client_leaves words births rows seat event d.seated d.timely client is name (input_of (mails rows) event) refl)
+  player_so (Client client) is =
+      (let one = takes_one words births rows seat.who number (calm_is words births rows seat event tidy_calm) in
+      by_found (λ name f th. client_leaves words births rows seat event d.seated d.timely client is name (Got one.mail) (ap (option_map Got) one.sent)
+      (got_nothing one.mail.from one.mail.body client (λ group seq answer. d.unanswered one.mail group seq answer one.sent))))
   player_so (Node node) is =
       (let one = takes_one words births rows seat.who number (calm_is words births rows seat event tidy_calm) in
       mail_so node is one.mail one.sent (may_come one.mail.from one.mail.body) refl (group_of_mail one.mail.body) refl)
@@ -244,7 +243,7 @@ module _ (words : ℕ → ℕ → ℕ × ℕ) (births : List (Seat Player)) (qui
   none_leaves_it : (node : NodeState) → value player_table seat quiet ≡ Node node → (name : Draw) → replica_of group node.replicas ≡ None → Kept name
   none_leaves_it node is name here =
       node_leaves words births quiet seat told b.seated b.timely node is (node, told_desk node.me line.number (Refused (NotLeader None)) []) (Some (ToldInput line)) refl
-      (ap (λ (x : NodeState × List Mail). (Node x.0, x.1)) (ap (λ o. ordered_of o line node) here)) name refl (λ who. none_marked name who (told_desk node.me line.number (Refused (NotLeader None)) []) (refl, tt))
+      (ap (λ (x : NodeState × List Mail). (Node x.0, x.1)) (ap (λ o. ordered_of o line node) here)) name refl ((λ n. absurd (none_some n)), tt)
 
   ordered_leaves : (node : NodeState) → value player_table seat quiet ≡ Node node → (name : Draw) → (name ≡ group → ⊥) → (o : Option ReplicaState) → replica_of group node.replicas ≡ o → Kept name
   ordered_leaves node is name ne None here = none_leaves_it node is name here
@@ -254,10 +253,10 @@ module _ (words : ℕ → ℕ → ℕ × ℕ) (births : List (Seat Player)) (qui
       node_leaves words births quiet seat told b.seated b.timely node is step (Some (ToldInput line)) refl
       (ap (λ (x : NodeState × List Mail). (Node x.0, x.1)) (ap (λ o. ordered_of o line node) here)) name
       (put_others group name (ordered_row node.draws line (r, [])).0 node.replicas (names_stay.ordered node.draws line r ∙ own) ne)
-      (λ who. others_hear_nothing.ordered name who node.draws line r (λ i. ne (sym i ∙ own)))
+      (quiet_errands (name_of r) name (ordered_row node.draws line (r, [])).1 (λ i. ne (sym i ∙ own)) (order_keeps (name_of r) node.draws line (r, []) (refl, tt)).1)
 
   player_leaves : (player : Player) → value player_table seat quiet ≡ player → (name : Draw) → (name ≡ group → ⊥) → Kept name
-  player_leaves (Client client) is name ne = client_leaves words births quiet seat told b.seated b.timely client is name (input_of (mails quiet) told) refl
+  player_leaves (Client client) is name ne = client_leaves words births quiet seat told b.seated b.timely client is name (ToldInput line) refl refl
   player_leaves (Node node) is name ne = ordered_leaves node is name ne (replica_of group node.replicas) refl
 
   found_first : StageAfter births quiet seat told Still
@@ -274,7 +273,7 @@ module _ (words : ℕ → ℕ → ℕ × ℕ) (births : List (Seat Player)) (qui
 
   -- who is told it has a replica of the group, or leaves that as it is
   told_there : (player : Player) → value player_table seat quiet ≡ player → IsThere births quiet group ⊎ ((who : ℕ) → view_at births (with_event quiet seat told) group who ≡ view_at births quiet group who)
-  told_there (Client client) is = inr (left_view words births quiet seat told b.seated b.timely group (client_leaves words births quiet seat told b.seated b.timely client is group (input_of (mails quiet) told) refl))
+  told_there (Client client) is = inr (left_view words births quiet seat told b.seated b.timely group (client_leaves words births quiet seat told b.seated b.timely client is group (ToldInput line) refl refl))
   told_there (Node node) is = by (replica_of group node.replicas) refl
     where
       by : (o : Option ReplicaState) → replica_of group node.replicas ≡ o → IsThere births quiet group ⊎ ((who : ℕ) → view_at births (with_event quiet seat told) group who ≡ view_at births quiet group who)
@@ -306,15 +305,15 @@ module _ (words : ℕ → ℕ → ℕ × ℕ) (births : List (Seat Player)) (qui
       stands = found_first.1;
       parties = first_there;
       views = λ name f t who. left_view words births quiet seat told b.seated b.timely name (leaves name f) who;
-      marks = λ name f t who born. left_marks words births quiet seat told b.seated b.timely name (leaves name f) who
-          (ap (marks_of name) (quiet-empty (players words births) quiet who (in_time_tidy (players words births) quiet (in_time_before (players words births) quiet (row_of player_table seat quiet told) b.timely)) born b.calm));
+      mails = λ name f t who born. left_mail words births quiet seat told b.seated b.timely name (leaves name f) who
+          (subst (Each (IsErrandFor name)) (sym (quiet-empty (players words births) quiet who (in_time_tidy (players words births) quiet (in_time_before (players words births) quiet (row_of player_table seat quiet told) b.timely)) born b.calm)) tt);
     },
   )
 
 all_so : (words : ℕ → ℕ → ℕ × ℕ) (births : List (Seat Player)) (quiet rows : Rows) (turns : List (Seat Player × ℕ)) → (stage : Stage) × AreUntouched words births quiet rows stage → AreDelivered words births quiet rows turns
     → (stage : Stage) × AreUntouched words births quiet (after_all rows turns) stage
 all_so words births quiet rows [] u d = u
-all_so words births quiet rows (turn ∷ turns) u d = all_so words births quiet (with_event rows turn.0 (Deliver turn.1)) turns (delivered_so words births quiet rows turn.0 turn.1 u.0 u.1 d.0) d.1
+all_so words births quiet rows (turn ∷ turns) u d = all_so words births quiet (with_event rows turn.0 (Deliver turn.1)) turns (let next = delivered_so words births quiet rows turn.0 turn.1 u.0 u.1 d.0 in (next.0, next.1)) d.1
 
 pub fresh_stay : FreshGroupsStay
 fresh_stay = record {

@@ -1,5 +1,19 @@
 -- The groups that an order has not touched stay as they were, row by row.
-use Rattle.std.proofs.Common.{◌≡◌, ℕ, eqb, Bool, true, false, cond, List, [], ◌∷◌, ◌++◌, ◌&&◌, ◌||◌, not, nat_lt, length, drop, Option, Some, None, ◌⊎◌, inl, inr, refl, sym, ◌∙◌, ap, subst}
+use Rattle.sc_base.specs.Among.{Each}
+use Rattle.sc_base.specs.Same.{same_draw}
+use Rattle.sc_base.proofs.NameLemmas.{same_name}
+use Rattle.std.specs.List.{filter}
+use Rattle.sc_mail.specs.declared.bodies.AnswerBody.{AnswerBody}
+use Rattle.sc_client_table.specs.Table.{got, table}
+use Rattle.sc_paxos_words.proofs.ListLemmas.{Each-append}
+use Rattle.sc_calm_law.proofs.OwedParties.{apart}
+use Rattle.sc_calm_orders_law.specs.Parts.{is_yes, is_cast_yes}
+use Rattle.sc_calm_orders_law.specs.Scenes.{Question, Elsewhere, Reply, Result}
+use Rattle.sc_following_law.specs.Following.{Asks, Votes, Tells, Installs, Prepares, Promises}
+use Rattle.sc_calm_rows_law.proofs.Silent.{AreQuiet, wide_mark}
+use Rattle.sc_calm_rows_law.proofs.Mailing.{made_keeps}
+use Rattle.sc_calm_scenes_law.specs.Fresh.{IsErrandFor}
+use Rattle.std.proofs.Common.{◌≡◌, ℕ, eqb, Bool, true, false, cond, List, [], ◌∷◌, ◌&&◌, ◌||◌, not, nat_lt, length, drop, Option, Some, None, ◌⊎◌, inl, inr, refl, sym, ◌∙◌, ap, subst}
 use Rattle.std.proofs.lemmas.Bool.{cases_Bool, eq-eqb, eqb-true}
 use Rattle.sc_base.specs.declared.names.Draw.{Draw}
 use Rattle.sc_cmd.specs.declared.orders.OrderLine.{OrderLine}
@@ -25,17 +39,15 @@ use Rattle.sc_node_table.specs.Transactions.{sent_elsewhere}
 use Rattle.sc_client_table.specs.Client.{Client as ClientState}
 use Rattle.sc_law_lemmas.proofs.Ways.{either_way}
 use Rattle.sc_sound.specs.Players.{Player, player_table}
-use Rattle.sc_following_law.specs.Following.{Mark, marks_of}
-use Rattle.sc_following_law.specs.Tables.{marks_for}
+use Rattle.sc_following_law.specs.Following.{Mark}
 use Rattle.sc_calm_law.specs.Charts.{players}
 use Rattle.sc_calm_law.specs.Totals.{Rows}
 use Rattle.sc_calm_orders_law.specs.Scenes.{Errand}
 use Rattle.sc_calm_orders_law.specs.Parts.{errand_by}
 use Rattle.sc_calm_orders_law.proofs.Filing.{offer_is, watch_row_is}
-use Rattle.sc_calm_rows_law.specs.Groups.{view_at, marks_at}
+use Rattle.sc_calm_rows_law.specs.Groups.{view_at}
 use Rattle.sc_calm_rows_law.specs.Turns.{IsSeat, with_event}
-use Rattle.sc_calm_rows_law.proofs.Hearing.{names_stay, others_hear_nothing}
-use Rattle.sc_calm_rows_law.proofs.Marking.{marks-append}
+use Rattle.sc_calm_rows_law.proofs.Hearing.{names_stay}
 use Rattle.sc_calm_rows_law.proofs.Viewing.{view_others, view_was, view_is, sent_is, new_others}
 use Rattle.sc_calm_scenes_law.specs.Found.{BesideFinds}
 use Rattle.sc_calm_scenes_law.proofs.Found.{IsQuestion}
@@ -45,33 +57,108 @@ use Rattle.sc_calm_scenes_law.proofs.Untouched.{Questions}
 none_some : {X : Type 0} {x : X} → None ≡ Some x → ⊥
 none_some e = cc
 
-left_none : {X : Type 0} (xs ys : List X) → xs ++ ys ≡ [] → xs ≡ []
-left_none [] ys e = refl
-left_none (x ∷ xs) ys e = cc
+-- ---- mail
 
-right_none : {X : Type 0} (xs ys : List X) → xs ++ ys ≡ [] → ys ≡ []
-right_none [] ys e = e
-right_none (x ∷ xs) ys e = cc
+marked : (group name : Draw) (mark : Mark) → Some group ≡ Some name → cond (same_draw group name) (Some mark) None ≡ None → ⊥
+marked group name mark named e = (let is : group ≡ name = cc in none_some (sym e ∙ ap (λ b. cond b (Some mark) None) (same_name group name is)))
 
--- ---- marks
+-- mail that leaves no mark of its group is an errand
+unmarked_errand : (name : Draw) (from to : ℕ) (body : MailBody) → wide_mark name from body ≡ None → group_of_mail body ≡ Some name → (entry : Draw × Errand) × (errand_by from to body ≡ Some entry)
+unmarked_errand name from to (Accept group ballot slot command) e g = absurd (marked group name (Asks ballot slot) g e)
+unmarked_errand name from to (Accepted group ballot slot) e g = absurd (marked group name (Votes from ballot slot) g e)
+unmarked_errand name from to (Learn group slot command) e g = absurd (marked group name (Tells slot) g e)
+unmarked_errand name from to (Install group slot base sets) e g = absurd (marked group name (Installs slot) g e)
+unmarked_errand name from to (Prepare group ballot from_slot) e g = absurd (marked group name (Prepares ballot) g e)
+unmarked_errand name from to (Promise group ballot reports) e g = absurd (marked group name (Promises from ballot) g e)
+unmarked_errand name from to (Nack group promised) e g = absurd (marked group name (Tells 0) g e)
+unmarked_errand name from to (Ask group from_slot) e g = absurd (marked group name (Tells 0) g e)
+unmarked_errand name from to (Request group client seq op) e g = absurd (marked group name (Tells 0) g e)
+unmarked_errand name from to (Answer group seq answer) e g = absurd (none_some g)
+unmarked_errand name from to (ToldMail order result) e g = absurd (none_some g)
+unmarked_errand name from to (TxPrepare tx offer) e g = ((offer.part, Question tx offer.coord false offer.by to), refl)
+unmarked_errand name from to (TxWatch tx watch) e g = ((watch.part, Question tx watch.coord true watch.by to), refl)
+unmarked_errand name from to (TxElsewhere tx coord hint) e g = ((coord, Elsewhere tx to), refl)
+unmarked_errand name from to (TxVote tx coord part vote) e g = ((coord, Reply tx false (is_yes vote) from to), refl)
+unmarked_errand name from to (TxWatched tx coord part vote) e g = ((coord, Reply tx true (is_cast_yes vote) from to), refl)
+unmarked_errand name from to (TxOutcome tx part outcome) e g = ((part, Result tx to), refl)
 
--- of mail that leaves no mark, less leaves none
-marks_less : (name : Draw) (b : Bool) (mails : List Mail) → marks_of name mails ≡ [] → marks_of name (drop (cond b 1 0) mails) ≡ []
-marks_less name b [] e = by b
+-- so all that a replica sends of another group is
+pub quiet_errands : (group name : Draw) (mails : List Mail) → (group ≡ name → ⊥) → AreQuiet group mails → Each (IsErrandFor name) mails
+quiet_errands group name [] ne q = tt
+quiet_errands group name (mail ∷ mails) ne q = (unmarked_errand name mail.from mail.to mail.body (q.0 name (apart group name ne)), quiet_errands group name mails ne q.1)
+
+each_drop : {X : Type 0} (P : X → Type 0) (b : Bool) (xs : List X) → Each P xs → Each P (drop (cond b 1 0) xs)
+each_drop P true [] e = tt
+each_drop P false [] e = tt
+each_drop {X = X} P true (x ∷ xs) e = at_zero xs e.1
   where
-    by : (b : Bool) → marks_of name (drop (cond b 1 0) []) ≡ []
-    by true = refl
-    by false = refl
-marks_less name true (mail ∷ mails) e = ap (marks_of name) (at_zero mails) ∙ right_none _ (marks_of name mails) e
-  where
-    at_zero : (xs : List Mail) → drop 0 xs ≡ xs
-    at_zero [] = refl
-    at_zero (x ∷ xs) = refl
-marks_less name false (mail ∷ mails) e = e
+    at_zero : (xs : List X) → Each P xs → Each P (drop 0 xs)
+    at_zero [] e = tt
+    at_zero (x ∷ xs) e = e
+each_drop P false (x ∷ xs) e = e
 
-pub listed_none : (o : Option Mark) (marks : List Mark) → (elim o [ None ↦ [] | Some m ↦ m ∷ [] ]) ++ marks ≡ [] → o ≡ None
-listed_none None marks e = refl
-listed_none (Some m) marks e = cc
+each_filter : {X : Type 0} (P : X → Type 0) (test : X → Bool) (xs : List X) → Each P xs → Each P (filter test xs)
+each_filter P test [] e = tt
+each_filter P test (x ∷ xs) e = either_way (Each P) (test x) (x ∷ filter test xs) (filter test xs) (e.0, each_filter P test xs e.1) (each_filter P test xs e.1)
+
+-- what is answered where there is no replica: of the mail's group, or an errand
+absent_other : (name group : Draw) → (name ≡ group → ⊥) → (me from : ℕ) (body : MailBody) → group_of_mail body ≡ Some group → Each (IsErrandFor name) (absent me from body)
+absent_other name group ne me from (Request g client seq op) e = ((λ n. absurd (none_some n)), tt)
+absent_other name group ne me from (Prepare g ballot from_slot) e = ((λ n. (let a : g ≡ group = cc in let b : g ≡ name = cc in absurd (ne (sym b ∙ a)))), tt)
+absent_other name group ne me from (Accept g ballot slot command) e = ((λ n. (let a : g ≡ group = cc in let b : g ≡ name = cc in absurd (ne (sym b ∙ a)))), tt)
+absent_other name group ne me from (Learn g slot command) e = ((λ n. (let a : g ≡ group = cc in let b : g ≡ name = cc in absurd (ne (sym b ∙ a)))), tt)
+absent_other name group ne me from (TxPrepare tx offer) e = ((λ n. ((offer.coord, Elsewhere tx from), refl)), tt)
+absent_other name group ne me from (TxWatch tx watch) e = ((λ n. ((watch.coord, Elsewhere tx from), refl)), tt)
+absent_other name group ne me from (Answer g seq answer) e = tt
+absent_other name group ne me from (Promise g ballot reports) e = tt
+absent_other name group ne me from (Accepted g ballot slot) e = tt
+absent_other name group ne me from (Nack g promised) e = tt
+absent_other name group ne me from (Ask g from_slot) e = tt
+absent_other name group ne me from (Install g slot base sets) e = tt
+absent_other name group ne me from (TxVote tx coord part vote) e = tt
+absent_other name group ne me from (TxOutcome tx part outcome) e = tt
+absent_other name group ne me from (TxElsewhere tx coord hint) e = tt
+absent_other name group ne me from (TxWatched tx coord part vote) e = tt
+absent_other name group ne me from (ToldMail order result) e = tt
+
+pub absent_errand : (name : Draw) (me from to : ℕ) (body : MailBody) (entry : Draw × Errand) → errand_by from to body ≡ Some entry → Each (IsErrandFor name) (absent me from body)
+absent_errand name me from to (TxPrepare tx offer) entry e = ((λ n. ((offer.coord, Elsewhere tx from), refl)), tt)
+absent_errand name me from to (TxWatch tx watch) entry e = ((λ n. ((watch.coord, Elsewhere tx from), refl)), tt)
+absent_errand name me from to (TxVote tx coord part vote) entry e = tt
+absent_errand name me from to (TxOutcome tx part outcome) entry e = tt
+absent_errand name me from to (TxElsewhere tx coord hint) entry e = tt
+absent_errand name me from to (TxWatched tx coord part vote) entry e = tt
+absent_errand name me from to (Request g client seq op) entry e = absurd (none_some e)
+absent_errand name me from to (Prepare g ballot from_slot) entry e = absurd (none_some e)
+absent_errand name me from to (Accept g ballot slot command) entry e = absurd (none_some e)
+absent_errand name me from to (Learn g slot command) entry e = absurd (none_some e)
+absent_errand name me from to (Answer g seq answer) entry e = tt
+absent_errand name me from to (Promise g ballot reports) entry e = tt
+absent_errand name me from to (Accepted g ballot slot) entry e = tt
+absent_errand name me from to (Nack g promised) entry e = tt
+absent_errand name me from to (Ask g from_slot) entry e = tt
+absent_errand name me from to (Install g slot base sets) entry e = tt
+absent_errand name me from to (ToldMail order result) entry e = tt
+
+-- a client that is not answered sends nothing
+pub got_nothing : (from : ℕ) (body : MailBody) (client : ClientState) → ((group : Draw) (seq : ℕ) (answer : AnswerBody) → body ≡ Answer group seq answer → ⊥) → (got from body client).1 ≡ []
+got_nothing from (Answer group seq answer) client other = absurd (other group seq answer refl)
+got_nothing from (Request group to seq op) client other = refl
+got_nothing from (Prepare group ballot from_slot) client other = refl
+got_nothing from (Promise group ballot reports) client other = refl
+got_nothing from (Accept group ballot slot command) client other = refl
+got_nothing from (Accepted group ballot slot) client other = refl
+got_nothing from (Nack group promised) client other = refl
+got_nothing from (Learn group slot command) client other = refl
+got_nothing from (Ask group from_slot) client other = refl
+got_nothing from (Install group slot base sets) client other = refl
+got_nothing from (TxPrepare tx offer) client other = refl
+got_nothing from (TxVote tx coord part vote) client other = refl
+got_nothing from (TxOutcome tx part outcome) client other = refl
+got_nothing from (TxElsewhere tx coord hint) client other = refl
+got_nothing from (TxWatch tx watch) client other = refl
+got_nothing from (TxWatched tx coord part vote) client other = refl
+got_nothing from (ToldMail order result) client other = refl
 
 -- ---- what a row leaves
 
@@ -79,10 +166,10 @@ module _ (words : ℕ → ℕ → ℕ × ℕ) (births : List (Seat Player)) (row
   abbrev s : System Player Mail OrderLine
   s = players words births
 
-  -- the replica of a group at the player who acts stays, and nothing of its agreement is sent
+  -- the replica of a group at the player who acts stays, and only errands are sent to it
   pub record Leaves (name : Draw) : Type 0 where
     pub view : view_at births (with_event rows seat event) name seat.who ≡ view_at births rows name seat.who
-    pub silent : (who : ℕ) → marks_for name who (row_of player_table seat rows event).sent ≡ []
+    pub silent : Each (IsErrandFor name) (row_of player_table seat rows event).sent
 
   who_or : (node : ℕ) → (node ≡ seat.who) ⊎ (node ≡ seat.who → ⊥)
   who_or node = elim (cases_Bool (eqb node seat.who)) [ inl t ↦ inl (eqb-true node seat.who t) | inr f ↦ inr (λ e. (let g : true ≡ false = sym (eq-eqb node seat.who e) ∙ f in absurd cc)) ]
@@ -93,32 +180,28 @@ module _ (words : ℕ → ℕ → ℕ × ℕ) (births : List (Seat Player)) (row
     | inr ne ↦ view_others births rows (row_of player_table seat rows event) name who ne
   ]
 
-  pub left_marks : (name : Draw) → Leaves name → (who : ℕ) → marks_at s rows name who ≡ [] → marks_at s (with_event rows seat event) name who ≡ []
-  left_marks name l who none =
+  pub left_mail : (name : Draw) → Leaves name → (who : ℕ) → Each (IsErrandFor name) (rest s rows who) → Each (IsErrandFor name) (rest s (with_event rows seat event) who)
+  left_mail name l who each =
       let row = row_of player_table seat rows event in
       let tidy = in_time_tidy s rows (in_time_before s rows row timely) in
       let calm = (last_in_time s rows row timely).0 in
-      ap (marks_of name) (rest-calm s rows row who tidy calm)
-      ∙ (marks-append name (drop (taken who row) (rest s rows who)) (mail_for s who row.sent)
-      ∙ (ap (λ l. l ++ marks_for name who row.sent) (marks_less name (eqb row.who who && is_delivery row.event) (rest s rows who) none) ∙ l.silent who))
+      subst (Each (IsErrandFor name)) (sym (rest-calm s rows row who tidy calm))
+      (Each-append (IsErrandFor name) (drop (taken who row) (rest s rows who)) (mail_for s who row.sent) (each_drop (IsErrandFor name) (eqb row.who who && is_delivery row.event) (rest s rows who) each)
+      (each_filter (IsErrandFor name) (λ (m : Mail). eqb (s.receiver m) who) row.sent l.silent))
 
-  -- a client leaves all
-  pub client_leaves : (client : ClientState) → value player_table seat rows ≡ Client client → (name : Draw) (o : Option (Input Mail OrderLine)) → input_of (mails rows) event ≡ o → Leaves name
-  client_leaves client is name None e = record {
-    view = view_is births rows seat event name born (Client client) is None e ∙ sym (view_was births rows seat event name born (Client client) is);
-    silent = λ who. ap (marks_for name who) (sent_is births rows seat event name born (Client client) is None e);
-  }
-  client_leaves client is name (Some input) e = record {
+  -- a client that sends nothing leaves all
+  pub client_leaves : (client : ClientState) → value player_table seat rows ≡ Client client → (name : Draw) (input : Input Mail OrderLine) → input_of (mails rows) event ≡ Some input → (table client input).1 ≡ [] → Leaves name
+  client_leaves client is name input e none = record {
     view = view_is births rows seat event name born (Client client) is (Some input) e ∙ sym (view_was births rows seat event name born (Client client) is);
-    silent = λ who. ap (marks_for name who) (sent_is births rows seat event name born (Client client) is (Some input) e) ∙ others_hear_nothing.client name who client input;
+    silent = subst (Each (IsErrandFor name)) (sym (sent_is births rows seat event name born (Client client) is (Some input) e ∙ none)) tt;
   }
 
   -- a node leaves a group by what it makes of its replica and sends
   pub node_leaves : (node : NodeState) → value player_table seat rows ≡ Node node → (step : NodeState × List Mail) (o : Option (Input Mail OrderLine)) → input_of (mails rows) event ≡ o
-      → acted player_table (Node node) o ≡ (Node step.0, step.1) → (name : Draw) → replica_of name step.0.replicas ≡ replica_of name node.replicas → ((who : ℕ) → marks_for name who step.1 ≡ []) → Leaves name
+      → acted player_table (Node node) o ≡ (Node step.0, step.1) → (name : Draw) → replica_of name step.0.replicas ≡ replica_of name node.replicas → Each (IsErrandFor name) step.1 → Leaves name
   node_leaves node is step o input does name same silent = record {
     view = now_is births rows seat event node born is step o input does name ∙ (same ∙ sym (was_is births rows seat event node born is step o input does name));
-    silent = λ who. ap (marks_for name who) (all_sent births rows seat event node born is step o input does) ∙ silent who;
+    silent = subst (Each (IsErrandFor name)) (sym (all_sent births rows seat event node born is step o input does)) silent;
   }
 
 -- ---- a delivery
@@ -189,31 +272,31 @@ aside_is mail r (ToldMail order result) q f = absurd q
 -- where there is no replica, another group's stay, and nothing of its agreement is sent
 module _ (name group : Draw) (ne : name ≡ group → ⊥) (node : NodeState) (from : ℕ) where
   abbrev pub Apart : NodeState × List Mail → Type 0
-  Apart step = (replica_of name step.0.replicas ≡ replica_of name node.replicas) × ((who : ℕ) → marks_for name who step.1 ≡ [])
+  Apart step = (replica_of name step.0.replicas ≡ replica_of name node.replicas) × Each (IsErrandFor name) step.1
 
-  answers_apart : (body : MailBody) → Apart (node, absent node.me from body)
-  answers_apart body = (refl, λ who. others_hear_nothing.missed name who node.me from body)
+  answers_apart : (body : MailBody) → group_of_mail body ≡ Some group → Apart (node, absent node.me from body)
+  answers_apart body e = (refl, absent_other name group ne node.me from body e)
 
   pub unknown_apart : (body : MailBody) → group_of_mail body ≡ Some group → Apart (unknown from body node)
   unknown_apart (Install named slot base sets) e =
       let same : Some named ≡ Some group = e in
       let own : named ≡ group = cc in
       let place : Place = made_by node.me from named slot base sets in
-      either_way Apart (not (eqb (length sets) slots_ahead) || nat_lt last_slot slot) (node, []) (with_made place node) (refl, λ who. refl)
-      (new_others name place.0 node.replicas (λ i. ne (sym i ∙ (names_stay.made node.me from named slot base sets ∙ own))), λ who. others_hear_nothing.made name who node.me from named slot base sets (λ i. ne (sym i ∙ own)))
-  unknown_apart (TxPrepare tx offer) e = answers_apart (TxPrepare tx offer)
-  unknown_apart (TxWatch tx watch) e = answers_apart (TxWatch tx watch)
-  unknown_apart (TxVote tx coord part vote) e = answers_apart (TxVote tx coord part vote)
-  unknown_apart (TxWatched tx coord part vote) e = answers_apart (TxWatched tx coord part vote)
-  unknown_apart (TxOutcome tx part outcome) e = answers_apart (TxOutcome tx part outcome)
-  unknown_apart (TxElsewhere tx coord hint) e = answers_apart (TxElsewhere tx coord hint)
-  unknown_apart (Accept named ballot slot command) e = answers_apart (Accept named ballot slot command)
-  unknown_apart (Accepted named ballot slot) e = answers_apart (Accepted named ballot slot)
-  unknown_apart (Learn named slot command) e = answers_apart (Learn named slot command)
-  unknown_apart (Prepare named ballot from_slot) e = answers_apart (Prepare named ballot from_slot)
-  unknown_apart (Promise named ballot reports) e = answers_apart (Promise named ballot reports)
-  unknown_apart (Nack named promised) e = answers_apart (Nack named promised)
-  unknown_apart (Ask named from_slot) e = answers_apart (Ask named from_slot)
-  unknown_apart (Request named client seq op) e = answers_apart (Request named client seq op)
-  unknown_apart (Answer named seq answer) e = answers_apart (Answer named seq answer)
-  unknown_apart (ToldMail order result) e = answers_apart (ToldMail order result)
+      either_way Apart (not (eqb (length sets) slots_ahead) || nat_lt last_slot slot) (node, []) (with_made place node) (refl, tt)
+      (new_others name place.0 node.replicas (λ i. ne (sym i ∙ (names_stay.made node.me from named slot base sets ∙ own))), quiet_errands named name place.1 (λ i. ne (sym i ∙ own)) (made_keeps node.me from named slot base sets).1)
+  unknown_apart (TxPrepare tx offer) e = answers_apart (TxPrepare tx offer) e
+  unknown_apart (TxWatch tx watch) e = answers_apart (TxWatch tx watch) e
+  unknown_apart (TxVote tx coord part vote) e = answers_apart (TxVote tx coord part vote) e
+  unknown_apart (TxWatched tx coord part vote) e = answers_apart (TxWatched tx coord part vote) e
+  unknown_apart (TxOutcome tx part outcome) e = answers_apart (TxOutcome tx part outcome) e
+  unknown_apart (TxElsewhere tx coord hint) e = answers_apart (TxElsewhere tx coord hint) e
+  unknown_apart (Accept named ballot slot command) e = answers_apart (Accept named ballot slot command) e
+  unknown_apart (Accepted named ballot slot) e = answers_apart (Accepted named ballot slot) e
+  unknown_apart (Learn named slot command) e = answers_apart (Learn named slot command) e
+  unknown_apart (Prepare named ballot from_slot) e = answers_apart (Prepare named ballot from_slot) e
+  unknown_apart (Promise named ballot reports) e = answers_apart (Promise named ballot reports) e
+  unknown_apart (Nack named promised) e = answers_apart (Nack named promised) e
+  unknown_apart (Ask named from_slot) e = answers_apart (Ask named from_slot) e
+  unknown_apart (Request named client seq op) e = answers_apart (Request named client seq op) e
+  unknown_apart (Answer named seq answer) e = answers_apart (Answer named seq answer) e
+  unknown_apart (ToldMail order result) e = answers_apart (ToldMail order result) e

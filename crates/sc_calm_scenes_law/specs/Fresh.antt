@@ -1,29 +1,30 @@
 -- Which groups an order has not touched so far, and that these stay as they were in the quiet before it.
-use Rattle.std.specs.Prelude.{◌≡◌, ℕ, true, List, [], ◌∷◌, Some, None}
+use Rattle.std.specs.Prelude.{◌≡◌, ℕ, true, List, [], ◌∷◌, Some, None, ◌⊎◌}
 use Rattle.sc_base.specs.Among.{Each}
 use Rattle.sc_base.specs.declared.names.Draw.{Draw}
 use Rattle.sc_cmd.specs.declared.orders.OrderLine.{OrderLine}
 use Rattle.sc_mail.specs.declared.bodies.Mail.{Mail}
-use Rattle.sc_mail.specs.declared.bodies.MailBody.{MailBody}
+use Rattle.sc_mail.specs.declared.bodies.AnswerBody.{AnswerBody}
+use Rattle.sc_mail.specs.declared.bodies.MailBody.TheVariants.{Answer}
 use Rattle.sc_actor.specs.declared.actors.Seat.{Seat}
 use Rattle.sc_actor.specs.declared.rows.Event.TheVariants.{Deliver, Told}
 use Rattle.sc_actor.specs.Mail.{mails, numbered}
 use Rattle.sc_actor.specs.Walk.{is_quiet}
-use Rattle.sc_orderly_law.specs.Orderly.{is_born}
+use Rattle.sc_orderly_law.specs.Orderly.{rest, is_born}
 use Rattle.sc_orderly_law.specs.Timely.{AreInTime}
 use Rattle.sc_node_table.specs.Node.{NodeState, replica_of, group_of_mail}
 use Rattle.sc_node_table.specs.Replica.{ReplicaState}
 use Rattle.sc_node_table.specs.Rows.{mailed}
 use Rattle.sc_sound.specs.Players.{Player}
-use Rattle.sc_following_law.specs.Following.{Mark, mark_of}
 use Rattle.sc_calm_law.specs.Charts.{players}
 use Rattle.sc_calm_law.specs.Totals.{Rows}
 use Rattle.sc_calm_orders_law.specs.Scenes.{Turn, First, Lone, Next, Errand, Scene}
 use Rattle.sc_calm_orders_law.specs.Stages.{Deal, Stage, Still, Ordered, Asks, SentOn, Weighs, Replied, Recorded, Closes, ClosesBoth, parties_of, IsAt}
 use Rattle.sc_calm_orders_law.specs.Parts.{errand_by}
-use Rattle.sc_calm_rows_law.specs.Groups.{view_at, marks_at}
+use Rattle.sc_calm_rows_law.specs.Groups.{view_at}
 use Rattle.sc_calm_rows_law.specs.Turns.{IsSeat, with_event}
 use Rattle.sc_calm_scenes_law.specs.Found.{FindsOrder}
+use Rattle.sc_calm_scenes_law.specs.Kept.{GoesBy}
 use Rattle.sc_calm_scenes_law.specs.Scenes.{scene_at}
 use Rattle.sc_calm_scenes_law.specs.Taken.{IsTaking}
 
@@ -59,27 +60,29 @@ IsNowhere births rows name = (node : ℕ) → view_at births rows name node ≡ 
 abbrev pub AreThere : List (Seat Player) → Rows → Stage → Type 0
 AreThere births rows stage = Each (λ party. IsThere births rows party.0) (parties_of stage)
 
--- At a stage that stands after some rows, its groups were there in the quiet before them; and each group that was there in the quiet before them and is untouched has the replicas that it had, and no mail of its agreement is under way.
+-- a mail is an errand
+abbrev pub IsErrand : Mail → Type 0
+IsErrand mail = (entry : Draw × Errand) × (errand_by mail.from mail.to mail.body ≡ Some entry)
+
+-- .. if it is for this group
+abbrev pub IsErrandFor : Draw → Mail → Type 0
+IsErrandFor name mail = group_of_mail mail.body ≡ Some name → IsErrand mail
+
+-- At a stage that stands after some rows, its groups were there in the quiet before them; and each group that was there in the quiet before them and is untouched has the replicas that it had, and all mail under way for it are errands.
 pub record AreUntouched (words : ℕ → ℕ → ℕ × ℕ) (births : List (Seat Player)) (quiet rows : Rows) (stage : Stage) : Type 0 where
   pub stands : IsAt stage (scene_at births rows)
   pub parties : AreThere births quiet stage
   pub views : (name : Draw) → IsFresh stage name → IsThere births quiet name → (who : ℕ) → view_at births rows name who ≡ view_at births quiet name who
-  pub marks : (name : Draw) → IsFresh stage name → IsThere births quiet name → (who : ℕ) → is_born (players words births) who ≡ true → marks_at (players words births) rows name who ≡ []
+  pub mails : (name : Draw) → IsFresh stage name → IsThere births quiet name → (who : ℕ) → is_born (players words births) who ≡ true → Each (IsErrandFor name) (rest (players words births) rows who)
 
 -- ---- rows
 
--- a mail for a group is an errand, or of its agreement: no request or refusal, and it does not ask for entries
-pub data IsOrderly (group : Draw) (from to : ℕ) (body : MailBody) : Type 0 where
-  OfOrder : (entry : Draw × Errand) → errand_by from to body ≡ Some entry → IsOrderly group from to body
-  OfAgreement : (mark : Mark) → mark_of group from body ≡ Some mark → IsOrderly group from to body
-
--- A delivery in time that finds what an order needs: for an untouched group, of such a mail; a child that it makes is of a group that was nowhere in the quiet before the order, and a group that is asked after it was there.
+-- A delivery in time that finds what an order needs, and is no answer to a client; a child that it makes is of a group that was nowhere in the quiet before the order, and a group that is asked after it was there.
 pub record IsDelivered (words : ℕ → ℕ → ℕ × ℕ) (births : List (Seat Player)) (quiet rows : Rows) (seat : Seat Player) (number : ℕ) : Type 0 where
   pub seated : IsSeat births seat
   pub timely : AreInTime (players words births) (with_event rows seat (Deliver number))
   pub finds : FindsOrder words births rows seat (Deliver number)
-  pub orderly : (stage : Stage) (group : Draw) (mail : Mail) → IsAt stage (scene_at births rows) → IsFresh stage group → IsThere births quiet group → numbered (mails rows) number ≡ Some mail → group_of_mail mail.body ≡ Some group
-      → IsOrderly group mail.from mail.to mail.body
+  pub unanswered : (mail : Mail) (group : Draw) (seq : ℕ) (answer : AnswerBody) → numbered (mails rows) number ≡ Some mail → mail.body ≡ Answer group seq answer → ⊥
   pub children : (mail : Mail) (group : Draw) (node : NodeState) (r : ReplicaState) → IsTaking words births rows seat number mail group node → replica_of group node.replicas ≡ Some r
       → Each (λ child. IsNowhere births quiet child.core.id) (mailed mail.from mail.body (r, [])).1
   pub asked : (deal : Deal) (to : ℕ) → IsAt (Asks deal to) (scene_at births (with_event rows seat (Deliver number))) → IsThere births quiet deal.asked
@@ -102,16 +105,15 @@ pub record IsToldInQuiet (words : ℕ → ℕ → ℕ × ℕ) (births : List (Se
   pub calm : is_quiet (players words births) quiet ≡ true
   pub finds : FindsOrder words births quiet seat (Told line)
 
--- So it is from the order on: after it, after each delivery, and so after all; what such a group is delivered is an errand; and a group that is asked, and has not taken the question, is one.
+-- So it is from the order on: after it, after each delivery, which leaves the stage or is a step to the next one, and so after all; what such a group is delivered is an errand; and a group that is asked, and has not taken the question, is one.
 pub record FreshGroupsStay : Type 0 where
   pub begins : (words : ℕ → ℕ → ℕ × ℕ) (births : List (Seat Player)) (quiet : Rows) (seat : Seat Player) (line : OrderLine) → IsToldInQuiet words births quiet seat line
       → (stage : Stage) × AreUntouched words births quiet (with_event quiet seat (Told line)) stage
   pub goes_on : (words : ℕ → ℕ → ℕ × ℕ) (births : List (Seat Player)) (quiet rows : Rows) (seat : Seat Player) (number : ℕ) (stage : Stage) → AreUntouched words births quiet rows stage
-      → IsDelivered words births quiet rows seat number → (later : Stage) × AreUntouched words births quiet (with_event rows seat (Deliver number)) later
+      → IsDelivered words births quiet rows seat number → (later : Stage) × AreUntouched words births quiet (with_event rows seat (Deliver number)) later × ((later ≡ stage) ⊎ GoesBy rows (Deliver number) stage later)
   pub through : (words : ℕ → ℕ → ℕ × ℕ) (births : List (Seat Player)) (quiet : Rows) (seat : Seat Player) (line : OrderLine) (turns : List (Seat Player × ℕ)) → IsToldInQuiet words births quiet seat line
       → AreDelivered words births quiet (with_event quiet seat (Told line)) turns → (stage : Stage) × AreUntouched words births quiet (after_all (with_event quiet seat (Told line)) turns) stage
   pub errands : (words : ℕ → ℕ → ℕ × ℕ) (births : List (Seat Player)) (quiet rows : Rows) (seat : Seat Player) (number : ℕ) (stage : Stage) (name : Draw) (mail : Mail) → AreUntouched words births quiet rows stage
-      → IsDelivered words births quiet rows seat number → IsFresh stage name → IsThere births quiet name → numbered (mails rows) number ≡ Some mail → group_of_mail mail.body ≡ Some name
-      → (entry : Draw × Errand) × (errand_by mail.from mail.to mail.body ≡ Some entry)
+      → IsDelivered words births quiet rows seat number → IsFresh stage name → IsThere births quiet name → numbered (mails rows) number ≡ Some mail → group_of_mail mail.body ≡ Some name → IsErrand mail
   pub asked : (now : Scene) (deal : Deal) (to : ℕ) → IsAt (Asks deal to) now → IsFresh (Asks deal to) deal.asked
   pub sent_on : (now : Scene) (deal : Deal) → IsAt (SentOn deal) now → IsFresh (SentOn deal) deal.asked

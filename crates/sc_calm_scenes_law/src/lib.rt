@@ -157,9 +157,8 @@ pub fn found_orders_go_through()
 {}
 
 /// A group that an order has not touched so far has the replicas that it had in the quiet before
-/// the order, no mail of its agreement is under way, and what it is delivered is an errand. The
-/// groups that have a part in the order were there in that quiet, and one that is asked, and has
-/// not taken the question, is untouched.
+/// the order, and all mail under way for it are errands. The groups that have a part in the order
+/// were there in that quiet, and one that is asked, and has not taken the question, is untouched.
 pub fn fresh_groups_stay()
     ensures { FreshGroupsStay }
 {}
