@@ -175,7 +175,15 @@ fn step<A: Actor, G: Gate, R: Threads + Wait + Sync>(
     };
     standing.used += did;
     match refused_in(shells.as_slice()) {
-        None => prepare(rt, net, shells, whos, play.limit, standing.used, &mut standing.waits),
+        None => prepare(
+            rt,
+            net,
+            shells,
+            whos,
+            play.limit,
+            standing.used,
+            &mut standing.waits,
+        ),
         Some(refused) => Some(ended(rt, net, shells, refused)),
     }
 }
@@ -260,13 +268,11 @@ fn helped<A: Actor, G: Gate, R: Threads + Wait + Sync>(
     let mut playing = || -> Rounds
         requires { IsSync R.row × IsSync G.row × (1 ≤ play.now.workers) × (play.now.workers ≤ 16)
             × IsCrew net.now shells.now.items × IsLenderOf play.now.desk.now lender.now }
-        ensures { IfKept play.now.way (Some result)
+        ensures { IfKept play.entry.now.way (Some result)
             (AreLater net.entry.now net.exit.now shells.entry.now.items shells.exit.now.items)
             × IsEnd result net.exit.now shells.entry.now.items shells.exit.now.items
-            (crew_numbers shells.entry.now.items) play.now.limit }
-    {
-        played_out(rt, gate, play, lender, net, shells)
-    };
+            (crew_numbers shells.entry.now.items) play.entry.now.limit }
+    { played_out(rt, gate, play, lender, net, shells) };
     let mut helping = ||
         requires { IsSync R.row × IsSync G.row × All (λ p. IsHelperOf desk.now p) helpers.now.items }
     {

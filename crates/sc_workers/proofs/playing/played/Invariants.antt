@@ -7,8 +7,8 @@ use Rattle.sc_workers.proofs.playing.played.Given as goal
 
 abbrev pub invariant-loop-answer : goal.invariant-loop-answer
 invariant-loop-answer g l = record {
-  lender : IsLenderOf l.fn.play.now.desk l.lender;
-  used : l.standing.used < l.fn.play.now.limit;
+  lender : IsLenderOf l.fn.play.desk.now l.lender;
+  used : l.standing.used < l.fn.play.limit;
   later : AreLater l.fn.net l.net l.fn.shells.items l.shells.items;
   sound : AllSound l.shells.items;
   count : rows_made l.shells.items ≡ rows_made l.fn.shells.items + l.standing.used;
@@ -18,4 +18,4 @@ invariant-loop-answer g l = record {
 
 -- each round makes a delivery
 abbrev pub decreases-loop-answer : goal.decreases-loop-answer
-decreases-loop-answer g l = l.fn.play.now.limit - l.standing.used
+decreases-loop-answer g l = l.fn.play.limit - l.standing.used
