@@ -1,8 +1,8 @@
 //! Lending, helping and taking back.
-ghost use Rattle.std.specs.Prelude.{◌≡◌, ◌<◌, All, true, length, vec_len, IfOk, IfErr, IfSome};
+ghost use Rattle.std.specs.Prelude.{◌≡◌, ◌<◌, ◌++◌, [], ◌∷◌, All, true, length, vec_len, IfOk, IfErr, IfSome};
 ghost use Rattle.std.specs.Fn.{FnReturns};
 ghost use Rattle.crossbeam_queue.specs.Passes.{view, IsPassOf};
-ghost use Rattle.sc_lend.specs.Lending.{MayGiveBack, Finished, IsLeft, IsLentUnder, IsLonger};
+ghost use Rattle.sc_lend.specs.Lending.{MayGiveBack, Finished, IsLeft};
 ghost use Rattle.sc_lend.specs.Offices.{IsLenderOf, IsHelperOf, lent_by};
 
 use crate::lender::Lender;
@@ -162,13 +162,14 @@ impl<T: Labour> Office<T> {
         self.bell.wake_all();
     }
 
-    /// Lends a piece of work, and answers its number, or hands it back where no more can be lent.
+    /// Lends a piece of work, behind all that was lent before, and answers its number there, from 0 on;
+    /// or hands it back, where no more can be lent, and lends nothing.
     pub fn lend<R: Wait>(&self, rt: &R, lender: &mut Lender<T>, work: T) -> Result<u64, T>
         requires pass { IsLenderOf self.now lender.old }
         ensures pass { IsLenderOf self.now lender.new }
-        ensures later { IsLonger (lent_by lender.old) (lent_by lender.new) }
-        ensures ok { IfOk result (λ number. IsLentUnder (lent_by lender.new) number work) }
-        ensures err { IfErr result (λ back. back ≡ work) }
+        ensures ok { IfOk result (λ number. (number ≡ length (lent_by lender.old))
+            × (lent_by lender.new ≡ lent_by lender.old ++ work ∷ [])) }
+        ensures err { IfErr result (λ back. (back ≡ work) × (lent_by lender.new ≡ lent_by lender.old)) }
     {
         let number = lender.next;
         if number == u64::MAX {

@@ -23,38 +23,47 @@ use std::thread::{Threads, join_mut};
 /// So many runs may be lent at one time: more than there are beside the caller's own.
 const MOST_LOANS: usize = 16;
 
+/// What does not change from round to round: the way, how many workers and deliveries there are at
+/// most, and the office where runs are lent.
+#[derive(Drop)]
+struct Play<'a, A: Actor> {
+    alloc: Global,
+    way: Way,
+    workers: u32,
+    limit: u32,
+    desk: &'a Office<Run<A>>,
+}
+
 // One round, or one phase. Answers how many deliveries were made in it, and None where there was no
 // memory for a phase.
 fn play_round<A: Actor, G: Gate, R: Threads + Wait + Sync>(
     rt: &R,
-    alloc: Global,
-    way: Way,
     gate: &G,
-    desk: &Office<Run<A>>,
+    play: &Play<'_, A>,
     lender: &mut Lender<Run<A>>,
     waits: &[bool],
     shells: &mut Vec<Shell<A>>,
-    workers: u32,
     left: u32,
 ) -> Option<u32>
-    requires workers { (0 < workers) × (workers ≤ 16) }
+    requires workers { (0 < play.now.workers) × (play.now.workers ≤ 16) }
     requires sound { AllSound shells.old.items }
-    requires lender { IsLenderOf desk.now lender.old }
-    ensures lender { IsLenderOf desk.now lender.new }
+    requires lender { IsLenderOf play.now.desk.now lender.old }
+    ensures lender { IsLenderOf play.now.desk.now lender.new }
     ensures played { IfSome result
         (λ did. HasPlayed left shells.old.items shells.new.items did) }
-    ensures none { result ≡ None → way ≡ Way.Queue }
+    ensures none { result ≡ None → play.now.way ≡ Way.Queue }
 {
+    let alloc = play.alloc;
     if shells.is_empty() || (left as usize) < shells.len() {
         return Some(in_order(rt, alloc, gate, shells.as_mut_slice(), left));
     }
-    match way {
+    match play.way {
         Way::Runs => {
-            let size = shells.len().div_ceil(workers as usize);
-            at_once(rt, alloc, gate, desk, lender, waits, size, shells);
+            let size = shells.len().div_ceil(play.workers as usize);
+            at_once(rt, alloc, gate, play.desk, lender, waits, size, shells);
             Some(did_in(shells.as_slice()))
         }
-        Way::Queue => phase(rt, alloc, gate, waits, shells, workers, left).ok(),
+        Way::Queue => phase(rt, alloc, gate, waits, shells, play.workers, left).ok(),
     }
 }
 
@@ -114,74 +123,67 @@ fn ended<A: Actor, R: Wait>(
     Rounds::Full { bytes }
 }
 
-/// What does not change from round to round: the way, the actors' numbers in the order of their
-/// shells, and how many workers and deliveries there are at most.
+/// What changes from round to round: how many deliveries were made, and for which shells' actors
+/// mail waits.
 #[derive(Drop)]
-struct Play<'a> {
-    way: Way,
-    whos: &'a [u32],
-    workers: u32,
-    limit: u32,
+struct Standing {
+    used: u32,
+    waits: Vec<bool>,
 }
 
 // One round or phase, with what comes after it. Some where the call ends. A round that is not
 // refused delivers at least one.
 fn step<A: Actor, G: Gate, R: Threads + Wait + Sync>(
     rt: &R,
-    alloc: Global,
-    play: &Play<'_>,
-    desk: &Office<Run<A>>,
+    gate: &G,
+    play: &Play<'_, A>,
+    whos: &[u32],
     lender: &mut Lender<Run<A>>,
     net: &mut Port<A::Mail, A::Order>,
     shells: &mut Vec<Shell<A>>,
-    used: &mut u32,
-    waits: &mut Vec<bool>,
-    gate: &G,
+    standing: &mut Standing,
 ) -> Option<Rounds>
     requires workers { (0 < play.now.workers) × (play.now.workers ≤ 16) }
-    requires lender { IsLenderOf desk.now lender.old }
+    requires lender { IsLenderOf play.now.desk.now lender.old }
     requires crew { IsCrew net.old shells.old.items }
-    requires whos { play.now.whos.now ≡ crew_numbers shells.old.items }
-    requires begin { CanBegin net.old shells.old.items play.now.whos.now }
-    requires used { used.old < play.now.limit }
-    ensures lender { IsLenderOf desk.now lender.new }
+    requires whos { whos.now ≡ crew_numbers shells.old.items }
+    requires begin { CanBegin net.old shells.old.items whos.now }
+    requires used { standing.old.used < play.now.limit }
+    ensures lender { IsLenderOf play.now.desk.now lender.new }
     ensures later { IfKept play.now.way result
         (AreLater net.old net.new shells.old.items shells.new.items) }
-    ensures used { used.new ≤ play.now.limit }
+    ensures used { standing.new.used ≤ play.now.limit }
     ensures count { IfHeld result
-        (rows_made shells.new.items + used.old ≡ rows_made shells.old.items + used.new) }
-    ensures serves { IfCalm result (used.old < used.new) }
+        (rows_made shells.new.items + standing.old.used ≡ rows_made shells.old.items + standing.new.used) }
+    ensures serves { IfCalm result (standing.old.used < standing.new.used) }
     ensures served { IfHeld result (AllServe net.new shells.old.items) }
     ensures sound { IfCalm result (AllSound shells.new.items) }
-    ensures begin { result ≡ None → CanBegin net.new shells.new.items play.now.whos.now
-        × (used.new < play.now.limit) }
+    ensures begin { result ≡ None → CanBegin net.new shells.new.items whos.now
+        × (standing.new.used < play.now.limit) }
     ensures end { IfSome result
         (λ answer.
-        StepEnd answer net.new shells.old.items shells.new.items play.now.whos.now play.now.limit
-        used.new) }
+        StepEnd answer net.new shells.old.items shells.new.items whos.now play.now.limit
+        standing.new.used) }
 {
     let Ok(()) = meet(rt, net, shells) else {
         return Some(Rounds::OutOfMemory);
     };
-    let flags = waits.as_slice();
-    let left = play.limit - *used;
-    let Some(did) = play_round(
-        rt,
-        alloc,
-        play.way,
-        gate,
-        desk,
-        lender,
-        flags,
-        shells,
-        play.workers,
-        left,
-    ) else {
+    let flags = standing.waits.as_slice();
+    let left = play.limit - standing.used;
+    let Some(did) = play_round(rt, gate, play, lender, flags, shells, left) else {
         return Some(Rounds::OutOfMemory);
     };
-    *used += did;
+    standing.used += did;
     match refused_in(shells.as_slice()) {
-        None => prepare(rt, net, shells, play.whos, play.limit, *used, waits),
+        None => prepare(
+            rt,
+            net,
+            shells,
+            whos,
+            play.limit,
+            standing.used,
+            &mut standing.waits,
+        ),
         Some(refused) => Some(ended(rt, net, shells, refused)),
     }
 }
@@ -189,43 +191,31 @@ fn step<A: Actor, G: Gate, R: Threads + Wait + Sync>(
 // Rounds or phases, as `rounds_by` has them.
 fn played<A: Actor, G: Gate, R: Threads + Wait + Sync>(
     rt: &R,
-    alloc: Global,
-    way: Way,
-    workers: u32,
-    limit: u32,
     gate: &G,
-    desk: &Office<Run<A>>,
+    play: &Play<'_, A>,
     lender: &mut Lender<Run<A>>,
     net: &mut Port<A::Mail, A::Order>,
     shells: &mut Vec<Shell<A>>,
 ) -> Rounds
-    requires workers { (1 ≤ workers) × (workers ≤ 16) }
+    requires workers { (1 ≤ play.now.workers) × (play.now.workers ≤ 16) }
     requires crew { IsCrew net.old shells.old.items }
-    requires lender { IsLenderOf desk.now lender.old }
-    ensures later { IfKept way (Some result)
+    requires lender { IsLenderOf play.now.desk.now lender.old }
+    ensures later { IfKept play.now.way (Some result)
         (AreLater net.old net.new shells.old.items shells.new.items) }
     ensures end { IsEnd result net.new shells.old.items shells.new.items (crew_numbers shells.old.items)
-        limit }
+        play.now.limit }
 {
-    let Ok(whos) = numbers_of(alloc, shells.as_slice()) else {
+    let Ok(whos) = numbers_of(play.alloc, shells.as_slice()) else {
         return Rounds::OutOfMemory;
     };
-    let mut waits = Vec::new(alloc);
-    if let Some(answer) = prepare(rt, net, shells, whos.as_slice(), limit, 0, &mut waits) {
+    let mut waits = Vec::new(play.alloc);
+    if let Some(answer) = prepare(rt, net, shells, whos.as_slice(), play.limit, 0, &mut waits) {
         return answer;
     }
-    let mut used = 0u32;
+    let mut standing = Standing { used: 0, waits };
     loop {
         let whos = whos.as_slice();
-        let play = Play {
-            way,
-            whos,
-            workers,
-            limit,
-        };
-        if let Some(answer) = step(
-            rt, alloc, &play, desk, lender, net, shells, &mut used, &mut waits, gate,
-        ) {
+        if let Some(answer) = step(rt, gate, play, whos, lender, net, shells, &mut standing) {
             return answer;
         }
     }
@@ -234,67 +224,55 @@ fn played<A: Actor, G: Gate, R: Threads + Wait + Sync>(
 // Rounds or phases, behind which those who help end.
 fn played_out<A: Actor, G: Gate, R: Threads + Wait + Sync>(
     rt: &R,
-    alloc: Global,
-    way: Way,
-    workers: u32,
-    limit: u32,
     gate: &G,
-    desk: &Office<Run<A>>,
+    play: &Play<'_, A>,
     lender: &mut Lender<Run<A>>,
     net: &mut Port<A::Mail, A::Order>,
     shells: &mut Vec<Shell<A>>,
 ) -> Rounds
-    requires workers { (1 ≤ workers) × (workers ≤ 16) }
+    requires workers { (1 ≤ play.now.workers) × (play.now.workers ≤ 16) }
     requires crew { IsCrew net.old shells.old.items }
-    requires lender { IsLenderOf desk.now lender.old }
-    ensures later { IfKept way (Some result)
+    requires lender { IsLenderOf play.now.desk.now lender.old }
+    ensures later { IfKept play.now.way (Some result)
         (AreLater net.old net.new shells.old.items shells.new.items) }
     ensures end { IsEnd result net.new shells.old.items shells.new.items (crew_numbers shells.old.items)
-        limit }
+        play.now.limit }
 {
-    let end = played(
-        rt, alloc, way, workers, limit, gate, desk, lender, net, shells,
-    );
-    desk.close();
+    let end = played(rt, gate, play, lender, net, shells);
+    play.desk.close();
     end
 }
 
 // Rounds or phases, while others help, fewer than there are workers.
 fn helped<A: Actor, G: Gate, R: Threads + Wait + Sync>(
     rt: &R,
-    alloc: Global,
-    way: Way,
-    workers: u32,
-    limit: u32,
     gate: &G,
-    desk: &Office<Run<A>>,
+    play: &Play<'_, A>,
     helpers: &mut Vec<Helper<Run<A>>>,
     lender: &mut Lender<Run<A>>,
     net: &mut Port<A::Mail, A::Order>,
     shells: &mut Vec<Shell<A>>,
 ) -> Rounds
-    requires workers { (1 ≤ workers) × (workers ≤ 16) }
+    requires workers { (1 ≤ play.now.workers) × (play.now.workers ≤ 16) }
     requires crew { IsCrew net.old shells.old.items }
-    requires lender { IsLenderOf desk.now lender.old }
-    requires few { vec_len helpers.old < workers }
-    requires helpers { All (λ p. IsHelperOf desk.now p) helpers.old.items }
-    ensures later { IfKept way (Some result)
+    requires lender { IsLenderOf play.now.desk.now lender.old }
+    requires few { vec_len helpers.old < play.now.workers }
+    requires helpers { All (λ p. IsHelperOf play.now.desk.now p) helpers.old.items }
+    ensures later { IfKept play.now.way (Some result)
         (AreLater net.old net.new shells.old.items shells.new.items) }
     ensures end { IsEnd result net.new shells.old.items shells.new.items (crew_numbers shells.old.items)
-        limit }
+        play.now.limit }
 {
+    let desk = play.desk;
+    let alloc = play.alloc;
     let mut playing = || -> Rounds
-        requires { IsSync R.row × IsSync G.row × (1 ≤ workers) × (workers ≤ 16) × IsCrew net.now shells.now.items
-            × IsLenderOf desk.now lender.now }
-        ensures { IfKept way (Some result)
+        requires { IsSync R.row × IsSync G.row × (1 ≤ play.now.workers) × (play.now.workers ≤ 16)
+            × IsCrew net.now shells.now.items × IsLenderOf play.now.desk.now lender.now }
+        ensures { IfKept play.entry.now.way (Some result)
             (AreLater net.entry.now net.exit.now shells.entry.now.items shells.exit.now.items)
             × IsEnd result net.exit.now shells.entry.now.items shells.exit.now.items
-            (crew_numbers shells.entry.now.items) limit }
-    {
-        played_out(
-            rt, alloc, way, workers, limit, gate, desk, lender, net, shells,
-        )
-    };
+            (crew_numbers shells.entry.now.items) play.entry.now.limit }
+    { played_out(rt, gate, play, lender, net, shells) };
     let mut helping = ||
         requires { IsSync R.row × IsSync G.row × All (λ p. IsHelperOf desk.now p) helpers.now.items }
     {
@@ -351,15 +329,17 @@ pub fn rounds_by<A: Actor, G: Gate, R: Threads + Wait + Sync>(
         return Rounds::OutOfMemory;
     };
     let lender = &mut lender;
+    let play = Play {
+        alloc,
+        way,
+        workers,
+        limit,
+        desk: &desk,
+    };
     if helpers.is_empty() {
-        return played(
-            rt, alloc, way, workers, limit, gate, &desk, lender, net, shells,
-        );
+        return played(rt, gate, &play, lender, net, shells);
     }
-    let helpers = &mut helpers;
-    helped(
-        rt, alloc, way, workers, limit, gate, &desk, helpers, lender, net, shells,
-    )
+    helped(rt, gate, &play, &mut helpers, lender, net, shells)
 }
 
 /// Rounds in which each shell that is not spent takes a turn, runs of neighbours at the same time,

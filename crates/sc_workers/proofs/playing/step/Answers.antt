@@ -30,7 +30,7 @@ returns-in-Some-refused_in-clause-later g c =
 
 pub returns-in-None-clause-count : goal.returns-in-None-clause-count
 returns-in-None-clause-count g c =
-    let count : rows_made c.prepare.new.shells.items + c.args.used.now ≡ rows_made c.args.shells.now.items + (c.args.used.now + c.in-Some.did) = omega (
+    let count : rows_made c.prepare.new.shells.items + c.args.standing.now.used ≡ rows_made c.args.shells.now.items + (c.args.standing.now.used + c.in-Some.did) = omega (
       arith,
       c.in-Some.ensures.played.did,
       still_rows c.args.shells.now.items c.meet.new.shells.items c.meet.ensures.still.len c.meet.ensures.still.still,
@@ -39,7 +39,7 @@ returns-in-None-clause-count g c =
 
 pub returns-in-Some-refused_in-clause-count : goal.returns-in-Some-refused_in-clause-count
 returns-in-Some-refused_in-clause-count g c =
-    let count : rows_made c.ended.new.shells.items + c.args.used.now ≡ rows_made c.args.shells.now.items + (c.args.used.now + c.in-Some.did) = omega (
+    let count : rows_made c.ended.new.shells.items + c.args.standing.now.used ≡ rows_made c.args.shells.now.items + (c.args.standing.now.used + c.in-Some.did) = omega (
       arith,
       c.in-Some.ensures.played.did,
       still_rows c.args.shells.now.items c.meet.new.shells.items c.meet.ensures.still.len c.meet.ensures.still.still,
@@ -53,7 +53,7 @@ returns-in-None-clause-serves g c =
     let ahead : AllAhead c.args.net.now met = c.in-Ok.ensures.met.ahead in
     calm_maps c.prepare.result
     (λ (gathered : IsGathered c.prepare.new.net last).
-    let some = delivers_one c.args.net.now c.prepare.new.net start met after last c.in-Some.did (c.args.play.now.limit - c.args.used.now) c.meet.ensures.still.len c.in-Some.ensures.played.len c.prepare.ensures.still.len
+    let some = delivers_one c.args.net.now c.prepare.new.net start met after last c.in-Some.did (c.args.play.now.limit - c.args.standing.now.used) c.meet.ensures.still.len c.in-Some.ensures.played.len c.prepare.ensures.still.len
     (looked_trans c.args.net.now c.meet.new.net c.prepare.new.net c.meet.ensures.still.looked c.prepare.ensures.still.looked) c.requires.crew.first (subst (CanBegin c.args.net.now start) c.requires.whos c.requires.begin) c.meet.ensures.still.still ahead
     (still_sound start met c.meet.ensures.still.len c.meet.ensures.still.still c.requires.crew.sound) c.in-Some.ensures.played.whole (omega (arith, c.requires.used)) c.prepare.ensures.still.still gathered.over c.requires.crew.exchange calm c.in-Some.ensures.played.did in
     omega (arith, some))

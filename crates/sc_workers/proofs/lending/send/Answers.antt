@@ -1,0 +1,9 @@
+use Rattle.sc_lend.proofs.Longer.{lent_last, lent_longer}
+use Rattle.sc_lend.specs.Offices.{lent_by}
+use Rattle.sc_workers.proofs.lending.send.Goals as goal
+
+pub returns-in-Ok-clause-later : goal.returns-in-Ok-clause-later
+returns-in-Ok-clause-later g c = lent_longer (lent_by c.args.lender.now) (lent_by c.lend.new.lender) c.args.run c.in-Ok.ensures.ok.1
+
+pub returns-in-Ok-clause-sent : goal.returns-in-Ok-clause-sent
+returns-in-Ok-clause-sent g c = lent_last (lent_by c.args.lender.now) (lent_by c.lend.new.lender) c.args.run c.in-Ok.ensures.ok.1 c.in-Ok.number c.in-Ok.ensures.ok.0
