@@ -1,0 +1,2 @@
+pub mod Cycle
+mod Round
