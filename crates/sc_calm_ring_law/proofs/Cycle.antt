@@ -76,13 +76,16 @@ module _ {X : Type 0} (R : X → X → Type 0) (all : List X) (same : X → X �
     where
       none : (ys : List X) → Each (λ z. (z ≡ first) ⊎ ((p : X) × Among p seen × R p z)) ys → Each (λ z. Among z all) ys → IsNoneOf y ys
       none [] led among = tt
-      none (z ∷ ys) led among = (λ e. elim led.0 [
-        | inl begin ↦ is_apart y first other (sym e ∙ begin)
-        | inr p ↦ (
-            let there = Each-among (λ (w : X). Among w all) seen p.0 before.among.1 p.1 in
-            let is = back p.0 x y there before.among.0 here (subst (λ w. R p.0 w) e p.2) next in
-            Each-among (λ (w : X). w ≡ x → ⊥) seen p.0 before.distinct.0 p.1 is)
-      ], none ys led.1 among.1)
+      none (z ∷ ys) led among = (
+        λ e. elim led.0 [
+          | inl begin ↦ is_apart y first other (sym e ∙ begin)
+          | inr p ↦ (
+              let there = Each-among (λ (w : X). Among w all) seen p.0 before.among.1 p.1 in
+              let is = back p.0 x y there before.among.0 here (subst (λ w. R p.0 w) e p.2) next in
+              Each-among (λ (w : X). w ≡ x → ⊥) seen p.0 before.distinct.0 p.1 is)
+        ],
+        none ys led.1 among.1,
+      )
 
   led_more : (seen : List X) (x : X) (ys : List X) → Each (λ y. (y ≡ first) ⊎ ((p : X) × Among p seen × R p y)) ys → Each (λ y. (y ≡ first) ⊎ ((p : X) × Among p (x ∷ seen) × R p y)) ys
   led_more seen x [] led = tt

@@ -88,8 +88,7 @@ module _ (world : StoreWorld) (set : Setting) (covers : Covers world.ring) (plac
       let c = cuts.cut frame a in
       let p = placed c.0 c.1.among in
       let next = p.succ in
-      let f = cuts.frame next.0 next.1 in
-      (
+      let f = cuts.frame next.0 next.1 in (
         f.0,
         f.1,
         record {
@@ -111,16 +110,18 @@ module _ (world : StoreWorld) (set : Setting) (covers : Covers world.ring) (plac
 
   pub round_from : (frame : Frame) → Among frame set.frames → (rest : List Frame) × IsRingOf set (frame ∷ rest)
   round_from frame a =
-      let r = round FollowedBy set.frames same is_same is_apart step back frame a in
-      (r.rest, record {
-        round = record {
-          arcs = λ one b. arcs_of one (within one b);
-          next = λ x y one other e. chain_next FollowedBy frame r.rest x y one other r.chain e;
-          last = λ x y one other e f. subst (λ z. FollowedBy z other) (chain_last frame r.rest x one e) (subst (λ z. FollowedBy (last_from frame r.rest) z) (first_of other y f) r.closes);
-          distinct = λ x y one e. names_apart one x (before_apart (frame ∷ r.rest) x y one (own_apart r.rest r.none, r.distinct) e) (before_among y one x (subst (Each (λ z. Among z set.frames)) e (a, r.among))) (middle_among y one x (subst (Each (λ z. Among z set.frames)) e (a, r.among)));
-        };
-        within = within;
-      })
+      let r = round FollowedBy set.frames same is_same is_apart step back frame a in (
+        r.rest,
+        record {
+          round = record {
+            arcs = λ one b. arcs_of one (within one b);
+            next = λ x y one other e. chain_next FollowedBy frame r.rest x y one other r.chain e;
+            last = λ x y one other e f. subst (λ z. FollowedBy z other) (chain_last frame r.rest x one e) (subst (λ z. FollowedBy (last_from frame r.rest) z) (first_of other y f) r.closes);
+            distinct = λ x y one e. names_apart one x (before_apart (frame ∷ r.rest) x y one (own_apart r.rest r.none, r.distinct) e) (before_among y one x (subst (Each (λ z. Among z set.frames)) e (a, r.among))) (middle_among y one x (subst (Each (λ z. Among z set.frames)) e (a, r.among)));
+          };
+          within = within;
+        },
+      )
     where
       r_ : IsRound FollowedBy set.frames same is_same is_apart step back frame a [] frame
       r_ = round FollowedBy set.frames same is_same is_apart step back frame a
