@@ -1,3 +1,4 @@
 pub mod Charting
+pub mod Ends
 pub mod Following
 pub mod Fronts

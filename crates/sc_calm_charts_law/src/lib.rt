@@ -2,6 +2,7 @@
 //! journal, by its last quiet part, its replicas and their groups. Definitions and laws, no logic.
 #![tactic(auto)]
 
+ghost use Rattle.sc_calm_charts_law.specs.Ends.{EndsFall};
 ghost use Rattle.sc_calm_charts_law.specs.Following.{ChartsFollow, LedStandOnce, QuietChartsRest};
 
 /// The chart after a row that comes in time follows that of the rows before it, where what is to
@@ -18,4 +19,10 @@ pub fn quiet_charts_rest()
 /// Each group that is led after some of the rows stands once among the groups of the chart.
 pub fn led_stand_once()
     ensures { LedStandOnce }
+{}
+
+/// Where groups go one after another, each is farther by one end from one that stands than the one
+/// that it went into.
+pub fn ends_fall()
+    ensures { EndsFall }
 {}

@@ -1,0 +1,17 @@
+-- How far groups that are gone are away from those that stand.
+use Rattle.std.specs.Prelude.{◌≡◌, ℕ, ◌+◌, ◌<◌, ◌≤◌, length, List, Option, Some, is_some, true}
+use Rattle.sc_base.specs.declared.names.Draw.{Draw}
+use Rattle.sc_cmd.specs.declared.links.Route.{Route}
+use Rattle.sc_node_table.specs.Replica.{ReplicaState}
+use Rattle.sc_calm_charts_law.specs.Charting.{went_in, ends_by}
+
+-- Groups go one after another: by these numbers, of which there are fewer than names, each goes into one that stands or goes later.
+abbrev pub GoInTurn : List Draw → List ReplicaState → (Draw → ℕ) → Type 0
+GoInTurn names replicas turn =
+    (group : Draw) (into : Route) → went_in group replicas ≡ Some into → (turn group < length names) × (is_some (went_in into.group replicas) ≡ true → turn group < turn into.group)
+
+-- So each is farther by one end from one that stands than the one that it went into.
+abbrev pub EndsFall : Type 0
+EndsFall =
+    (names : List Draw) (replicas : List ReplicaState) (turn : Draw → ℕ) → GoInTurn names replicas turn
+    → (group : Draw) (into : Route) → went_in group replicas ≡ Some into → ends_by (length names) replicas into.group + 1 ≤ ends_by (length names) replicas group
