@@ -10,9 +10,9 @@ use Rattle.sc_log_entries.specs.Parts.{IsPlaced}
 use Rattle.sc_log_entries.specs.Rings.{Covers}
 use Rattle.sc_log_entries.specs.Worlds.{StoreWorld}
 use Rattle.sc_log_entries.specs.declared.Cut.{Cut}
-use Rattle.sc_paxos_words.proofs.ListLemmas.{Each-among, Each-weaker}
+use Rattle.sc_paxos_words.proofs.ListLemmas.{Each-among}
 use Rattle.sc_budget_law.specs.CalmAsking.{IsRingOf}
-use Rattle.sc_budget_law.specs.CalmClient.{FollowedBy, AreRoundRing}
+use Rattle.sc_budget_law.specs.CalmClient.{FollowedBy}
 use Rattle.sc_budget_law.specs.CalmNode.{Setting}
 use Rattle.sc_budget_law.specs.Frames.{Frame}
 use Rattle.sc_calm_ring_law.specs.Round.{IsOfCut, AreOfCuts, StandingGroupsAreRound}

@@ -1,7 +1,6 @@
 -- That the groups that stand, of which each has a cut of the ring and is as it stands in the world, stand round the ring from any one of them on.
 use Rattle.std.specs.Prelude.{◌≡◌, ◌∷◌, List}
 use Rattle.sc_base.specs.Among.{Among}
-use Rattle.sc_log_entries.specs.Effective.{effective}
 use Rattle.sc_log_entries.specs.Parts.{IsPlaced}
 use Rattle.sc_log_entries.specs.Rings.{Covers}
 use Rattle.sc_log_entries.specs.declared.Cut.{Cut}
