@@ -34,7 +34,7 @@ use Rattle.sc_calm_settings_law.specs.Settings.{nodes_replicas, frames_after, Ar
 -- ---- lists
 
 -- what a mapped list has comes of one of its things
-from_map : {X Y : Type 0} (f : X → Y) (xs : List X) (y : Y) → Among y (map f xs) → (x : X) × Among x xs × (f x ≡ y)
+pub from_map : {X Y : Type 0} (f : X → Y) (xs : List X) (y : Y) → Among y (map f xs) → (x : X) × Among x xs × (f x ≡ y)
 from_map f [] y a = absurd a
 from_map f (x ∷ xs) y (inl e) = (x, inl refl, e)
 from_map f (x ∷ xs) y (inr more) = (let r = from_map f xs y more in (r.0, inr r.1, r.2))
@@ -65,7 +65,7 @@ module _ (named : LawfulReplicasAreNamedOnce) (words : ℕ → ℕ → ℕ × �
   player me = value player_table (node_seat as_nodes scenario.groups scenario.policy me) rows
 
   -- a replica that is seen is one of its node's
-  seen : (group : Draw) (node : ℕ) (r : ReplicaState) → at group node ≡ Some r → Among r (replicas_of (player node))
+  pub seen : (group : Draw) (node : ℕ) (r : ReplicaState) → at group node ≡ Some r → Among r (replicas_of (player node))
   seen group node r e = elim (cases_Bool (is_node node)) [
     | inl is ↦ (find_found (λ (x : ReplicaState). same_draw (name_of x) group) (replicas_of (player node)) r (sym (ap (λ b. cond b (replica_of group (replicas_of (player node))) None) is) ∙ e)).0
     | inr none ↦ absurd (none-some r (sym (ap (λ b. cond b (replica_of group (replicas_of (player node))) None) none) ∙ e))
@@ -80,7 +80,7 @@ module _ (named : LawfulReplicasAreNamedOnce) (words : ℕ → ℕ → ℕ × �
       map_among frame_at_rest (filter (λ (r : ReplicaState). r.running) (nodes_replicas scenario rows)) q.lead (Among-filter (λ (r : ReplicaState). r.running) (nodes_replicas scenario rows) q.lead here q.leads.running)
 
   -- a replica of a node is the one that is seen of its group
-  view : (me : ℕ) (r : ReplicaState) → 1 ≤ me → me ≤ scenario.nodes → Among r (replicas_of (player me)) → at (name_of r) me ≡ Some r
+  pub view : (me : ℕ) (r : ReplicaState) → 1 ≤ me → me ≤ scenario.nodes → Among r (replicas_of (player me)) → at (name_of r) me ≡ Some r
   view me r low high a =
       let n = quiet.nodes me low high in
       let once = named words scenario rows me n.0 valid lawful low high n.1 in
@@ -101,11 +101,12 @@ module _ (named : LawfulReplicasAreNamedOnce) (words : ℕ → ℕ → ℕ × �
         | inr g ↦ absurd (true≢false (sym p.1 ∙ g.stopped n.0 f.0 here))
       ]
 
+-- the nodes of a scenario have numbers of nodes
+pub nodes_numbered : ValidScenariosAreBounded → (scenario : Scenario) → IsValid scenario → (me : ℕ) → 1 ≤ me → me ≤ scenario.nodes → is_node me ≡ true
+nodes_numbered all_bounded scenario valid me low high = (let most = (all_bounded scenario valid).nodes.1 in and_from (leb 1 me) (leb me most_nodes) (le-leb 1 me low) (le-leb me most_nodes (omega (arith, high, most))))
+
 pub quiet_frames : ValidScenariosAreBounded → LawfulReplicasAreNamedOnce → QuietJournalsHaveFrames
 quiet_frames all_bounded named words scenario first rows valid lawful quiet homes = record {
-  stand = stand named words scenario first rows nodes valid lawful quiet homes;
-  are = are named words scenario first rows nodes valid lawful quiet homes;
+  stand = stand named words scenario first rows (nodes_numbered all_bounded scenario valid) valid lawful quiet homes;
+  are = are named words scenario first rows (nodes_numbered all_bounded scenario valid) valid lawful quiet homes;
 }
-  where
-    nodes : (me : ℕ) → 1 ≤ me → me ≤ scenario.nodes → is_node me ≡ true
-    nodes me low high = (let most = (all_bounded scenario valid).nodes.1 in and_from (leb 1 me) (leb me most_nodes) (le-leb 1 me low) (le-leb me most_nodes (omega (arith, high, most))))
