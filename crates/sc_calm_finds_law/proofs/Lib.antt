@@ -1,0 +1,5 @@
+pub mod Elsewhere
+pub mod Groups
+pub mod Meeting
+pub mod Rows
+pub mod Strays

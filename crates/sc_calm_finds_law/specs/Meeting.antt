@@ -1,0 +1,70 @@
+-- A mail that is delivered to a node in a journal in which its group is well led, and what it needs besides, by what it says.
+use Rattle.std.specs.Prelude.{◌≡◌, ℕ, true, false, List, [], Option, Some, None}
+use Rattle.sc_cmd.specs.declared.cores.Base.{Base}
+use Rattle.sc_mail.specs.declared.bodies.Mail.{Mail}
+use Rattle.sc_mail.specs.declared.bodies.MailBody.{MailBody}
+use Rattle.sc_mail.specs.declared.bodies.MailBody.TheVariants.{Request, Answer, Prepare, Promise, Accept, Accepted, Nack, Learn, Ask, Install, TxPrepare, TxVote, TxOutcome, TxElsewhere, TxWatch, TxWatched, Told}
+use Rattle.sc_mail.specs.declared.roles.Role.TheVariants.{Node}
+use Rattle.sc_actor.specs.declared.actors.Seat.{Seat}
+use Rattle.sc_actor.specs.declared.rows.Event.TheVariants.{Deliver}
+use Rattle.sc_actor.specs.Replay.{value}
+use Rattle.sc_orderly_law.specs.Timely.{AreInTime}
+use Rattle.sc_node_table.specs.Node.{NodeState}
+use Rattle.sc_node_table.specs.Replica.{ReplicaState}
+use Rattle.sc_sound.specs.Players.{Player, player_table}
+use Rattle.sc_calm_law.specs.Charts.{players}
+use Rattle.sc_calm_law.specs.Keeping.{MayCount, MayAskThere}
+use Rattle.sc_calm_law.specs.Laws.{Points}
+use Rattle.sc_calm_law.specs.Owed.{Ways}
+use Rattle.sc_calm_law.specs.Totals.{Rows}
+use Rattle.sc_following_law.specs.Following.{Course, Sets}
+use Rattle.sc_following_law.specs.Hints.{Tellers}
+use Rattle.sc_calm_rows_law.specs.Turns.{IsSeat, with_event}
+use Rattle.sc_calm_groups_law.specs.Kinds.{IsLedStep}
+use Rattle.sc_calm_groups_law.specs.Led.{Ends, IsWellLed}
+use Rattle.sc_calm_groups_law.specs.Through.{Delivers, HasOneLog, IsSentSo}
+
+-- In first rows of a journal a mail is delivered in time to a node; a group is well led before it, in a course from which the row goes on, its log is one, and its mail is sent so.
+pub record MeetsMail (at : Sets) (over : Ends) (by : Tellers) (words : ℕ → ℕ → ℕ × ℕ) (births : List (Seat Player)) (front rows : Rows) (seat : Seat Player) (number : ℕ) (mail : Mail) (node : NodeState) (base : Base) (course : Course) : Type 0 where
+  pub seated : IsSeat births seat
+  pub is : value player_table seat rows ≡ Node node
+  pub delivers : Delivers front rows seat number mail
+  pub timely : AreInTime (players words births) (with_event rows seat (Deliver number))
+  pub led : IsWellLed at over by words births rows base course
+  pub step : IsLedStep at over by words births rows seat (Deliver number) base course
+  pub one : HasOneLog at over by births front base
+  pub sent : IsSentSo births front base
+
+-- one that does not run keeps no reports of a promise
+abbrev pub IsPlain : ReplicaState → Type 0
+IsPlain r = r.running ≡ false → r.leader.reports ≡ []
+
+-- what a replica that takes a mail has to be besides: where it pumps, plain; where it sends others on, a hint nearer to the one that runs; a leader may count a vote; and a state is of a group that stands
+abbrev pub NeedsBesides : Ways → ReplicaState → MailBody → Type 0
+NeedsBesides ways r (Request group client seq op) = IsPlain r × Points ways group r
+NeedsBesides ways r (Prepare group ballot from_slot) = Unit {0}
+NeedsBesides ways r (Promise group ballot reports) = IsPlain r
+NeedsBesides ways r (Accept group ballot slot command) = Unit {0}
+NeedsBesides ways r (Accepted group ballot slot) = r.running ≡ true → MayCount slot r
+NeedsBesides ways r (Nack group promised) = Unit {0}
+NeedsBesides ways r (Learn group slot command) = Unit {0}
+NeedsBesides ways r (Ask group from_slot) = Unit {0}
+NeedsBesides ways r (Install group slot state sets) = state.core.gone ≡ None
+NeedsBesides ways r (TxPrepare tx offer) = IsPlain r × Points ways offer.part r × (ways.asks tx ≡ Some (offer.part, false))
+NeedsBesides ways r (TxVote tx coord part vote) = IsPlain r
+NeedsBesides ways r (TxOutcome tx part outcome) = IsPlain r
+NeedsBesides ways r (TxElsewhere tx coord hint) = MayAskThere ways tx r hint
+NeedsBesides ways r (TxWatch tx watch) = IsPlain r × Points ways watch.part r × (ways.asks tx ≡ Some (watch.part, true))
+NeedsBesides ways r (TxWatched tx coord part vote) = IsPlain r
+NeedsBesides ways r (Answer group seq answer) = Unit {0}
+NeedsBesides ways r (Told order result) = Unit {0}
+
+-- .. where a node has no replica of the group, no request comes
+abbrev pub IsNoRequest : MailBody → Type 0
+IsNoRequest (Request group client seq op) = ⊥
+IsNoRequest body = Unit {0}
+
+-- .. by what the node has
+abbrev pub NeedsAt : Ways → Option ReplicaState → MailBody → Type 0
+NeedsAt ways None body = IsNoRequest body
+NeedsAt ways (Some r) body = NeedsBesides ways r body

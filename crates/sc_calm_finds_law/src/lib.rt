@@ -1,0 +1,25 @@
+//! That mail which comes to a node in a journal in which its group is well led finds what the law
+//! of calm scenarios asks of it. Definitions and laws, no logic.
+#![tactic(auto)]
+
+ghost use Rattle.sc_calm_finds_law.specs.Finding.{GroupMailFinds, MailIsForItsNode, StrayMailFinds};
+
+use sc_scenario::valid_scenarios_are_bounded;
+
+/// Mail of a group that is well led, delivered to a node, finds what is asked of it, where it has
+/// what its kind needs besides.
+pub fn group_mail_finds()
+    ensures { GroupMailFinds }
+{
+    valid_scenarios_are_bounded();
+}
+
+/// Mail of no group finds it too: answers come to clients, and what came of orders to the desk.
+pub fn stray_mail_finds()
+    ensures { StrayMailFinds }
+{}
+
+/// And mail that is delivered to a node is for it.
+pub fn mail_is_for_its_node()
+    ensures { MailIsForItsNode }
+{}
