@@ -51,8 +51,8 @@ use Rattle.sc_calm_groups_law.specs.Led.{Ends, hint_in, hints_at}
 use Rattle.sc_calm_groups_law.specs.Logged.{IsOfLog, IsLogsState}
 use Rattle.sc_calm_groups_law.specs.Through.{IsWellPlayer, AreWellBorn}
 use Rattle.sc_calm_finds_law.specs.Meeting.{MeetsMail, IsPlain, NeedsBesides, IsNoRequest, NeedsAt}
-use Rattle.sc_calm_finds_law.proofs.Elsewhere.{IsApart, owes_same, owes_most, at_most, stands_here, elsewhere_apart, apart_off}
-use Rattle.sc_calm_finds_law.proofs.Rows.{next_with, still_named, IsLeft, left_by, nines_at, stays_behind, installed_stands}
+use Rattle.sc_calm_finds_law.proofs.Elsewhere.{IsApart, owes_same, owes_most, at_most, stands_here, elsewhere_apart, apart_off, none_of}
+use Rattle.sc_calm_finds_law.proofs.Rows.{next_with, still_named, IsLeft, left_by, nines_at, stays_behind}
 
 -- a player that is born well, as what is said of it later
 pub plays_of : (who : ℕ) (player : Player) → IsWellPlayer who player → Plays who player
@@ -286,7 +286,14 @@ module _ (at : Sets) (over : Ends) (by : Tellers) (words : ℕ → ℕ → ℕ �
 
     -- ---- a state
 
-    module _ (slot : ℕ) (state : Base) (sets : List (List ℕ)) (body : mail.body ≡ Install base.core.id slot state sets) (stands : state.core.gone ≡ None) where
+    module _ (slot : ℕ) (state : Base) (sets : List (List ℕ)) (body : mail.body ≡ Install base.core.id slot state sets) where
+      -- the replica is of a group that stands then
+      stands_then : led_elsewhere births rows seat.who base.core.id ≡ true → (mailed mail.from mail.body (r, [])).0.0.group.core.gone ≡ None
+      stands_then e =
+          let place : next after.0 ≡ suc slot = (left e).1 ∙ (ap (next_with (next r)) marked ∙ ap (next_with (next r)) (state_mark slot state sets body)) in
+          let same : next after.0 ≡ slot + 1 = omega (arith, place) in
+          none_of after.0.group.core.gone (log_after.ends ∙ (ap over same ∙ m.standing slot state sets body))
+
       pub installs : Calm
       installs =
           let is = state_mark slot state sets body in
@@ -294,9 +301,7 @@ module _ (at : Sets) (over : Ends) (by : Tellers) (words : ℕ → ℕ → ℕ �
           let up = within at words births rows seat node base course scene number mail takes (Installs slot) is in
           let off = led_off at words births rows seat node base course scene r row.was (no_leader slot state sets body) in
           let stood = stands_here at over by words births front rows behind base course m.one begins m.led seat.who r row.was (omega (arith, at_least, up)) in
-          takes_so (Install name slot state sets) body (off, stood)
-          (λ e. owes_most r after.0 (left e).0
-          (ap (λ (x : MailBody). (mailed mail.from x (r, [])).0.0.group.core.gone) body ∙ installed_stands mail.from slot name state sets r off stood stands (sent_member slot state sets body)))
+          takes_so (Install name slot state sets) body (off, stood) (λ e. owes_most r after.0 (left e).0 (stands_then e))
 
     -- ---- each body
 
@@ -325,7 +330,7 @@ module _ (at : Sets) (over : Ends) (by : Tellers) (words : ℕ → ℕ → ℕ �
         takes_still (Nack g promised) e (m.sent.nacks rows seat number mail promised r m.delivers body row.was) refl
     by_body (Learn g slot command) e k = learns slot command (e ∙ ap (λ n. Learn n slot command) (some_is g name (sym (ap group_of_mail e) ∙ group)))
     by_body (Ask g from_slot) e k = absurd (m.sent.asks rows seat number mail from_slot m.delivers (e ∙ ap (λ n. Ask n from_slot) (some_is g name (sym (ap group_of_mail e) ∙ group))))
-    by_body (Install g slot state sets) e k = installs slot state sets (e ∙ ap (λ n. Install n slot state sets) (some_is g name (sym (ap group_of_mail e) ∙ group))) k
+    by_body (Install g slot state sets) e k = installs slot state sets (e ∙ ap (λ n. Install n slot state sets) (some_is g name (sym (ap group_of_mail e) ∙ group)))
     by_body (TxPrepare tx offer) e k = takes_still (TxPrepare tx offer) e (pumps k.0, k.1, k.2) refl
     by_body (TxVote tx coord part vote) e k = takes_still (TxVote tx coord part vote) e (pumps k) refl
     by_body (TxOutcome tx part outcome) e k = takes_still (TxOutcome tx part outcome) e (pumps k) refl

@@ -8,16 +8,12 @@ use Rattle.sc_cmd.specs.declared.commands.Command.{Command}
 use Rattle.sc_cmd.specs.declared.cores.Base.{Base}
 use Rattle.sc_cmd.specs.declared.orders.OrderLine.{OrderLine}
 use Rattle.sc_cmd.specs.declared.links.Route.{Route}
-use Rattle.sc_mail.specs.declared.bodies.MailBody.TheVariants.{Install}
 use Rattle.sc_member.specs.Roster.{IsRoster, is_member}
 use Rattle.sc_actor.specs.declared.actors.Seat.{Seat}
 use Rattle.sc_actor.specs.declared.rows.Event.{Event}
 use Rattle.sc_actor.specs.Mail.{mails}
 use Rattle.sc_node_table.specs.Execute.{entered, looked}
-use Rattle.sc_node_table.specs.Install.{jumped}
 use Rattle.sc_node_table.specs.Replica.{ReplicaState, Place, members, next, last_slot, forgotten}
-use Rattle.sc_node_table.specs.Rows.{mailed, install_row, took_over, looked_up}
-use Rattle.sc_node_table.specs.Election.{stopped}
 use Rattle.sc_sound.specs.Players.{Player}
 use Rattle.sc_calm_law.specs.Laws.{AreNines}
 use Rattle.sc_calm_law.specs.Led.{StaysBehind}
@@ -108,20 +104,3 @@ pub stays_behind : (command : Command) (r : ReplicaState) → r.running ≡ fals
 stays_behind command r off none stays =
     let P : Place → Type 0 = λ (p : Place). p.0.running ≡ false in
     looks command r off none P (looked_same P (over command r off none) (place2 command r off none).1 (over_off command r off none) stays (λ hint. over_off command r off none))
-
--- a state of a group that stands, taken over by a replica whose group stands, leaves it so
-jumped_stands : (from slot : ℕ) (base : Base) (sets : List (List ℕ)) (r : ReplicaState) → base.core.gone ≡ None → is_member base.core.members from ≡ true → (looked_up from (jumped slot base sets r, [])).0.group.core.gone ≡ None
-unfolding looked_up jumped forgotten
-jumped_stands from slot base sets r stands mine = ap (λ b. (cond {A = Place} b (record (jumped slot base sets r) { hint = Some from }, []) (looked (jumped slot base sets r, []))).0.group.core.gone) mine ∙ stands
-
-pub installed_stands : (from slot : ℕ) (group : Draw) (base : Base) (sets : List (List ℕ)) (r : ReplicaState) → r.running ≡ false → r.group.core.gone ≡ None → base.core.gone ≡ None → is_member base.core.members from ≡ true
-    → (mailed from (Install group slot base sets) (r, [])).0.0.group.core.gone ≡ None
-unfolding mailed install_row took_over
-installed_stands from slot group base sets r off here stands mine = by (not (eqb (length sets) (length r.sets)) || (nat_lt last_slot slot || nat_lt slot (next r)))
-  where
-    taken : (took_over from slot base sets (r, [])).0.group.core.gone ≡ None
-    taken = subst (λ (p : Place). (looked_up from (jumped slot base sets p.0, p.1)).0.group.core.gone ≡ None) (sym (ap (λ b. cond {A = Place} b (stopped (Some from) (r, [])) (r, [])) off)) (jumped_stands from slot base sets r stands mine)
-
-    by : (b : Bool) → (cond {A = Place} b (r, []) (took_over from slot base sets (r, []))).0.group.core.gone ≡ None
-    by true = here
-    by false = taken

@@ -54,15 +54,19 @@ module _ (words : ℕ → ℕ → ℕ × ℕ) (scenario : Scenario) (rows : Rows
   before : AreInTime (players words (births as_nodes scenario)) rows
   before = in_time_before (players words all) rows row timely
 
-  pub to_seat : mail.to ≡ seat.who
-  to_seat =
+  -- the node takes the first mail that is pending for it
+  pub calm_here : IsCalmEvent (players words (births as_nodes scenario)) rows seat.who (Deliver number)
+  calm_here =
       let c = (last_in_time (players words all) rows row timely).0 in
       let event : c.event ≡ Deliver number = sym (ap (λ (r : Row Mail OrderLine). r.event) c.row_is) in
       let who : c.seat.who ≡ seat.who = sym (ap (λ (r : Row Mail OrderLine). r.who) c.row_is) in
-      let first = subst (λ (e : Event OrderLine). IsCalmEvent (players words all) rows c.seat.who e) event c.calm in
-      let f = takes_first (players words all) rows c.seat.who number (in_time_tidy (players words all) rows before) (is_born-from (players words all) c.seat.who c.seat c.born) first in
+      subst (λ n. IsCalmEvent (players words all) rows n (Deliver number)) who (subst (λ (e : Event OrderLine). IsCalmEvent (players words all) rows c.seat.who e) event c.calm)
+
+  pub to_seat : mail.to ≡ seat.who
+  to_seat =
+      let f = takes_first (players words all) rows seat.who number (in_time_tidy (players words all) rows before) (is_born-from (players words all) seat.who seat born) calm_here in
       let same : mail ≡ f.mail = same_some (numbered (mails rows) number) mail f.mail sent f.sent in
-      ap (λ (m : Mail). m.to) same ∙ (f.receiver ∙ who)
+      ap (λ (m : Mail). m.to) same ∙ f.receiver
 
   told_none : (order : ℕ) (result : ToldResult) → mail.body ≡ ToldMail order result → ⊥
   told_none order result e =

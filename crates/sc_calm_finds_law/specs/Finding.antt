@@ -1,9 +1,10 @@
 -- That mail which is delivered in a journal in which its group is well led finds what the law of calm scenarios asks of it.
-use Rattle.std.specs.Prelude.{◌≡◌, ℕ, List, Option, Some, None}
+use Rattle.std.specs.Prelude.{◌≡◌, ℕ, ◌+◌, false, List, ◌++◌, Option, Some, None}
 use Rattle.sc_base.specs.declared.names.Draw.{Draw}
 use Rattle.sc_cmd.specs.declared.cores.Base.{Base}
 use Rattle.sc_mail.specs.declared.bodies.Mail.{Mail}
 use Rattle.sc_mail.specs.declared.bodies.MailBody.{MailBody}
+use Rattle.sc_mail.specs.declared.bodies.MailBody.TheVariants.{Install}
 use Rattle.sc_mail.specs.declared.roles.Role.TheVariants.{Node}
 use Rattle.sc_actor.specs.declared.actors.Seat.{Seat}
 use Rattle.sc_actor.specs.declared.rows.Event.TheVariants.{Deliver}
@@ -23,7 +24,9 @@ use Rattle.sc_following_law.specs.Following.{Course}
 use Rattle.sc_following_law.specs.Hints.{Tellers}
 use Rattle.sc_calm_rows_law.specs.Turns.{IsSeat, with_event}
 use Rattle.sc_calm_logs_law.specs.Logged.{logged_sets, IsGroupOf}
+use Rattle.sc_calm_groups_law.specs.Through.{Delivers, IsSentSo}
 use Rattle.sc_calm_led_law.specs.Led.{over_at}
+use Rattle.sc_calm_led_law.specs.Tellers.{AreFew}
 use Rattle.sc_calm_finds_law.specs.Meeting.{MeetsMail, NeedsAt}
 
 -- what is asked of a mail to a node, by a chart
@@ -47,7 +50,22 @@ FindWhere Which =
 abbrev pub GroupMailFinds : Type 0
 GroupMailFinds = FindWhere NeedsAt
 
--- .. and of mail of no group, which comes to no node or changes nothing there
+-- In first rows of a journal whose rows come in time, where the group's mail is sent so, each state of it that is delivered is of the group while it stands ..
+abbrev pub StatesStand : Type 0
+StatesStand =
+    (words : ℕ → ℕ → ℕ × ℕ) (scenario : Scenario) (journal front more : Rows) (base : Base) → IsGroupOf as_nodes words scenario journal base → AreInTime (players words (births as_nodes scenario)) journal → AreFew as_nodes scenario journal base → journal ≡ front ++ more
+    → IsSentSo (births as_nodes scenario) front base
+    → (rows : Rows) (seat : Seat Player) (number : ℕ) (mail : Mail) (slot : ℕ) (state : Base) (sets : List (List ℕ)) → Delivers front rows seat number mail → mail.body ≡ Install base.core.id slot state sets → over_at as_nodes base journal (slot + 1) ≡ false
+
+-- .. so all its mail that is delivered to a node there finds what is asked of it, where it has what it needs besides ..
+abbrev pub JournalMailFinds : Type 0
+JournalMailFinds =
+    (chart : Chart) (words : ℕ → ℕ → ℕ × ℕ) (scenario : Scenario) (journal front more : Rows) (base : Base) → IsGroupOf as_nodes words scenario journal base → AreInTime (players words (births as_nodes scenario)) journal → AreFew as_nodes scenario journal base → journal ≡ front ++ more
+    → IsSentSo (births as_nodes scenario) front base
+    → (rows : Rows) (seat : Seat Player) (number : ℕ) (mail : Mail) (node : NodeState) → Delivers front rows seat number mail → IsSeat (births as_nodes scenario) seat → value player_table seat rows ≡ Node node
+    → group_of_mail mail.body ≡ Some base.core.id → StandsOnce base.core.id chart.groups → NeedsAt chart.ways (replica_of base.core.id node.replicas) mail.body → FindsBy chart (births as_nodes scenario) rows seat.who mail node
+
+-- .. and so does mail of no group, which comes to no node or changes nothing there
 abbrev pub StrayMailFinds : Type 0
 StrayMailFinds =
     (ways : Ways) (groups : List Draw) (elsewhere : Elsewhere) (words : ℕ → ℕ → ℕ × ℕ) (scenario : Scenario) (rows : Rows) (seat : Seat Player) (number : ℕ) (mail : Mail) (node : NodeState)

@@ -1,5 +1,5 @@
 -- A mail that is delivered to a node in a journal in which its group is well led, and what it needs besides, by what it says.
-use Rattle.std.specs.Prelude.{◌≡◌, ℕ, true, false, List, [], Option, Some, None}
+use Rattle.std.specs.Prelude.{◌≡◌, ℕ, ◌+◌, true, false, List, [], Option, Some, None}
 use Rattle.sc_cmd.specs.declared.cores.Base.{Base}
 use Rattle.sc_mail.specs.declared.bodies.Mail.{Mail}
 use Rattle.sc_mail.specs.declared.bodies.MailBody.{MailBody}
@@ -24,7 +24,7 @@ use Rattle.sc_calm_groups_law.specs.Kinds.{IsLedStep}
 use Rattle.sc_calm_groups_law.specs.Led.{Ends, IsWellLed}
 use Rattle.sc_calm_groups_law.specs.Through.{Delivers, HasOneLog, IsSentSo}
 
--- In first rows of a journal a mail is delivered in time to a node; a group is well led before it, in a course from which the row goes on, its log is one, and its mail is sent so.
+-- In first rows of a journal a mail is delivered in time to a node; a group is well led before it, in a course from which the row goes on, its log is one, its mail is sent so, and no state of it is sent when it is gone.
 pub record MeetsMail (at : Sets) (over : Ends) (by : Tellers) (words : ℕ → ℕ → ℕ × ℕ) (births : List (Seat Player)) (front rows : Rows) (seat : Seat Player) (number : ℕ) (mail : Mail) (node : NodeState) (base : Base) (course : Course) : Type 0 where
   pub seated : IsSeat births seat
   pub is : value player_table seat rows ≡ Node node
@@ -34,12 +34,13 @@ pub record MeetsMail (at : Sets) (over : Ends) (by : Tellers) (words : ℕ → �
   pub step : IsLedStep at over by words births rows seat (Deliver number) base course
   pub one : HasOneLog at over by births front base
   pub sent : IsSentSo births front base
+  pub standing : (slot : ℕ) (state : Base) (sets : List (List ℕ)) → mail.body ≡ Install base.core.id slot state sets → over (slot + 1) ≡ false
 
 -- one that does not run keeps no reports of a promise
 abbrev pub IsPlain : ReplicaState → Type 0
 IsPlain r = r.running ≡ false → r.leader.reports ≡ []
 
--- what a replica that takes a mail has to be besides: where it pumps, plain; where it sends others on, a hint nearer to the one that runs; a leader may count a vote; and a state is of a group that stands
+-- what a replica that takes a mail has to be besides: where it pumps, plain; where it sends others on, a hint nearer to the one that runs; and a leader may count a vote
 abbrev pub NeedsBesides : Ways → ReplicaState → MailBody → Type 0
 NeedsBesides ways r (Request group client seq op) = IsPlain r × Points ways group r
 NeedsBesides ways r (Prepare group ballot from_slot) = Unit {0}
@@ -49,7 +50,7 @@ NeedsBesides ways r (Accepted group ballot slot) = r.running ≡ true → MayCou
 NeedsBesides ways r (Nack group promised) = Unit {0}
 NeedsBesides ways r (Learn group slot command) = Unit {0}
 NeedsBesides ways r (Ask group from_slot) = Unit {0}
-NeedsBesides ways r (Install group slot state sets) = state.core.gone ≡ None
+NeedsBesides ways r (Install group slot state sets) = Unit {0}
 NeedsBesides ways r (TxPrepare tx offer) = IsPlain r × Points ways offer.part r × (ways.asks tx ≡ Some (offer.part, false))
 NeedsBesides ways r (TxVote tx coord part vote) = IsPlain r
 NeedsBesides ways r (TxOutcome tx part outcome) = IsPlain r

@@ -2,8 +2,9 @@
 //! of calm scenarios asks of it. Definitions and laws, no logic.
 #![tactic(auto)]
 
-ghost use Rattle.sc_calm_finds_law.specs.Finding.{GroupMailFinds, MailIsForItsNode, StrayMailFinds};
+ghost use Rattle.sc_calm_finds_law.specs.Finding.{GroupMailFinds, JournalMailFinds, MailIsForItsNode, StatesStand, StrayMailFinds};
 
+use sc_calm_led_law::{groups_are_led, led_logs_are_one, led_rows_go_on};
 use sc_scenario::valid_scenarios_are_bounded;
 
 /// Mail of a group that is well led, delivered to a node, finds what is asked of it, where it has
@@ -12,6 +13,26 @@ pub fn group_mail_finds()
     ensures { GroupMailFinds }
 {
     valid_scenarios_are_bounded();
+}
+
+/// Nobody comes to a group by the entry by which it goes, so no state of a group that is gone is
+/// sent.
+pub fn states_stand()
+    ensures { StatesStand }
+{
+    led_rows_go_on();
+}
+
+/// So all mail of a group, in first rows of a journal whose rows come in time, finds what is asked
+/// of it, where it has what its kind needs besides.
+pub fn journal_mail_finds()
+    ensures { JournalMailFinds }
+{
+    groups_are_led();
+    led_logs_are_one();
+    led_rows_go_on();
+    group_mail_finds();
+    states_stand();
 }
 
 /// Mail of no group finds it too: answers come to clients, and what came of orders to the desk.
