@@ -1,9 +1,7 @@
 -- What a mail of a group that is well led finds at the node that it comes to, by what it says.
-use Rattle.std.proofs.Common.{◌≡◌, ℕ, suc, ◌+◌, ◌≤◌, Bool, true, false, true≢false, List, [], ◌∷◌, ◌++◌, Option, Some, None, ◌⊎◌, inl, inr, refl, sym, ◌∙◌, ap, subst, arith, append_assoc}
-use Rattle.std.specs.Prelude.{is_some}
+use Rattle.std.proofs.Common.{◌≡◌, ℕ, suc, ◌+◌, ◌≤◌, true, false, true≢false, List, [], ◌∷◌, ◌++◌, Option, Some, None, ◌⊎◌, inl, inr, refl, sym, ◌∙◌, ap, subst, arith, append_assoc}
 use Rattle.std.proofs.lemmas.Bool.{cases_Bool}
 use Rattle.sc_base.specs.Among.{Each}
-use Rattle.sc_base.specs.declared.names.Ballot.{Ballot}
 use Rattle.sc_base.specs.declared.names.Draw.{Draw}
 use Rattle.sc_cmd.specs.declared.commands.Command.{Command}
 use Rattle.sc_cmd.specs.declared.cores.Base.{Base}
@@ -19,26 +17,25 @@ use Rattle.sc_actor.specs.System.{are_apart, row_of}
 use Rattle.sc_paxos_words.specs.Ballots.{below}
 use Rattle.sc_node_table.specs.Execute.{entered}
 use Rattle.sc_node_table.specs.Node.{NodeState, replica_of, group_of_mail, may_come}
-use Rattle.sc_node_table.specs.Replica.{ReplicaState, Place, name_of, next}
-use Rattle.sc_node_table.specs.Rows.{mailed, made_by}
-use Rattle.sc_law_lemmas.specs.Steps.{GoesOn}
+use Rattle.sc_node_table.specs.Replica.{ReplicaState, Place, next}
+use Rattle.sc_node_table.specs.Rows.{mailed}
 use Rattle.sc_law_lemmas.proofs.Entries.{entered_next}
 use Rattle.sc_sound.specs.Players.{Player, player_table}
 use Rattle.sc_calm_law.specs.Charts.{players}
-use Rattle.sc_calm_law.specs.Keeping.{MayCount, MayTake, MayLearn, StaysIn, TakesCalmly, IsCalmMailAt, Takes as TakesAt, Learns as LearnsAt, Makes as MakesAt, Misses as MissesAt}
+use Rattle.sc_calm_law.specs.Keeping.{MayCount, MayTake, StaysIn, IsCalmMailAt, Takes as TakesAt, Learns as LearnsAt, Makes as MakesAt, Misses as MissesAt}
 use Rattle.sc_calm_law.specs.Laws.{MayPump, Follows}
 use Rattle.sc_calm_law.specs.Nodes.{group_owes, after_mail, MayMiss}
 use Rattle.sc_calm_law.specs.Owed.{Ways}
 use Rattle.sc_calm_law.specs.Parties.{Elsewhere, StandsOnce}
 use Rattle.sc_calm_law.specs.Totals.{Rows, led_elsewhere}
 use Rattle.sc_calm_law.proofs.OwedLearn.{unbound_new}
-use Rattle.sc_following_law.specs.Following.{Mark, Asks, Votes, Tells, Installs, Prepares, Promises, mark_of, IsFit, Course, Progress, Sets, members_at}
+use Rattle.sc_following_law.specs.Following.{Mark, Asks, Votes, Tells, Installs, Prepares, Promises, mark_of, Course, Progress, Sets, members_at}
 use Rattle.sc_following_law.specs.Heeding.{IsHeir}
 use Rattle.sc_following_law.specs.Hints.{Tellers, AreHeeded}
 use Rattle.sc_following_law.specs.Tables.{Stays}
 use Rattle.sc_following_law.proofs.Nodes.{same_mark, states}
 use Rattle.sc_following_law.proofs.TableHints.{heirs_elect}
-use Rattle.sc_calm_rows_law.specs.Groups.{view_at, next_in, promise_in, progress_at, marks_at, mark_in, taken_mark}
+use Rattle.sc_calm_rows_law.specs.Groups.{view_at, promise_in, progress_at, marks_at, mark_in, taken_mark}
 use Rattle.sc_calm_rows_law.specs.Mailed.{IsScene, TakesMail, HoldsReplica}
 use Rattle.sc_calm_rows_law.specs.Turns.{with_event, IsReplicasRow}
 use Rattle.sc_calm_rows_law.specs.WellKept.{IsWellKept}
@@ -51,7 +48,7 @@ use Rattle.sc_calm_groups_law.specs.Led.{Ends, hint_in, hints_at}
 use Rattle.sc_calm_groups_law.specs.Logged.{IsOfLog, IsLogsState}
 use Rattle.sc_calm_groups_law.specs.Through.{IsWellPlayer, AreWellBorn}
 use Rattle.sc_calm_finds_law.specs.Meeting.{MeetsMail, IsPlain, NeedsBesides, IsNoRequest, NeedsAt}
-use Rattle.sc_calm_finds_law.proofs.Elsewhere.{IsApart, owes_same, owes_most, at_most, stands_here, elsewhere_apart, apart_off, none_of}
+use Rattle.sc_calm_finds_law.proofs.Elsewhere.{IsApart, owes_same, owes_most, stands_here, elsewhere_apart, apart_off, none_of}
 use Rattle.sc_calm_finds_law.proofs.Rows.{next_with, still_named, IsLeft, left_by, nines_at, stays_behind}
 
 -- a player that is born well, as what is said of it later

@@ -1,19 +1,16 @@
 -- What a row leaves of a replica that does not run, where another leads its group or the group is gone.
-use Rattle.std.proofs.Common.{◌≡◌, ℕ, suc, ◌+◌, ◌≤◌, ◌||◌, not, eqb, nat_lt, Bool, true, false, true≢false, cond, List, [], ◌∷◌, length, Option, Some, None, inl, inr, refl, sym, ◌∙◌, ap, subst, arith}
-use Rattle.std.proofs.lemmas.Bool.{cases_Bool}
-use Rattle.sc_base.specs.Among.{Each}
+use Rattle.std.proofs.Common.{◌≡◌, ℕ, ◌+◌, ◌≤◌, Bool, true, false, true≢false, cond, List, [], ◌∷◌, length, Option, Some, None, inl, inr, refl, sym, ◌∙◌, ap, subst}
 use Rattle.sc_base.specs.Same.{same_draw}
 use Rattle.sc_base.specs.declared.names.Draw.{Draw}
 use Rattle.sc_cmd.specs.declared.commands.Command.{Command}
 use Rattle.sc_cmd.specs.declared.cores.Base.{Base}
 use Rattle.sc_cmd.specs.declared.orders.OrderLine.{OrderLine}
-use Rattle.sc_cmd.specs.declared.links.Route.{Route}
-use Rattle.sc_member.specs.Roster.{IsRoster, is_member}
+use Rattle.sc_member.specs.Roster.{IsRoster}
 use Rattle.sc_actor.specs.declared.actors.Seat.{Seat}
 use Rattle.sc_actor.specs.declared.rows.Event.{Event}
 use Rattle.sc_actor.specs.Mail.{mails}
-use Rattle.sc_node_table.specs.Execute.{entered, looked}
-use Rattle.sc_node_table.specs.Replica.{ReplicaState, Place, members, next, last_slot, forgotten}
+use Rattle.sc_node_table.specs.Execute.{entered}
+use Rattle.sc_node_table.specs.Replica.{ReplicaState, Place, next}
 use Rattle.sc_sound.specs.Players.{Player}
 use Rattle.sc_calm_law.specs.Laws.{AreNines}
 use Rattle.sc_calm_law.specs.Led.{StaysBehind}
@@ -73,15 +70,13 @@ module _ (at : Sets) (over : Ends) (by : Tellers) (births : List (Seat Player)) 
   left_by later (RowPasses same leaves) = passes (leaves.idle course).takes leaves.view
   left_by later (RowRests same q then_ row_ off_ still idle) =
       let q_is : q ≡ r = was_is q row_.was in
-      let t_is : then_.0 ≡ after.0 = then_is then_.0 row_.is in
-      (
+      let t_is : then_.0 ≡ after.0 = then_is then_.0 row_.is in (
         sym (ap (λ (x : ReplicaState). x.running) t_is) ∙ still.off,
         sym (ap next t_is) ∙ (still.next_is ∙ (ap next q_is ∙ sym (ap (next_with (next r)) idle.takes))),
       )
   left_by later (RowTakes same q then_ mark row_ takes steps kind) =
       let q_is : q ≡ r = was_is q row_.was in
-      let t_is : then_.0 ≡ after.0 = then_is then_.0 row_.is in
-      (
+      let t_is : then_.0 ≡ after.0 = then_is then_.0 row_.is in (
         sym (ap (λ (x : ReplicaState). x.running) t_is) ∙ (steps.runs ∙ (ap (λ (x : ReplicaState). x.running) q_is ∙ off)),
         sym (ap next t_is) ∙ (steps.reaches ∙ (ap (λ (x : ReplicaState). next_by (next x) mark) q_is ∙ sym (ap (next_with (next r)) takes))),
       )

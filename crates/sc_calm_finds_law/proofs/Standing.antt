@@ -1,5 +1,5 @@
 -- No state of a group that is gone is sent: nobody comes to it by the entry by which it goes.
-use Rattle.std.proofs.Common.{◌≡◌, ℕ, zero, suc, ◌+◌, ◌-◌, ◌<◌, ◌≤◌, eqb, Bool, true, false, true≢false, cond, take, List, [], ◌∷◌, ◌++◌, Some, None, ◌⊎◌, inl, inr, refl, sym, ◌∙◌, ap, subst, arith, append_assoc, append-nil}
+use Rattle.std.proofs.Common.{◌≡◌, ℕ, zero, suc, ◌+◌, ◌-◌, eqb, true, false, true≢false, cond, take, List, [], ◌∷◌, ◌++◌, inl, inr, sym, ◌∙◌, ap, subst, arith, append_assoc}
 use Rattle.std.specs.Prelude.{is_some}
 use Rattle.std.proofs.lemmas.Bool.{cases_Bool, cond_both}
 use Rattle.sc_base.specs.Among.{Among, Each}
@@ -36,7 +36,6 @@ use Rattle.sc_following_law.specs.Tables.{marks_for}
 use Rattle.sc_following_law.proofs.Marks.{among-either}
 use Rattle.sc_following_law.proofs.Nodes.{same_mark}
 use Rattle.sc_calm_rows_law.specs.Steps.{led_course}
-use Rattle.sc_calm_rows_law.specs.Turns.{with_event}
 use Rattle.sc_calm_logs_law.specs.Logged.{logged_sets, IsGroupOf}
 use Rattle.sc_calm_groups_law.specs.Kinds.{IsGroupRow, RowPasses, RowRests, RowTakes, RowMakes, RowLeads, RowElects}
 use Rattle.sc_calm_groups_law.specs.Led.{Ends}

@@ -1,5 +1,5 @@
 -- Mail that is delivered to a node is for it, and what came of an order is for the desk, which is no node.
-use Rattle.std.proofs.Common.{◌≡◌, ℕ, eqb, eq-eqb, true, false, true≢false, List, [], ◌∷◌, ◌++◌, find, Option, Some, None, refl, sym, ◌∙◌, ap, subst}
+use Rattle.std.proofs.Common.{◌≡◌, ℕ, eqb, List, [], find, Some, None, refl, sym, ◌∙◌, ap, subst}
 use Rattle.sc_base.specs.declared.names.Draw.{Draw}
 use Rattle.sc_cmd.specs.declared.orders.OrderLine.{OrderLine}
 use Rattle.sc_cmd.specs.declared.orders.ToldResult.{ToldResult}

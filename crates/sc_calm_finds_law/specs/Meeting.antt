@@ -1,5 +1,7 @@
 -- A mail that is delivered to a node in a journal in which its group is well led, and what it needs besides, by what it says.
 use Rattle.std.specs.Prelude.{◌≡◌, ℕ, ◌+◌, true, false, List, [], Option, Some, None}
+use Rattle.sc_base.specs.declared.names.Ballot.{Ballot}
+use Rattle.sc_base.specs.declared.names.Draw.{Draw}
 use Rattle.sc_cmd.specs.declared.cores.Base.{Base}
 use Rattle.sc_mail.specs.declared.bodies.Mail.{Mail}
 use Rattle.sc_mail.specs.declared.bodies.MailBody.{MailBody}
@@ -69,3 +71,59 @@ IsNoRequest body = Unit {0}
 abbrev pub NeedsAt : Ways → Option ReplicaState → MailBody → Type 0
 NeedsAt ways None body = IsNoRequest body
 NeedsAt ways (Some r) body = NeedsBesides ways r body
+
+-- mail of the agreement that needs nothing besides: what is asked, refused or told
+abbrev pub IsAgreed : MailBody → Type 0
+IsAgreed (Request group client seq op) = ⊥
+IsAgreed (Prepare group ballot from_slot) = Unit {0}
+IsAgreed (Promise group ballot reports) = ⊥
+IsAgreed (Accept group ballot slot command) = Unit {0}
+IsAgreed (Accepted group ballot slot) = ⊥
+IsAgreed (Nack group promised) = Unit {0}
+IsAgreed (Learn group slot command) = Unit {0}
+IsAgreed (Ask group from_slot) = Unit {0}
+IsAgreed (Install group slot state sets) = Unit {0}
+IsAgreed (TxPrepare tx offer) = ⊥
+IsAgreed (TxVote tx coord part vote) = ⊥
+IsAgreed (TxOutcome tx part outcome) = ⊥
+IsAgreed (TxElsewhere tx coord hint) = ⊥
+IsAgreed (TxWatch tx watch) = ⊥
+IsAgreed (TxWatched tx coord part vote) = ⊥
+IsAgreed (Answer group seq answer) = ⊥
+IsAgreed (Told order result) = ⊥
+
+-- mail by which a leader may only pump: a promise, and the votes and outcomes of transactions
+abbrev pub IsPumped : MailBody → Type 0
+IsPumped (Request group client seq op) = ⊥
+IsPumped (Prepare group ballot from_slot) = ⊥
+IsPumped (Promise group ballot reports) = Unit {0}
+IsPumped (Accept group ballot slot command) = ⊥
+IsPumped (Accepted group ballot slot) = ⊥
+IsPumped (Nack group promised) = ⊥
+IsPumped (Learn group slot command) = ⊥
+IsPumped (Ask group from_slot) = ⊥
+IsPumped (Install group slot state sets) = ⊥
+IsPumped (TxPrepare tx offer) = ⊥
+IsPumped (TxVote tx coord part vote) = Unit {0}
+IsPumped (TxOutcome tx part outcome) = Unit {0}
+IsPumped (TxElsewhere tx coord hint) = ⊥
+IsPumped (TxWatch tx watch) = ⊥
+IsPumped (TxWatched tx coord part vote) = Unit {0}
+IsPumped (Answer group seq answer) = ⊥
+IsPumped (Told order result) = ⊥
+
+-- a replica, if there is one, keeps no reports where it does not run
+abbrev pub IsPlainAt : Option ReplicaState → Type 0
+IsPlainAt None = Unit {0}
+IsPlainAt (Some r) = IsPlain r
+
+-- a replica, if there is one, may count a vote at this slot where it runs
+abbrev pub MayCountAt : ℕ → Option ReplicaState → Type 0
+MayCountAt slot None = Unit {0}
+MayCountAt slot (Some r) = r.running ≡ true → MayCount slot r
+
+-- What mail needs besides, by its kind.
+pub record NeedsByKind : Type 0 where
+  pub agreed : (ways : Ways) (here : Option ReplicaState) (body : MailBody) → IsAgreed body → NeedsAt ways here body
+  pub pumped : (ways : Ways) (here : Option ReplicaState) (body : MailBody) → IsPumped body → IsPlainAt here → NeedsAt ways here body
+  pub vote : (ways : Ways) (here : Option ReplicaState) (group : Draw) (ballot : Ballot) (slot : ℕ) → MayCountAt slot here → NeedsAt ways here (Accepted group ballot slot)

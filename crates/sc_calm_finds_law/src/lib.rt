@@ -3,6 +3,7 @@
 #![tactic(auto)]
 
 ghost use Rattle.sc_calm_finds_law.specs.Finding.{GroupMailFinds, JournalMailFinds, MailIsForItsNode, StatesStand, StrayMailFinds};
+ghost use Rattle.sc_calm_finds_law.specs.Meeting.{NeedsByKind};
 
 use sc_calm_led_law::{groups_are_led, led_logs_are_one, led_rows_go_on};
 use sc_scenario::valid_scenarios_are_bounded;
@@ -14,6 +15,12 @@ pub fn group_mail_finds()
 {
     valid_scenarios_are_bounded();
 }
+
+/// Mail of the agreement needs nothing, a vote that a leader may count it, and mail by which a
+/// leader only pumps that one that does not run keeps no reports.
+pub fn needs_by_kind()
+    ensures { NeedsByKind }
+{}
 
 /// Nobody comes to a group by the entry by which it goes, so no state of a group that is gone is
 /// sent.
