@@ -1,9 +1,8 @@
 -- That mail which is delivered in a journal in which its group is well led finds what the law of calm scenarios asks of it.
-use Rattle.std.specs.Prelude.{◌≡◌, ℕ, ◌+◌, false, List, ◌++◌, Option, Some, None}
+use Rattle.std.specs.Prelude.{◌≡◌, ℕ, ◌+◌, false, List, ◌++◌, Some, None}
 use Rattle.sc_base.specs.declared.names.Draw.{Draw}
 use Rattle.sc_cmd.specs.declared.cores.Base.{Base}
 use Rattle.sc_mail.specs.declared.bodies.Mail.{Mail}
-use Rattle.sc_mail.specs.declared.bodies.MailBody.{MailBody}
 use Rattle.sc_mail.specs.declared.bodies.MailBody.TheVariants.{Install}
 use Rattle.sc_mail.specs.declared.roles.Role.TheVariants.{Node}
 use Rattle.sc_actor.specs.declared.actors.Seat.{Seat}
@@ -13,7 +12,6 @@ use Rattle.sc_actor.specs.Replay.{value}
 use Rattle.sc_orderly_law.specs.Timely.{AreInTime}
 use Rattle.sc_scenario.specs.declared.scenarios.Scenario.{Scenario}
 use Rattle.sc_node_table.specs.Node.{NodeState, replica_of, group_of_mail}
-use Rattle.sc_node_table.specs.Replica.{ReplicaState}
 use Rattle.sc_sound.specs.Players.{Player, births, as_nodes, player_table}
 use Rattle.sc_calm_law.specs.Charts.{players, Chart}
 use Rattle.sc_calm_law.specs.Keeping.{IsCalmMailAt}
@@ -40,15 +38,11 @@ pub record MeetsIn (chart : Chart) (words : ℕ → ℕ → ℕ × ℕ) (by : Te
   pub named : group_of_mail mail.body ≡ Some base.core.id
   pub once : StandsOnce base.core.id chart.groups
 
--- mail finds what is asked of it, where this holds of its body and of the node's replica of its group
-abbrev pub FindWhere : (Ways → Option ReplicaState → MailBody → Type 0) → Type 0
-FindWhere Which =
-    (chart : Chart) (words : ℕ → ℕ → ℕ × ℕ) (by : Tellers) (scenario : Scenario) (journal front rows : Rows) (seat : Seat Player) (number : ℕ) (mail : Mail) (node : NodeState) (base : Base) (course : Course)
-    → MeetsIn chart words by scenario journal front rows seat number mail node base course → Which chart.ways (replica_of base.core.id node.replicas) mail.body → FindsBy chart (births as_nodes scenario) rows seat.who mail node
-
--- So it is of all mail of the group that has what it needs besides ..
+-- Then it finds what is asked of it, where it has what it needs besides.
 abbrev pub GroupMailFinds : Type 0
-GroupMailFinds = FindWhere NeedsAt
+GroupMailFinds =
+    (chart : Chart) (words : ℕ → ℕ → ℕ × ℕ) (by : Tellers) (scenario : Scenario) (journal front rows : Rows) (seat : Seat Player) (number : ℕ) (mail : Mail) (node : NodeState) (base : Base) (course : Course)
+    → MeetsIn chart words by scenario journal front rows seat number mail node base course → NeedsAt chart.ways (replica_of base.core.id node.replicas) mail.body → FindsBy chart (births as_nodes scenario) rows seat.who mail node
 
 -- In first rows of a journal whose rows come in time, where the group's mail is sent so, each state of it that is delivered is of the group while it stands ..
 abbrev pub StatesStand : Type 0
