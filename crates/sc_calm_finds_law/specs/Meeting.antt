@@ -1,0 +1,129 @@
+-- A mail that is delivered to a node in a journal in which its group is well led, and what it needs besides, by what it says.
+use Rattle.std.specs.Prelude.{◌≡◌, ℕ, ◌+◌, true, false, List, [], Option, Some, None}
+use Rattle.sc_base.specs.declared.names.Ballot.{Ballot}
+use Rattle.sc_base.specs.declared.names.Draw.{Draw}
+use Rattle.sc_cmd.specs.declared.cores.Base.{Base}
+use Rattle.sc_mail.specs.declared.bodies.Mail.{Mail}
+use Rattle.sc_mail.specs.declared.bodies.MailBody.{MailBody}
+use Rattle.sc_mail.specs.declared.bodies.MailBody.TheVariants.{Request, Answer, Prepare, Promise, Accept, Accepted, Nack, Learn, Ask, Install, TxPrepare, TxVote, TxOutcome, TxElsewhere, TxWatch, TxWatched, Told}
+use Rattle.sc_mail.specs.declared.roles.Role.TheVariants.{Node}
+use Rattle.sc_actor.specs.declared.actors.Seat.{Seat}
+use Rattle.sc_actor.specs.declared.rows.Event.TheVariants.{Deliver}
+use Rattle.sc_actor.specs.Replay.{value}
+use Rattle.sc_orderly_law.specs.Timely.{AreInTime}
+use Rattle.sc_node_table.specs.Node.{NodeState}
+use Rattle.sc_node_table.specs.Replica.{ReplicaState}
+use Rattle.sc_sound.specs.Players.{Player, player_table}
+use Rattle.sc_calm_law.specs.Charts.{players}
+use Rattle.sc_calm_law.specs.Keeping.{MayCount, MayAskThere}
+use Rattle.sc_calm_law.specs.Laws.{Points}
+use Rattle.sc_calm_law.specs.Owed.{Ways}
+use Rattle.sc_calm_law.specs.Totals.{Rows}
+use Rattle.sc_following_law.specs.Following.{Course, Sets}
+use Rattle.sc_following_law.specs.Hints.{Tellers}
+use Rattle.sc_calm_rows_law.specs.Turns.{IsSeat, with_event}
+use Rattle.sc_calm_groups_law.specs.Kinds.{IsLedStep}
+use Rattle.sc_calm_groups_law.specs.Led.{Ends, IsWellLed}
+use Rattle.sc_calm_groups_law.specs.Through.{Delivers, HasOneLog, IsSentSo}
+
+-- In first rows of a journal a mail is delivered in time to a node; a group is well led before it, in a course from which the row goes on, its log is one, its mail is sent so, and no state of it is sent when it is gone.
+pub record MeetsMail (at : Sets) (over : Ends) (by : Tellers) (words : ℕ → ℕ → ℕ × ℕ) (births : List (Seat Player)) (front rows : Rows) (seat : Seat Player) (number : ℕ) (mail : Mail) (node : NodeState) (base : Base) (course : Course) : Type 0 where
+  pub seated : IsSeat births seat
+  pub is : value player_table seat rows ≡ Node node
+  pub delivers : Delivers front rows seat number mail
+  pub timely : AreInTime (players words births) (with_event rows seat (Deliver number))
+  pub led : IsWellLed at over by words births rows base course
+  pub step : IsLedStep at over by words births rows seat (Deliver number) base course
+  pub one : HasOneLog at over by births front base
+  pub sent : IsSentSo births front base
+  pub standing : (slot : ℕ) (state : Base) (sets : List (List ℕ)) → mail.body ≡ Install base.core.id slot state sets → over (slot + 1) ≡ false
+
+-- one that does not run keeps no reports of a promise
+abbrev pub IsPlain : ReplicaState → Type 0
+IsPlain r = r.running ≡ false → r.leader.reports ≡ []
+
+-- what a replica that takes a mail has to be besides: where it pumps, plain; where it sends others on, a hint nearer to the one that runs; and a leader may count a vote
+abbrev pub NeedsBesides : Ways → ReplicaState → MailBody → Type 0
+NeedsBesides ways r (Request group client seq op) = IsPlain r × Points ways group r
+NeedsBesides ways r (Prepare group ballot from_slot) = Unit {0}
+NeedsBesides ways r (Promise group ballot reports) = IsPlain r
+NeedsBesides ways r (Accept group ballot slot command) = Unit {0}
+NeedsBesides ways r (Accepted group ballot slot) = r.running ≡ true → MayCount slot r
+NeedsBesides ways r (Nack group promised) = Unit {0}
+NeedsBesides ways r (Learn group slot command) = Unit {0}
+NeedsBesides ways r (Ask group from_slot) = Unit {0}
+NeedsBesides ways r (Install group slot state sets) = Unit {0}
+NeedsBesides ways r (TxPrepare tx offer) = IsPlain r × Points ways offer.part r × (ways.asks tx ≡ Some (offer.part, false))
+NeedsBesides ways r (TxVote tx coord part vote) = IsPlain r
+NeedsBesides ways r (TxOutcome tx part outcome) = IsPlain r
+NeedsBesides ways r (TxElsewhere tx coord hint) = MayAskThere ways tx r hint
+NeedsBesides ways r (TxWatch tx watch) = IsPlain r × Points ways watch.part r × (ways.asks tx ≡ Some (watch.part, true))
+NeedsBesides ways r (TxWatched tx coord part vote) = IsPlain r
+NeedsBesides ways r (Answer group seq answer) = Unit {0}
+NeedsBesides ways r (Told order result) = Unit {0}
+
+-- .. where a node has no replica of the group, no request comes
+abbrev pub IsNoRequest : MailBody → Type 0
+IsNoRequest (Request group client seq op) = ⊥
+IsNoRequest body = Unit {0}
+
+-- .. by what the node has
+abbrev pub NeedsAt : Ways → Option ReplicaState → MailBody → Type 0
+NeedsAt ways None body = IsNoRequest body
+NeedsAt ways (Some r) body = NeedsBesides ways r body
+
+-- mail of the agreement that needs nothing besides: what is asked, refused or told
+abbrev pub IsAgreed : MailBody → Type 0
+IsAgreed (Request group client seq op) = ⊥
+IsAgreed (Prepare group ballot from_slot) = Unit {0}
+IsAgreed (Promise group ballot reports) = ⊥
+IsAgreed (Accept group ballot slot command) = Unit {0}
+IsAgreed (Accepted group ballot slot) = ⊥
+IsAgreed (Nack group promised) = Unit {0}
+IsAgreed (Learn group slot command) = Unit {0}
+IsAgreed (Ask group from_slot) = Unit {0}
+IsAgreed (Install group slot state sets) = Unit {0}
+IsAgreed (TxPrepare tx offer) = ⊥
+IsAgreed (TxVote tx coord part vote) = ⊥
+IsAgreed (TxOutcome tx part outcome) = ⊥
+IsAgreed (TxElsewhere tx coord hint) = ⊥
+IsAgreed (TxWatch tx watch) = ⊥
+IsAgreed (TxWatched tx coord part vote) = ⊥
+IsAgreed (Answer group seq answer) = ⊥
+IsAgreed (Told order result) = ⊥
+
+-- mail by which a leader may only pump: a promise, and the votes and outcomes of transactions
+abbrev pub IsPumped : MailBody → Type 0
+IsPumped (Request group client seq op) = ⊥
+IsPumped (Prepare group ballot from_slot) = ⊥
+IsPumped (Promise group ballot reports) = Unit {0}
+IsPumped (Accept group ballot slot command) = ⊥
+IsPumped (Accepted group ballot slot) = ⊥
+IsPumped (Nack group promised) = ⊥
+IsPumped (Learn group slot command) = ⊥
+IsPumped (Ask group from_slot) = ⊥
+IsPumped (Install group slot state sets) = ⊥
+IsPumped (TxPrepare tx offer) = ⊥
+IsPumped (TxVote tx coord part vote) = Unit {0}
+IsPumped (TxOutcome tx part outcome) = Unit {0}
+IsPumped (TxElsewhere tx coord hint) = ⊥
+IsPumped (TxWatch tx watch) = ⊥
+IsPumped (TxWatched tx coord part vote) = Unit {0}
+IsPumped (Answer group seq answer) = ⊥
+IsPumped (Told order result) = ⊥
+
+-- a replica, if there is one, keeps no reports where it does not run
+abbrev pub IsPlainAt : Option ReplicaState → Type 0
+IsPlainAt None = Unit {0}
+IsPlainAt (Some r) = IsPlain r
+
+-- a replica, if there is one, may count a vote at this slot where it runs
+abbrev pub MayCountAt : ℕ → Option ReplicaState → Type 0
+MayCountAt slot None = Unit {0}
+MayCountAt slot (Some r) = r.running ≡ true → MayCount slot r
+
+-- What mail needs besides, by its kind.
+pub record NeedsByKind : Type 0 where
+  pub agreed : (ways : Ways) (here : Option ReplicaState) (body : MailBody) → IsAgreed body → NeedsAt ways here body
+  pub pumped : (ways : Ways) (here : Option ReplicaState) (body : MailBody) → IsPumped body → IsPlainAt here → NeedsAt ways here body
+  pub vote : (ways : Ways) (here : Option ReplicaState) (group : Draw) (ballot : Ballot) (slot : ℕ) → MayCountAt slot here → NeedsAt ways here (Accepted group ballot slot)
