@@ -7,5 +7,6 @@ pub mod Moving
 pub mod One
 pub mod Pumping
 pub mod Starting
+pub mod Taught
 pub mod Telling
 pub mod Voting
