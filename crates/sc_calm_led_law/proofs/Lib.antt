@@ -1,6 +1,7 @@
 pub mod Begins
 pub mod Born
 pub mod Ends
+pub mod Freeing
 pub mod Gone
 pub mod Leaders
 pub mod Moving

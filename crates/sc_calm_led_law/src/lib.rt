@@ -3,6 +3,7 @@
 #![tactic(auto)]
 
 ghost use Rattle.sc_calm_led_law.specs.Led.{ChildrenAreBegun, EndsAreLogged, GroupsBeginStanding, LedLogsAreOne, MembersMoveOneWay};
+ghost use Rattle.sc_calm_led_law.specs.States.{LeaversFree, ReplicasRunLogs};
 ghost use Rattle.sc_calm_led_law.specs.Taught.{GroupsAreTaught, GroupsBeginTaught};
 ghost use Rattle.sc_calm_led_law.specs.Tellers.{GroupsAreLed, GroupsBeginLed, LedRowsGoOn};
 
@@ -43,6 +44,21 @@ pub fn ends_are_logged()
 /// By each entry of its log no member is lost, or nobody comes.
 pub fn members_move_one_way()
     ensures { MembersMoveOneWay }
+{}
+
+/// After any rows of the journal each replica's state is the log's at its next slot.
+pub fn replicas_run_logs()
+    ensures { ReplicasRunLogs }
+{
+    valid_scenarios_are_bounded();
+    valid_scenarios_begin_well();
+    orders_are_allowed();
+    names_have_one_owner();
+}
+
+/// The state after an entry by which a member goes is locked in no transaction.
+pub fn leavers_free()
+    ensures { LeaversFree }
 {}
 
 /// Each child that a node makes by a mail is a group of the journal, as it began.
