@@ -17,6 +17,7 @@ pub mod SlotLists
 pub mod SlotNodes
 pub mod SlotParts
 pub mod SlotRows
+pub mod Taught
 pub mod Through
 pub mod TopNodes
 pub mod TopParts

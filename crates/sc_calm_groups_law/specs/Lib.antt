@@ -9,5 +9,6 @@ pub mod Rests
 pub mod Rising
 pub mod Rows
 pub mod Slots
+pub mod Taught
 pub mod Through
 pub mod Tops

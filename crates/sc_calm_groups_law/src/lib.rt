@@ -11,6 +11,7 @@ ghost use Rattle.sc_calm_groups_law.specs.Rests.{QuietGroupsAreLed};
 ghost use Rattle.sc_calm_groups_law.specs.Rising.{PromisersRise};
 ghost use Rattle.sc_calm_groups_law.specs.Rows.{RowsKeepLed};
 ghost use Rattle.sc_calm_groups_law.specs.Slots.{NodesAreBornSlotted, NodesKeepSlots};
+ghost use Rattle.sc_calm_groups_law.specs.Taught.{ChildrenBeginTaught, GroupsAreTaughtThrough, RowsKeepTaught, ScenariosBeginTaught};
 ghost use Rattle.sc_calm_groups_law.specs.Tops.{NodesAreBornTopped, NodesKeepTops};
 ghost use Rattle.sc_calm_groups_law.specs.Through.{ChildrenAreLedThrough, EventsGoOn, EventsKeepLed, GroupsAreLedThrough, ScenariosAreLedThrough, ScenariosAreWellBorn};
 
@@ -140,4 +141,26 @@ pub fn kept_leaders_rest()
 /// to it.
 pub fn promisers_rise()
     ensures { PromisersRise }
+{}
+
+/// Each row of a known kind keeps it that the members of a group's states learn the entries after
+/// them, and that nobody else is told one.
+pub fn rows_keep_taught()
+    ensures { RowsKeepTaught }
+{}
+
+/// So it is of each group of a bounded scenario at its birth.
+pub fn scenarios_begin_taught()
+    ensures { ScenariosBeginTaught }
+{}
+
+/// So it is of a group of which no node has a replica at the births.
+pub fn children_begin_taught()
+    ensures { ChildrenBeginTaught }
+{}
+
+/// And so it is after each row of a journal whose rows come in time, and in which the group's log
+/// is one, if it is at first.
+pub fn groups_are_taught_through()
+    ensures { GroupsAreTaughtThrough }
 {}

@@ -46,6 +46,7 @@ use Rattle.sc_calm_logs_law.proofs.Along.{IsAlong, entered_along}
 use Rattle.sc_calm_logs_law.proofs.Journals.{part, roster, fronts, sent_in, along, opens, flying}
 use Rattle.sc_calm_groups_law.specs.Logged.{RestsBy}
 use Rattle.sc_calm_led_law.specs.Led.{over_at, GroupsBeginStanding, EndsAreLogged, ChildrenAreBegun, MembersMoveOneWay}
+use Rattle.sc_calm_led_law.specs.States.{state_at, ReplicasRunLogs}
 use Rattle.sc_calm_led_law.proofs.Begins.{begun_first, begun_stands}
 use Rattle.sc_calm_led_law.proofs.Born.{children_as_begun}
 use Rattle.sc_calm_led_law.proofs.Gone.{later_gone}
@@ -119,6 +120,12 @@ module _ (bounded : ValidScenariosAreBounded) (begin : ValidScenariosBeginWell) 
         ap (λ (g : Group). is_some g.core.gone) k.group_is ∙ ap (λ log. is_some (state_after (group_of base) log).core.gone) (sym (all_fronts k.whole k.is_log).1)
         ∙ ap (λ n. is_some (state_after (group_of base) (take n all)).core.gone) same
 
+    along_state : (r : ReplicaState) → Along r → (1 ≤ next r) × (r.group ≡ state_at ahead base journal (next r))
+    along_state r k =
+        let next_is = k.next_is in
+        let same : length k.whole ≡ next r - 1 = omega (arith, next_is) in
+        (omega (arith, next_is), k.group_is ∙ ap (state_after (group_of base)) (sym (all_fronts k.whole k.is_log).1) ∙ ap (λ n. state_after (group_of base) (take n all)) same)
+
     said : (rows more : Rows) → journal ≡ rows ++ more → (number : ℕ) (mail : Mail) (body : MailBody) → numbered (mails rows) number ≡ Some mail → mail.body ≡ body
         → IsTrue ahead base (MayQueue sources ahead scenario journal base) (IsHeardAt sources ahead scenario journal) h mail body
     said rows more e number mail body sent is =
@@ -129,6 +136,9 @@ module _ (bounded : ValidScenariosAreBounded) (begin : ValidScenariosBeginWell) 
     module _ (rows : Rows) (seat : Seat Player) (node : NodeState) (r : ReplicaState) (has : HasReplica ahead scenario journal base rows seat node r) where
       k : Along r
       k = along sources ahead words scenario route well journal orders group.lawful base group.stands rows seat node r has group.open_slots
+
+      run_log : (1 ≤ next r) × (r.group ≡ state_at ahead base journal (next r))
+      run_log = along_state r k
 
       replica_ends : is_some r.group.core.gone ≡ over_at ahead base journal (next r)
       replica_ends = along_ends r k
@@ -181,3 +191,6 @@ module _ (bounded : ValidScenariosAreBounded) (begin : ValidScenariosBeginWell) 
 
   pub ends_are_logged : EndsAreLogged
   ends_are_logged = record { stays = over_stays; begins = begins_over; replicas = replica_ends; entered = entered_ends; voted = voted_rests }
+
+  pub replicas_run_logs : ReplicasRunLogs
+  replicas_run_logs = run_log

@@ -1,11 +1,13 @@
 pub mod Begins
 pub mod Born
 pub mod Ends
+pub mod Freeing
 pub mod Gone
 pub mod Leaders
 pub mod Moving
 pub mod One
 pub mod Pumping
 pub mod Starting
+pub mod Taught
 pub mod Telling
 pub mod Voting

@@ -31,6 +31,8 @@ use Rattle.sc_calm_logs_law.specs.Logged.{logged_sets, IsGroupOf, SlotsHaveRoste
 use Rattle.sc_calm_logs_law.proofs.Journals.{found, stay}
 use Rattle.sc_calm_groups_law.specs.Begun.{BeginsSo, ScenariosBeginLed, ChildrenBeginLed}
 use Rattle.sc_calm_led_law.specs.Led.{over_at, GroupsBeginStanding, EndsAreLogged}
+use Rattle.sc_calm_groups_law.specs.Taught.{ScenariosBeginTaught, ChildrenBeginTaught}
+use Rattle.sc_calm_led_law.specs.Taught.{GroupsBeginTaught}
 use Rattle.sc_calm_led_law.specs.Tellers.{GroupsBeginLed}
 
 -- ---- no player has a replica of a group with another name at the births
@@ -91,7 +93,7 @@ module _ (name : Draw) where
 -- ---- what the laws under this one say of valid scenarios
 
 module _ (bounded : ValidScenariosAreBounded) (begin : ValidScenariosBeginWell) (allowed : TakenOrdersAreAllowed) (wishes : TakenWishesAreAllowed) (positions : WishesAreAtPositions) (free : OtherNamesAreFree)
-    (rosters : SlotsHaveRosters) (standing : GroupsBeginStanding) (ends : EndsAreLogged) (begin_led : ScenariosBeginLed) (children_led : ChildrenBeginLed) where
+    (rosters : SlotsHaveRosters) (standing : GroupsBeginStanding) (ends : EndsAreLogged) where
   module _ (words : ℕ → ℕ → ℕ × ℕ) (scenario : Scenario) (journal : Rows) (base : Base) (group : IsGroupOf as_nodes words scenario journal base) where
     abbrev sources : Sources
     sources = record { owner = owner_in as_nodes scenario journal; request = section_op scenario }
@@ -119,8 +121,8 @@ module _ (bounded : ValidScenariosAreBounded) (begin : ValidScenariosBeginWell) 
       rosters = rosters.rosters as_nodes words scenario journal base group;
     }
 
-  pub groups_begin_led : GroupsBeginLed
-  groups_begin_led words by scenario journal base group = elim (one_or_none base.core.id scenario.groups) [
+  pub groups_begin_led : ScenariosBeginLed → ChildrenBeginLed → GroupsBeginLed
+  groups_begin_led begin_led children_led words by scenario journal base group = elim (one_or_none base.core.id scenario.groups) [
     | inl r ↦ (
       begun_course base,
       begin_led (logged_sets as_nodes base journal) (over_at as_nodes base journal) by words scenario base (bounded scenario group.valid) (its_own words scenario journal base group r.0 r.1 r.2) (begins_so words scenario journal base group),
@@ -130,4 +132,16 @@ module _ (bounded : ValidScenariosAreBounded) (begin : ValidScenariosBeginWell) 
       children_led (logged_sets as_nodes base journal) (over_at as_nodes base journal) by words (births as_nodes scenario) [] base (begins_so words scenario journal base group)
           (standing.first as_nodes words scenario journal base group) (unborn base.core.id scenario none) (λ who. refl),
     )
+  ]
+
+-- ---- and its members learn all entries
+
+module _ (bounded : ValidScenariosAreBounded) (begin : ValidScenariosBeginWell) (allowed : TakenOrdersAreAllowed) (wishes : TakenWishesAreAllowed) (positions : WishesAreAtPositions) (free : OtherNamesAreFree)
+    (rosters : SlotsHaveRosters) (standing : GroupsBeginStanding) (ends : EndsAreLogged) (begin_taught : ScenariosBeginTaught) (children_taught : ChildrenBeginTaught) where
+  pub groups_begin_taught : GroupsBeginTaught
+  groups_begin_taught words by scenario journal base group = elim (one_or_none base.core.id scenario.groups) [
+    | inl r ↦ begin_taught (logged_sets as_nodes base journal) (over_at as_nodes base journal) by words scenario base (bounded scenario group.valid)
+        (its_own bounded begin allowed wishes positions free rosters standing ends words scenario journal base group r.0 r.1 r.2) (begins_so bounded begin allowed wishes positions free rosters standing ends words scenario journal base group)
+    | inr none ↦ children_taught (logged_sets as_nodes base journal) (over_at as_nodes base journal) by words (births as_nodes scenario) base
+        (standing.first as_nodes words scenario journal base group) (unborn base.core.id scenario none) (begins_so bounded begin allowed wishes positions free rosters standing ends words scenario journal base group)
   ]

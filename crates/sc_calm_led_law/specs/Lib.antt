@@ -1,2 +1,4 @@
 pub mod Led
+pub mod States
+pub mod Taught
 pub mod Tellers

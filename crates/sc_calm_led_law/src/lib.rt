@@ -3,11 +3,14 @@
 #![tactic(auto)]
 
 ghost use Rattle.sc_calm_led_law.specs.Led.{ChildrenAreBegun, EndsAreLogged, GroupsBeginStanding, LedLogsAreOne, MembersMoveOneWay};
+ghost use Rattle.sc_calm_led_law.specs.States.{LeaversFree, ReplicasRunLogs};
+ghost use Rattle.sc_calm_led_law.specs.Taught.{GroupsAreTaught, GroupsBeginTaught};
 ghost use Rattle.sc_calm_led_law.specs.Tellers.{GroupsAreLed, GroupsBeginLed, LedRowsGoOn};
 
 use sc_calm_groups_law::{
-    children_begin_led, events_go_on, replicas_are_kept, scenarios_are_kept_born,
-    scenarios_are_well_born, scenarios_begin_led,
+    children_begin_led, children_begin_taught, events_go_on, groups_are_taught_through,
+    replicas_are_kept, scenarios_are_kept_born, scenarios_are_well_born, scenarios_begin_led,
+    scenarios_begin_taught,
 };
 use sc_calm_logs_law::{
     commands_come_next, members_are_nodes, replicas_are_logged, slots_have_rosters,
@@ -41,6 +44,21 @@ pub fn ends_are_logged()
 /// By each entry of its log no member is lost, or nobody comes.
 pub fn members_move_one_way()
     ensures { MembersMoveOneWay }
+{}
+
+/// After any rows of the journal each replica's state is the log's at its next slot.
+pub fn replicas_run_logs()
+    ensures { ReplicasRunLogs }
+{
+    valid_scenarios_are_bounded();
+    valid_scenarios_begin_well();
+    orders_are_allowed();
+    names_have_one_owner();
+}
+
+/// The state after an entry by which a member goes is locked in no transaction.
+pub fn leavers_free()
+    ensures { LeaversFree }
 {}
 
 /// Each child that a node makes by a mail is a group of the journal, as it began.
@@ -111,4 +129,31 @@ pub fn led_rows_go_on()
     led_logs_are_one();
     slots_have_rosters();
     groups_begin_led();
+}
+
+/// At the births each member of a state of the group has learnt the entry after it.
+pub fn groups_begin_taught()
+    ensures { GroupsBeginTaught }
+{
+    valid_scenarios_are_bounded();
+    valid_scenarios_begin_well();
+    orders_are_allowed();
+    names_have_one_owner();
+    slots_have_rosters();
+    groups_begin_standing();
+    ends_are_logged();
+    scenarios_begin_taught();
+    children_begin_taught();
+}
+
+/// So after each row each has learnt it or does by its mail, and nobody else is told one; and the
+/// group's log is one.
+pub fn groups_are_taught()
+    ensures { GroupsAreTaught }
+{
+    scenarios_are_well_born();
+    groups_are_taught_through();
+    groups_are_led();
+    led_logs_are_one();
+    groups_begin_taught();
 }

@@ -167,7 +167,7 @@ module _ (at : Sets) (now after : Progress) (node : ℕ) (taken : Option Mark) (
   counts : (who : ℕ) → Each IsCount (sent who)
   counts who = subst (Each IsCount) (sym (t.sends who)) (counts_of node (now.promise node) t.mark who)
 
-  reached_left : (who : ℕ) → reached (after.next who) (marks_after who) ≡ reached (now.next who) (marks who)
+  pub reached_left : (who : ℕ) → reached (after.next who) (marks_after who) ≡ reached (now.next who) (marks who)
   reached_left who = elim (cases_eq who node) [
     | inl is ↦ ap (λ n. reached (after.next n) (marks_after n)) is
         ∙ (ap (reached (after.next node)) row.own

@@ -29,4 +29,5 @@ pub mod Owning
 pub mod Polled
 pub mod Spoken
 pub mod TableHints
+pub mod Taught
 pub mod Voted

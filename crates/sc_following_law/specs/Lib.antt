@@ -11,3 +11,4 @@ pub mod Orderly
 pub mod Owning
 pub mod Rows
 pub mod Tables
+pub mod Taught

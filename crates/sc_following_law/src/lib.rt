@@ -15,6 +15,7 @@ ghost use Rattle.sc_following_law.specs.Orderly.{OrderIsKept};
 ghost use Rattle.sc_following_law.specs.Owning.{LeadersCountOwn, OwnIsKept};
 ghost use Rattle.sc_following_law.specs.Rows.{GroupsBeginFollowing, IdleRowsKeep, LeadersKeep, ElectionsKeep, TakersKeep, QuietGroupsAreEven};
 ghost use Rattle.sc_following_law.specs.Tables.{EntriesTell, StatesMake, TablesElect, TablesFollow};
+ghost use Rattle.sc_following_law.specs.Taught.{QuietMembersKnow, TaughtIsKept};
 
 /// A group begins with its first members at the same place, one of which leads with the first
 /// ballot, and no mail under way: so each that decides an open slot follows the one that leads.
@@ -205,4 +206,15 @@ pub fn own_is_kept()
 /// A leader's row in the table is one of a leader that counts so.
 pub fn leaders_count_own()
     ensures { LeadersCountOwn }
+{}
+
+/// Each kind of row keeps it that each member of a state learns the entry after it, and that nobody
+/// else is told one.
+pub fn taught_is_kept()
+    ensures { TaughtIsKept }
+{}
+
+/// So where no mail is under way, each node that was a member before an entry has learnt it.
+pub fn quiet_members_know()
+    ensures { QuietMembersKnow }
 {}

@@ -1,0 +1,57 @@
+-- That each member of a group's state learns the entry after it, through a journal in which the group is well led.
+use Rattle.std.specs.Prelude.{◌≡◌, ℕ, true, List, [], ◌++◌, None}
+use Rattle.sc_base.specs.Among.{Among}
+use Rattle.sc_cmd.specs.declared.cores.Base.{Base}
+use Rattle.sc_cmd.specs.declared.orders.OrderLine.{OrderLine}
+use Rattle.sc_member.specs.Roster.{is_member}
+use Rattle.sc_actor.specs.declared.actors.Seat.{Seat}
+use Rattle.sc_actor.specs.declared.rows.Event.{Event}
+use Rattle.sc_orderly_law.specs.Timely.{AreInTime}
+use Rattle.sc_scenario.specs.Valid.{IsBounded}
+use Rattle.sc_scenario.specs.declared.scenarios.Scenario.{Scenario}
+use Rattle.sc_sound.specs.Players.{Player, births, as_nodes}
+use Rattle.sc_calm_law.specs.Charts.{players}
+use Rattle.sc_calm_law.specs.Totals.{Rows}
+use Rattle.sc_following_law.specs.Following.{Course, Sets}
+use Rattle.sc_following_law.specs.Hints.{Tellers}
+use Rattle.sc_following_law.specs.Taught.{AreTaught}
+use Rattle.sc_calm_rows_law.specs.Groups.{view_at, progress_at, marks_at}
+use Rattle.sc_calm_rows_law.specs.Turns.{with_event}
+use Rattle.sc_calm_groups_law.specs.Begun.{BeginsSo}
+use Rattle.sc_calm_groups_law.specs.Kinds.{IsGroupRow}
+use Rattle.sc_calm_groups_law.specs.Led.{Ends, IsWellLed}
+use Rattle.sc_calm_groups_law.specs.Rows.{IsStage}
+use Rattle.sc_calm_groups_law.specs.Through.{AreWellBorn, HasOneLog, IsSentSo}
+
+-- the members of a group's states learn the entries after them, after some rows, in this course
+abbrev pub AreTaughtAt : Sets → (ℕ → ℕ → ℕ × ℕ) → List (Seat Player) → Rows → Base → Course → Type 0
+AreTaughtAt at words births rows base course = AreTaught at (progress_at births rows base course) (marks_at (players words births) rows base.core.id)
+
+-- .. in the course in which it is well led
+pub record IsTaughtOn (at : Sets) (over : Ends) (by : Tellers) (words : ℕ → ℕ → ℕ × ℕ) (births : List (Seat Player)) (rows : Rows) (base : Base) : Type 0 where
+  pub course : Course
+  pub led : IsWellLed at over by words births rows base course
+  pub taught : AreTaughtAt at words births rows base course
+
+-- each row of a known kind keeps it
+abbrev pub RowsKeepTaught : Type 0
+RowsKeepTaught =
+    (at : Sets) (over : Ends) (by : Tellers) (words : ℕ → ℕ → ℕ × ℕ) (births : List (Seat Player)) (rows : Rows) (seat : Seat Player) (event : Event OrderLine) (base : Base) (course later : Course) → IsStage at over by words births rows seat event base course
+    → IsGroupRow at over by births rows seat event base course later → AreTaughtAt at words births rows base course → AreTaughtAt at words births (with_event rows seat event) base later
+
+-- so it is of each group of a bounded scenario at its birth ..
+abbrev pub ScenariosBeginTaught : Type 0
+ScenariosBeginTaught =
+    (at : Sets) (over : Ends) (by : Tellers) (words : ℕ → ℕ → ℕ × ℕ) (scenario : Scenario) (base : Base) → IsBounded scenario → Among base scenario.groups → BeginsSo at over base → IsTaughtOn at over by words (births as_nodes scenario) [] base
+
+-- .. and of one of which no node has a replica at the births
+abbrev pub ChildrenBeginTaught : Type 0
+ChildrenBeginTaught =
+    (at : Sets) (over : Ends) (by : Tellers) (words : ℕ → ℕ → ℕ × ℕ) (births : List (Seat Player)) (base : Base) → is_member base.core.members base.core.first ≡ true → ((who : ℕ) → view_at births [] base.core.id who ≡ None) → BeginsSo at over base
+    → IsTaughtOn at over by words births [] base
+
+-- and it is so after each row of a journal whose rows come in time, and in which the group's log is one, if it is at first
+abbrev pub GroupsAreTaughtThrough : Type 0
+GroupsAreTaughtThrough =
+    (at : Sets) (over : Ends) (by : Tellers) (words : ℕ → ℕ → ℕ × ℕ) (births : List (Seat Player)) (journal : Rows) (base : Base) → AreWellBorn births → HasOneLog at over by births journal base → IsSentSo births journal base
+    → AreInTime (players words births) journal → IsTaughtOn at over by words births [] base → (rows more : Rows) → journal ≡ rows ++ more → IsTaughtOn at over by words births rows base
