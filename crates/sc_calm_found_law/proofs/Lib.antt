@@ -1,0 +1,4 @@
+pub mod Beside
+pub mod Leading
+pub mod Newest
+pub mod Posted
