@@ -9,6 +9,8 @@ use Rattle.sc_base.specs.Drawing.{Drawer, next_name}
 use Rattle.sc_base.specs.Same.{same_draw}
 use Rattle.sc_base.specs.declared.names.Ballot.{Ballot}
 use Rattle.sc_base.specs.declared.names.Draw.{Draw}
+use Rattle.sc_calm_found_law.proofs.Leading.{one}
+use Rattle.sc_calm_found_law.proofs.Newest.{newest_after, newest_before, stays_at, unled}
 use Rattle.sc_calm_found_law.proofs.Posted.{offers_own, watches_own}
 use Rattle.sc_calm_found_law.specs.Beside.{BesidesAreFound, IsHere, IsUnsettled}
 use Rattle.sc_calm_found_law.specs.Guided.{IsGuided}
@@ -44,7 +46,7 @@ use Rattle.sc_mail.specs.declared.bodies.MailBody.{MailBody}
 use Rattle.sc_mail.specs.declared.bodies.MailBody.TheVariants.{Accept, Accepted, Answer, Ask, Install, Learn, Nack, Prepare, Promise, Request, TxElsewhere, TxOutcome, TxPrepare, TxVote, TxWatch, TxWatched}
 use Rattle.sc_mail.specs.declared.roles.Role.TheVariants.{Node}
 use Rattle.sc_node_table.specs.Node.{NodeState, group_of_order}
-use Rattle.sc_node_table.specs.Ordering.{ordered_command, ordered_row, untaken}
+use Rattle.sc_node_table.specs.Ordering.{first_of_both, ordered_command, ordered_row, untaken}
 use Rattle.sc_node_table.specs.Replica.{Place, ReplicaState, first_set, may_offer, settled}
 use Rattle.sc_node_table.specs.Rows.{mailed}
 use Rattle.sc_orderly_law.specs.Timely.{AreInTime}
@@ -163,8 +165,8 @@ module _ (words : ℕ → ℕ → ℕ × ℕ) (births : List (Seat Player)) (row
     goes ballot = ap (λ b. b && below r.leader.ballot ballot) off
 
     finds_by : (body : MailBody) → mail.body ≡ body → IsPosted births mail → IsUnsettled r body → BesideFinds mail r body
-    finds_by (TxPrepare tx offer) e p u = (offers_own births mail tx offer e p, off, u)
-    finds_by (TxWatch tx watch) e p u = (watches_own births mail tx watch e p, off, u)
+    finds_by (TxPrepare tx offer) e p u = (offers_own births mail tx offer e p, (off, u))
+    finds_by (TxWatch tx watch) e p u = (watches_own births mail tx watch e p, (off, u))
     finds_by (TxVote tx coord part vote) e p u = tt
     finds_by (TxWatched tx coord part vote) e p u = tt
     finds_by (TxOutcome tx part outcome) e p u = tt

@@ -1,4 +1,6 @@
 pub mod Beside
+pub mod Leader
 pub mod Leading
+pub mod Missed
 pub mod Newest
 pub mod Posted

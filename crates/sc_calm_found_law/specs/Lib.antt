@@ -1,2 +1,4 @@
 pub mod Beside
 pub mod Guided
+pub mod Leader
+pub mod Missed

@@ -4,6 +4,8 @@
 
 ghost use Rattle.sc_calm_found_law.specs.Beside.{BesidesAreFound};
 ghost use Rattle.sc_calm_found_law.specs.Guided.{NewestStay, QuietLeadersHaveNothing, WellLedLeadAlone};
+ghost use Rattle.sc_calm_found_law.specs.Leader.{LeadersAreFound, StagesLeaveOneWork};
+ghost use Rattle.sc_calm_found_law.specs.Missed.{MissedAreFound, YoungMayBear};
 
 /// A well led group has one that leads alone, bound by no report, or none runs; and each replica
 /// that runs is that one.
@@ -25,4 +27,26 @@ pub fn newest_stay()
 /// and whose newest states stay bound, and finds what an order needs; and so does an order.
 pub fn besides_are_found()
     ensures { BesidesAreFound }
+{}
+
+/// The stages leave each leader one work, or none.
+pub fn stages_leave_one_work()
+    ensures { StagesLeaveOneWork }
+{}
+
+/// A mail to the leader of a well led group finds what an order needs, but that what a vote finds
+/// is asked.
+pub fn leaders_are_found()
+    ensures { LeadersAreFound }
+{}
+
+/// A mail to a node without replica of its group finds what an order needs.
+pub fn missed_are_found()
+    ensures { MissedAreFound }
+{}
+
+/// A child may be made that is well led, free and bound by nothing, and not led yet where its first
+/// member's node makes it.
+pub fn young_may_bear()
+    ensures { YoungMayBear }
 {}
