@@ -46,7 +46,7 @@ use Rattle.sc_mail.specs.declared.bodies.MailBody.{MailBody}
 use Rattle.sc_mail.specs.declared.bodies.MailBody.TheVariants.{Accept, Accepted, Answer, Ask, Install, Learn, Nack, Prepare, Promise, Request, TxElsewhere, TxOutcome, TxPrepare, TxVote, TxWatch, TxWatched}
 use Rattle.sc_mail.specs.declared.roles.Role.TheVariants.{Node}
 use Rattle.sc_node_table.specs.Node.{NodeState, group_of_order}
-use Rattle.sc_node_table.specs.Ordering.{first_of_both, ordered_command, ordered_row, untaken}
+use Rattle.sc_node_table.specs.Ordering.{first_of_both, named_refused, ordered_command, ordered_row, untaken}
 use Rattle.sc_node_table.specs.Replica.{Place, ReplicaState, first_set, may_offer, settled}
 use Rattle.sc_node_table.specs.Rows.{mailed}
 use Rattle.sc_orderly_law.specs.Timely.{AreInTime}

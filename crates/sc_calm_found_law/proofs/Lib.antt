@@ -4,3 +4,4 @@ pub mod Leading
 pub mod Missed
 pub mod Newest
 pub mod Posted
+pub mod Rows

@@ -2,3 +2,4 @@ pub mod Beside
 pub mod Guided
 pub mod Leader
 pub mod Missed
+pub mod Rows

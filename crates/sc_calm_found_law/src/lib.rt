@@ -6,6 +6,7 @@ ghost use Rattle.sc_calm_found_law.specs.Beside.{BesidesAreFound};
 ghost use Rattle.sc_calm_found_law.specs.Guided.{NewestStay, QuietLeadersHaveNothing, WellLedLeadAlone};
 ghost use Rattle.sc_calm_found_law.specs.Leader.{LeadersAreFound, StagesLeaveOneWork};
 ghost use Rattle.sc_calm_found_law.specs.Missed.{MissedAreFound, YoungMayBear};
+ghost use Rattle.sc_calm_found_law.specs.Rows.{OrdersRowsFind};
 
 /// A well led group has one that leads alone, bound by no report, or none runs; and each replica
 /// that runs is that one.
@@ -49,4 +50,10 @@ pub fn missed_are_found()
 /// member's node makes it.
 pub fn young_may_bear()
     ensures { YoungMayBear }
+{}
+
+/// Each row of a calm journal in which an order is under way finds what an order needs, where its
+/// groups are guided, and by what is said of its mail.
+pub fn orders_rows_find()
+    ensures { OrdersRowsFind }
 {}
