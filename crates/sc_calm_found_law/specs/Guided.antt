@@ -1,0 +1,99 @@
+-- What is known of each group at a row of a calm journal: who leads it, and how its newest replicas are bound.
+use Rattle.std.specs.Prelude.{List, Some, [], false, true, ℕ, ◌≡◌, ◌≤◌, ◌⊎◌}
+use Rattle.sc_actor.specs.Walk.{is_quiet}
+use Rattle.sc_actor.specs.declared.actors.Seat.{Seat}
+use Rattle.sc_actor.specs.declared.rows.Event.{Event}
+use Rattle.sc_base.specs.declared.names.Draw.{Draw}
+use Rattle.sc_calm_groups_law.specs.Kept.{AreKeptBorn}
+use Rattle.sc_calm_groups_law.specs.Kinds.{IsLedStep}
+use Rattle.sc_calm_groups_law.specs.Led.{Ends, IsWellLed}
+use Rattle.sc_calm_groups_law.specs.Through.{HasOneLog, IsSentSo}
+use Rattle.sc_calm_law.specs.Charts.{players}
+use Rattle.sc_calm_law.specs.Totals.{Rows}
+use Rattle.sc_calm_orders_law.specs.Parts.{bond_of, works_in}
+use Rattle.sc_calm_orders_law.specs.Scenes.{Bond}
+use Rattle.sc_calm_orders_law.specs.Tables.{IsUnbound}
+use Rattle.sc_calm_rows_law.specs.Groups.{marks_at, view_at}
+use Rattle.sc_calm_rows_law.specs.Turns.{with_event}
+use Rattle.sc_calm_scenes_law.specs.Fresh.{IsThere}
+use Rattle.sc_calm_scenes_law.specs.Quiet.{HasNothing}
+use Rattle.sc_calm_scenes_law.specs.Turns.{LeadsAlone, NewestAreBound, NoneRuns}
+use Rattle.sc_cmd.specs.declared.cores.Base.{Base}
+use Rattle.sc_cmd.specs.declared.orders.OrderLine.{OrderLine}
+use Rattle.sc_following_law.specs.Following.{Course, Sets}
+use Rattle.sc_following_law.specs.Hints.{Tellers}
+use Rattle.sc_member.specs.Roster.{IsRoster}
+use Rattle.sc_node_table.specs.Replica.{ReplicaState, last_slot, next}
+use Rattle.sc_orderly_law.specs.Orderly.{is_born}
+use Rattle.sc_orderly_law.specs.Timely.{AreInTime}
+use Rattle.sc_sound.specs.Players.{Player}
+
+-- How replicas of a group are bound after some rows, by how much they have executed.
+abbrev pub AreBoundBy : (ℕ → Bond) → List (Seat Player) → Rows → Draw → Type 0
+AreBoundBy bonds births rows name = (node : ℕ) (r : ReplicaState) → view_at births rows name node ≡ Some r → bond_of r.group.core ≡ bonds (next r)
+
+-- some replica of the group has executed all that is executed
+abbrev pub IsReached : List (Seat Player) → Rows → Base → Course → Type 0
+IsReached births rows base course = (node : ℕ) × (r : ReplicaState) × (view_at births rows base.core.id node ≡ Some r) × (next r ≡ course.newest)
+
+-- .. if there is any
+abbrev pub IsReachedSo : List (Seat Player) → Rows → Base → Course → Type 0
+IsReachedSo births rows base course = IsThere births rows base.core.id → IsReached births rows base course
+
+-- A group at one row of players: it is well led before the row and after it; in the rows up to it its log is one, and its mail is sent so; its replicas are bound by what they have executed, before the row and after it; and some replica is at the newest state.
+pub record IsGuided (words : ℕ → ℕ → ℕ × ℕ) (births : List (Seat Player)) (rows : Rows) (seat : Seat Player) (event : Event OrderLine) (base : Base) : Type 0 where
+  pub at : Sets
+  pub over : Ends
+  pub by : Tellers
+  pub course : Course
+  pub led : IsWellLed at over by words births rows base course
+  pub step : IsLedStep at over by words births rows seat event base course
+  pub log : HasOneLog at over by births (with_event rows seat event) base
+  pub sends : IsSentSo births (with_event rows seat event) base
+  pub bonds : ℕ → Bond
+  pub was_bound : AreBoundBy bonds births rows base.core.id
+  pub is_bound : AreBoundBy bonds births (with_event rows seat event) base.core.id
+  pub reached : IsReachedSo births rows base course
+
+-- some group of this name is so
+pub record IsNamedGuide (words : ℕ → ℕ → ℕ × ℕ) (births : List (Seat Player)) (rows : Rows) (seat : Seat Player) (event : Event OrderLine) (name : Draw) : Type 0 where
+  pub base : Base
+  pub named : base.core.id ≡ name
+  pub guided : IsGuided words births rows seat event base
+
+-- ---- who leads
+
+-- one replica of a group leads alone, or none runs
+abbrev pub LeadsOrNone : List (Seat Player) → Rows → Draw → Type 0
+LeadsOrNone births rows name = ((node : ℕ) × (lead : ReplicaState) × LeadsAlone births rows name node lead) ⊎ NoneRuns births rows name
+
+-- A well led group has one that leads alone, bound by no report, or none; and each replica that runs is that one.
+pub record WellLedLeadAlone : Type 0 where
+  pub alone : (at : Sets) (over : Ends) (by : Tellers) (words : ℕ → ℕ → ℕ × ℕ) (births : List (Seat Player)) (rows : Rows) (base : Base) (course : Course) (node : ℕ) (r : ReplicaState) → IsWellLed at over by words births rows base course
+      → view_at births rows base.core.id node ≡ Some r → r.running ≡ true → LeadsAlone births rows base.core.id node r × IsUnbound r
+  pub one : (at : Sets) (over : Ends) (by : Tellers) (words : ℕ → ℕ → ℕ × ℕ) (births : List (Seat Player)) (rows : Rows) (base : Base) (course : Course) → IsWellLed at over by words births rows base course
+      → LeadsOrNone births rows base.core.id
+
+-- what is no call waits at a replica only while something is in flight
+abbrev pub WaitsForFlights : ReplicaState → Type 0
+WaitsForFlights r = r.leader.flights ≡ [] → (works_in r.acts ≡ []) × (works_in r.calls ≡ [])
+
+-- In a quiet journal each replica of a well led group that runs has nothing in flight, where its slots are not used up, no mail of the group is for who is no actor, and what is no call waits only so.
+abbrev pub QuietLeadersHaveNothing : Type 0
+QuietLeadersHaveNothing =
+    (at : Sets) (over : Ends) (by : Tellers) (words : ℕ → ℕ → ℕ × ℕ) (births : List (Seat Player)) (rows : Rows) (base : Base) (course : Course) (node : ℕ) (r : ReplicaState) → AreKeptBorn births → ((slot : ℕ) → IsRoster (at slot)) → AreInTime (players words births) rows
+    → is_quiet (players words births) rows ≡ true → ((who : ℕ) → is_born (players words births) who ≡ false → marks_at (players words births) rows base.core.id who ≡ []) → IsWellLed at over by words births rows base course
+    → view_at births rows base.core.id node ≡ Some r → r.running ≡ true → next r ≤ last_slot → WaitsForFlights r → HasNothing r
+
+-- ---- the newest state
+
+-- The newest replicas are bound as the newest state, before a row and after it, and some replica is at that; and the row goes on to no other, where none runs.
+pub record NewestStay : Type 0 where
+  pub was : (words : ℕ → ℕ → ℕ × ℕ) (births : List (Seat Player)) (rows : Rows) (seat : Seat Player) (event : Event OrderLine) (base : Base) (g : IsGuided words births rows seat event base) → IsThere births rows base.core.id
+      → NewestAreBound births rows base.core.id (g.bonds g.course.newest)
+  pub stays : (words : ℕ → ℕ → ℕ × ℕ) (births : List (Seat Player)) (rows : Rows) (seat : Seat Player) (event : Event OrderLine) (base : Base) (g : IsGuided words births rows seat event base) → IsThere births rows base.core.id
+      → AreInTime (players words births) (with_event rows seat event) → NewestAreBound births (with_event rows seat event) base.core.id (g.bonds g.step.later.newest)
+  pub reached : (words : ℕ → ℕ → ℕ × ℕ) (births : List (Seat Player)) (rows : Rows) (seat : Seat Player) (event : Event OrderLine) (base : Base) (g : IsGuided words births rows seat event base) → IsThere births rows base.core.id
+      → AreInTime (players words births) (with_event rows seat event) → IsReached births (with_event rows seat event) base g.step.later
+  pub unled : (words : ℕ → ℕ → ℕ × ℕ) (births : List (Seat Player)) (rows : Rows) (seat : Seat Player) (event : Event OrderLine) (base : Base) (g : IsGuided words births rows seat event base) → NoneRuns births rows base.core.id
+      → g.step.later.newest ≡ g.course.newest

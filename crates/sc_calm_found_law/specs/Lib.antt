@@ -1,0 +1,5 @@
+pub mod Beside
+pub mod Guided
+pub mod Leader
+pub mod Missed
+pub mod Rows

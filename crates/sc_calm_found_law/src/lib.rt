@@ -1,0 +1,59 @@
+//! What each row of a journal in which an order is under way finds. Definitions and laws, no
+//! logic.
+#![tactic(auto)]
+
+ghost use Rattle.sc_calm_found_law.specs.Beside.{BesidesAreFound};
+ghost use Rattle.sc_calm_found_law.specs.Guided.{NewestStay, QuietLeadersHaveNothing, WellLedLeadAlone};
+ghost use Rattle.sc_calm_found_law.specs.Leader.{LeadersAreFound, StagesLeaveOneWork};
+ghost use Rattle.sc_calm_found_law.specs.Missed.{MissedAreFound, YoungMayBear};
+ghost use Rattle.sc_calm_found_law.specs.Rows.{OrdersRowsFind};
+
+/// A well led group has one that leads alone, bound by no report, or none runs; and each replica
+/// that runs is that one.
+pub fn well_led_lead_alone()
+    ensures { WellLedLeadAlone }
+{}
+
+/// In a quiet journal each replica of a well led group that runs has nothing in flight.
+pub fn quiet_leaders_have_nothing()
+    ensures { QuietLeadersHaveNothing }
+{}
+
+/// The newest replicas of a group are bound as its newest state, before a row and after it.
+pub fn newest_stay()
+    ensures { NewestStay }
+{}
+
+/// A mail to a replica that does not run comes beside the leader, or to a group in which none runs
+/// and whose newest states stay bound, and finds what an order needs; and so does an order.
+pub fn besides_are_found()
+    ensures { BesidesAreFound }
+{}
+
+/// The stages leave each leader one work, or none.
+pub fn stages_leave_one_work()
+    ensures { StagesLeaveOneWork }
+{}
+
+/// A mail to the leader of a well led group finds what an order needs, but that what a vote finds
+/// is asked.
+pub fn leaders_are_found()
+    ensures { LeadersAreFound }
+{}
+
+/// A mail to a node without replica of its group finds what an order needs.
+pub fn missed_are_found()
+    ensures { MissedAreFound }
+{}
+
+/// A child may be made that is well led, free and bound by nothing, and not led yet where its first
+/// member's node makes it.
+pub fn young_may_bear()
+    ensures { YoungMayBear }
+{}
+
+/// Each row of a calm journal in which an order is under way finds what an order needs, where its
+/// groups are guided, and by what is said of its mail.
+pub fn orders_rows_find()
+    ensures { OrdersRowsFind }
+{}
