@@ -40,6 +40,8 @@ module _ (top : Ballot) (slot : ℕ) where
     Round = λ ballot. Unit {0};
     Slot = λ slot. Unit {0};
     State = λ slot base. Unit {0};
+    Polled = λ ballot. Unit {0};
+    Behind = λ slot. Unit {0};
     late = λ p k. k;
     again = λ p command e k. (k, tt);
     entered = λ command p low k. entered_grown command p k;
@@ -62,9 +64,8 @@ module _ (top : Ballot) (slot : ℕ) where
     installs = λ to sets p k. tt;
     teaches = λ to slot command group low. tt;
     recalls = λ to slot command p e k. tt;
-    wants = λ to p k. tt;
-    wants_all = λ to group. tt;
-    promises = λ to ballot from_slot p good k. tt;
+    wants = λ to slot p behind low k. tt;
+    promises = λ to ballot from_slot p good polled k. tt;
     votes = λ to ballot slot group good low. tt;
     nacks = λ to p k. tt;
     offers = λ to tx offer own. tt;
@@ -81,12 +82,12 @@ module _ (top : Ballot) (slot : ℕ) where
   all_reported (x ∷ xs) = ((tt, tt), all_reported xs)
 
   any_heard : (who : ℕ) (body : MailBody) → Hears (growing who) body
-  any_heard who (Prepare group ballot from_slot) = tt
+  any_heard who (Prepare group ballot from_slot) = (tt, tt)
   any_heard who (Promise group ballot reports) = all_reported reports
   any_heard who (Accept group ballot slot command) = (tt, tt)
   any_heard who (Accepted group ballot slot) = tt
   any_heard who (Nack group promised) = tt
-  any_heard who (Learn group slot command) = tt
+  any_heard who (Learn group slot command) = (tt, tt)
   any_heard who (Install group slot base sets) = (tt, tt)
   any_heard who (Ask group from_slot) = tt
   any_heard who (Request group client seq op) = tt

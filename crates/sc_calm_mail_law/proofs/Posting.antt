@@ -39,6 +39,8 @@ posting who = record {
   Round = λ ballot. Unit {0};
   Slot = λ slot. Unit {0};
   State = λ slot base. Unit {0};
+  Polled = λ ballot. Unit {0};
+  Behind = λ slot. Unit {0};
   late = λ p k. tt;
   again = λ p command e k. (tt, tt);
   entered = λ command p low k. tt;
@@ -61,9 +63,8 @@ posting who = record {
   installs = λ to sets p k. tt;
   teaches = λ to slot command group low. tt;
   recalls = λ to slot command p e k. tt;
-  wants = λ to p k. tt;
-  wants_all = λ to group. tt;
-  promises = λ to ballot from_slot p good k. tt;
+  wants = λ to slot p behind low k. tt;
+  promises = λ to ballot from_slot p good polled k. tt;
   votes = λ to ballot slot group good low. tt;
   nacks = λ to p k. tt;
   offers = λ to tx offer own. own;
@@ -83,12 +84,12 @@ reported who mail = by mail.body
     each (x ∷ xs) = ((tt, tt), each xs)
 
     by : (body : MailBody) → Hears (posting who) body
-    by (Prepare group ballot from_slot) = tt
+    by (Prepare group ballot from_slot) = (tt, tt)
     by (Promise group ballot reports) = each reports
     by (Accept group ballot slot command) = (tt, tt)
     by (Accepted group ballot slot) = tt
     by (Nack group promised) = tt
-    by (Learn group slot command) = tt
+    by (Learn group slot command) = (tt, tt)
     by (Install group slot base sets) = (tt, tt)
     by (Ask group from_slot) = tt
     by (Request group client seq op) = tt
@@ -117,7 +118,7 @@ module _ (births : List (Seat Player)) where
   posting_law = record {
     walk = λ n who. posting who;
     mine = λ n who. refl;
-    births = λ n who. record { born = λ base. tt; made = λ slot base good. tt };
+    births = λ n who. record { born = λ base. tt; made = λ slot base good. tt; wants_all = λ to group. tt };
     Kept = λ n p. Unit {0};
     Good = λ n mail. IsPosted births mail;
     begins = λ base. tt;
