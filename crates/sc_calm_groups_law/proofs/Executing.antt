@@ -12,10 +12,10 @@ use Rattle.sc_paxos_words.specs.declared.reports.Report.{Report}
 use Rattle.sc_paxos_words.specs.Leaders.{LeaderState, promise_counted}
 use Rattle.sc_node_table.specs.declared.ReplicaInput.TheVariants as Given
 use Rattle.sc_node_table.specs.Pump.{pumped}
-use Rattle.sc_node_table.specs.Replica.{ReplicaState, Place, name_of, next}
+use Rattle.sc_node_table.specs.Replica.{ReplicaState, name_of, next}
 use Rattle.sc_node_table.specs.Rows.{mailed, stepped}
 use Rattle.sc_node_table.specs.Voting.{leads, promise_row}
-use Rattle.sc_following_law.specs.Following.{Course, Progress, Sets}
+use Rattle.sc_following_law.specs.Following.{Progress, Sets}
 use Rattle.sc_following_law.specs.Leading.{IsLeadOf, IsAside}
 use Rattle.sc_following_law.specs.Offers.{MayOffer}
 use Rattle.sc_following_law.proofs.Asides.{aside_is, order_is}

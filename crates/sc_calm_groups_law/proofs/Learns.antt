@@ -44,7 +44,7 @@ use Rattle.sc_calm_rows_law.specs.Elections.{IsNextLead}
 use Rattle.sc_calm_rows_law.specs.Groups.{promise_in, progress_at, marks_at, taken_mark}
 use Rattle.sc_calm_rows_law.specs.Mailed.{IsScene, TakesMail, HoldsReplica}
 use Rattle.sc_calm_rows_law.specs.Steps.{WaitsStill, elected_course}
-use Rattle.sc_calm_rows_law.specs.Turns.{with_event, IsReplicasRow}
+use Rattle.sc_calm_rows_law.specs.Turns.{IsReplicasRow}
 use Rattle.sc_calm_rows_law.proofs.Electing.{elections_keep, entered_name, entered_me}
 use Rattle.sc_calm_rows_law.proofs.Scenes.{apart_off, row_in, head, all_fit, within, no_lead, named, row_to, fit, taken}
 use Rattle.sc_calm_rows_law.proofs.Stepping.{steps_elect}

@@ -1,5 +1,5 @@
 -- A group of a journal whose rows come in time has leaders, and is well led after each of them.
-use Rattle.std.proofs.Common.{◌≡◌, ℕ, ◌+◌, ◌<◌, ◌≤◌, true, false, List, [], ◌∷◌, ◌++◌, Option, Some, None, ◌⊎◌, inl, inr, refl, sym, ◌∙◌, ap, subst, arith, append_assoc, append-nil}
+use Rattle.std.proofs.Common.{◌≡◌, ℕ, ◌+◌, ◌≤◌, true, false, List, [], ◌∷◌, ◌++◌, Option, Some, None, inl, inr, refl, sym, ◌∙◌, ap, subst, arith, append_assoc, append-nil}
 use Rattle.std.proofs.lemmas.Bool.{lt-ltb, le-ltb}
 use Rattle.sc_base.specs.Among.{Among, Each}
 use Rattle.sc_base.specs.declared.names.Draw.{Draw}
@@ -7,7 +7,6 @@ use Rattle.sc_cmd.specs.declared.cores.Base.{Base}
 use Rattle.sc_cmd.specs.declared.orders.OrderLine.{OrderLine}
 use Rattle.sc_mail.specs.declared.bodies.Mail.{Mail}
 use Rattle.sc_mail.specs.declared.bodies.MailBody.TheVariants.{Install}
-use Rattle.sc_member.specs.Roster.{is_member}
 use Rattle.sc_actor.specs.declared.actors.Seat.{Seat}
 use Rattle.sc_actor.specs.declared.rows.Event.{Event}
 use Rattle.sc_actor.specs.declared.rows.Row.{Row}
@@ -37,12 +36,12 @@ use Rattle.sc_calm_logs_law.specs.Logged.{logged_sets, IsGroupOf, SlotsHaveRoste
 use Rattle.sc_calm_groups_law.specs.Kept.{ReplicasAreKept, ScenariosAreKeptBorn}
 use Rattle.sc_calm_groups_law.specs.Kinds.{IsGroupRow, RowPasses, RowRests, RowTakes, RowMakes, RowLeads, RowElects, IsLedStep}
 use Rattle.sc_calm_groups_law.specs.Led.{Ends, IsWellLed, IsLedOn}
-use Rattle.sc_calm_groups_law.specs.Logged.{HasRounds, CountsAsMember}
+use Rattle.sc_calm_groups_law.specs.Logged.{CountsAsMember}
 use Rattle.sc_calm_groups_law.specs.Rows.{IsStateFrom}
 use Rattle.sc_calm_groups_law.specs.Through.{IsRowOf, Delivers, HasOneLog, IsSentSo, ScenariosAreWellBorn, EventsGoOn}
 use Rattle.sc_calm_groups_law.proofs.Sending.{each_among, among_marks}
 use Rattle.sc_calm_led_law.specs.Led.{over_at, HasLeaders, LedLogsAreOne}
-use Rattle.sc_calm_led_law.specs.Tellers.{has_executed, first_to, tellers_at, AreFew, GroupsBeginLed, GroupsAreLed}
+use Rattle.sc_calm_led_law.specs.Tellers.{has_executed, first_to, tellers_at, AreFew, GroupsBeginLed, GroupsAreLed, LedRowsGoOn}
 use Rattle.sc_calm_led_law.proofs.Telling.{last_parts, first_hit, none_hit, teller_member, teller_first, answers_none, offers_none, tells_within}
 
 none_behind : (before : Rows) (row : Row Mail OrderLine) (more : Rows) → [] ≡ (before ++ row ∷ []) ++ more → ⊥
@@ -269,3 +268,18 @@ module _ (well : ScenariosAreWellBorn) (kept : ScenariosAreKeptBorn) (keeps : Re
   groups_are_led words scenario journal front more base group timely few split so =
       led_through words scenario journal front more base group few split so (λ before row after e. timely before row (after ++ more) (split ∙ (ap (λ l. l ++ more) e ∙ append_assoc before (row ∷ after) more)))
       (begins words (tellers_at as_nodes scenario base journal) scenario journal base group)
+
+  pub led_rows_go_on : LedRowsGoOn
+  led_rows_go_on words scenario journal front more base group timely few split so rows seat event row born calm =
+      let this : Row Mail OrderLine = row_of player_table seat rows event in
+      let begins_front : front ≡ rows ++ (this ∷ row.more) = row.is ∙ append_assoc rows (this ∷ []) row.more in
+      let begins_all : journal ≡ rows ++ ((this ∷ row.more) ++ more) = split ∙ (ap (λ l. l ++ more) begins_front ∙ append_assoc rows (this ∷ row.more) more) in
+      let with_this : journal ≡ with_event rows seat event ++ (row.more ++ more) = split ∙ (ap (λ l. l ++ more) row.is ∙ append_assoc (with_event rows seat event) row.more more) in
+      let led = (groups_are_led words scenario journal rows ((this ∷ row.more) ++ more) base group timely few begins_all (sent_so (births as_nodes scenario) front rows (this ∷ row.more) base begins_front so)).0 in
+      let has = (groups_are_led words scenario journal front more base group timely few split so).1 in
+      let one = one_log as_nodes words (tellers_at as_nodes scenario base journal) scenario journal front more base group split has in (
+        led.0,
+        led.1,
+        go_on (logged_sets as_nodes base journal) (over_at as_nodes base journal) (tellers_at as_nodes scenario base journal) words (births as_nodes scenario) front base (well scenario) one so rows seat event led.0 row born calm
+            (λ before other after e. timely before other (after ++ (row.more ++ more)) (with_this ∙ (ap (λ l. l ++ (row.more ++ more)) e ∙ append_assoc before (other ∷ after) (row.more ++ more)))) led.1,
+      )

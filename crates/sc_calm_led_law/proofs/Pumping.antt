@@ -8,7 +8,7 @@ use Rattle.sc_paxos_words.specs.declared.answers.Must.{Must}
 use Rattle.sc_paxos_words.specs.declared.answers.Must.TheVariants.{Value, Gap, Free as Open}
 use Rattle.sc_paxos_words.specs.Leaders.{must}
 use Rattle.sc_node_table.specs.Pump.{Found, is_act, from_calls, from_acts, from_queues, found_by, found_for, offered, pumped_from, pumped}
-use Rattle.sc_node_table.specs.Replica.{ReplicaState, Place, next, settled, may_offer, taken_at, under_way, is_idle, last_slot}
+use Rattle.sc_node_table.specs.Replica.{Place, next, settled, may_offer, taken_at, under_way, is_idle, last_slot}
 
 -- the log of a place
 abbrev log_of : Place → LogState Command

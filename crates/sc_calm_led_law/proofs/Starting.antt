@@ -1,5 +1,5 @@
 -- Each group of a lawful journal is well led at the births: one of the scenario as it begins, and another since no node has a replica of it.
-use Rattle.std.proofs.Common.{◌≡◌, ℕ, ◌==◌, ◌++◌, eqb, true, false, true≢false, List, [], ◌∷◌, find, map, Option, Some, None, ◌⊎◌, inl, inr, refl, sym, ◌∙◌, ap, subst, arith}
+use Rattle.std.proofs.Common.{◌≡◌, ℕ, eqb, false, true≢false, List, [], ◌∷◌, find, map, Some, None, ◌⊎◌, inl, inr, refl, sym, ◌∙◌, ap, subst, arith}
 use Rattle.std.specs.List.{filter}
 use Rattle.std.proofs.lemmas.Bool.{cases_Bool, cond_both, cond-false}
 use Rattle.sc_base.specs.Among.{Among, Each}
@@ -15,9 +15,9 @@ use Rattle.sc_scenario.specs.Valid.{ValidScenariosAreBounded}
 use Rattle.sc_scenario.specs.declared.scenarios.Asks.{Asks}
 use Rattle.sc_scenario.specs.declared.scenarios.Scenario.{Scenario}
 use Rattle.sc_node_table.specs.Node.{born_replicas, replica_of}
-use Rattle.sc_node_table.specs.Replica.{ReplicaState, born_replica}
+use Rattle.sc_node_table.specs.Replica.{born_replica}
 use Rattle.sc_node_table.specs.Slots.{slots_ahead, numbers_from}
-use Rattle.sc_sound.specs.Players.{Ahead, Player, node_seat, client_seat, client_seats, route_of, births, as_nodes}
+use Rattle.sc_sound.specs.Players.{Player, node_seat, client_seat, client_seats, route_of, births, as_nodes}
 use Rattle.sc_log_law.specs.Descent.{Rows}
 use Rattle.sc_ring_law.specs.Allowed.{Sources}
 use Rattle.sc_names_law.specs.Laws.{OtherNamesAreFree, TakenOrdersAreAllowed, TakenWishesAreAllowed, WishesAreAtPositions}
@@ -26,7 +26,6 @@ use Rattle.sc_whole_law.specs.Begins.{BeginsWell, section_op}
 use Rattle.sc_whole_law.specs.Orders.{OrdersAreAllowed}
 use Rattle.sc_whole_law.specs.StartLaws.{ValidScenariosBeginWell}
 use Rattle.sc_whole_law.proofs.Scheduled.{orders_allowed}
-use Rattle.sc_following_law.specs.Hints.{Tellers}
 use Rattle.sc_calm_rows_law.specs.Groups.{replicas_of, replica_in, view_at, begun_course}
 use Rattle.sc_calm_logs_law.specs.Logged.{logged_sets, IsGroupOf, SlotsHaveRosters}
 use Rattle.sc_calm_logs_law.proofs.Journals.{found, stay}

@@ -1,7 +1,6 @@
 -- Who is the first to execute a slot in a journal, and which marks of states a leader's row sends.
-use Rattle.std.proofs.Common.{◌≡◌, ℕ, zero, suc, ◌+◌, ◌<◌, ◌≤◌, ◌&&◌, eqb, Bool, true, false, true≢false, cond, List, [], ◌∷◌, ◌++◌, Option, Some, None, ◌⊎◌, inl, inr, refl, sym, ◌∙◌, ap, subst, arith, append_assoc}
-use Rattle.std.specs.List.{filter}
-use Rattle.std.proofs.lemmas.Bool.{cond_both, cond-true, cond-false, eq-eqb}
+use Rattle.std.proofs.Common.{◌≡◌, ℕ, zero, suc, ◌+◌, ◌<◌, ◌≤◌, ◌&&◌, eqb, Bool, true, false, cond, List, [], ◌∷◌, ◌++◌, Option, Some, None, ◌⊎◌, inl, inr, refl, sym, ◌∙◌, ap, subst, arith, append_assoc}
+use Rattle.std.proofs.lemmas.Bool.{cond_both, cond-true, cond-false}
 use Rattle.sc_base.specs.Among.{Among, Each}
 use Rattle.sc_base.specs.declared.names.Ballot.{Ballot}
 use Rattle.sc_base.specs.declared.names.Draw.{Draw}
@@ -12,13 +11,11 @@ use Rattle.sc_actor.specs.declared.actors.Seat.{Seat}
 use Rattle.sc_actor.specs.declared.rows.Row.{Row}
 use Rattle.sc_paxos_words.specs.Ballots.{below}
 use Rattle.sc_paxos_words.proofs.ListLemmas.{Each-among}
-use Rattle.sc_node_table.specs.Replica.{listed}
 use Rattle.sc_sound.specs.Players.{Player}
 use Rattle.sc_log_law.specs.Descent.{Rows}
-use Rattle.sc_following_law.specs.Following.{Mark, Asks, Votes, Tells, Installs, Prepares, Promises, mark_of, marks_of, Course, Sets}
+use Rattle.sc_following_law.specs.Following.{Mark, Asks, Votes, Tells, Installs, Prepares, Promises, Course, Sets}
 use Rattle.sc_following_law.specs.Rows.{answered, welcome, told_of, told_from, IsOffer}
-use Rattle.sc_following_law.specs.Tables.{marks_for}
-use Rattle.sc_following_law.proofs.Marks.{among-left, among-right, among-either}
+use Rattle.sc_following_law.proofs.Marks.{among-either}
 use Rattle.sc_calm_rows_law.specs.Groups.{view_at}
 use Rattle.sc_calm_led_law.specs.Tellers.{has_executed, first_to, teller_of}
 

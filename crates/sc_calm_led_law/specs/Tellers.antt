@@ -1,29 +1,27 @@
 -- Who leads a group at each slot, by a journal, and that groups of journals whose rows come in time have leaders.
-use Rattle.std.specs.Prelude.{◌≡◌, ℕ, ◌-◌, ◌^◌, ◌<◌, ◌≤◌, nat_lt, Bool, false, List, [], ◌∷◌, ◌++◌, if◌then◌else◌, Option, Some, None, ◌⊎◌}
-use Rattle.sc_base.specs.Among.{Among, Each}
+use Rattle.std.specs.Prelude.{◌≡◌, ℕ, ◌-◌, ◌^◌, ◌<◌, ◌≤◌, nat_lt, Bool, false, List, [], ◌∷◌, ◌++◌, if◌then◌else◌, Option, Some, None}
 use Rattle.sc_base.specs.declared.names.Draw.{Draw}
 use Rattle.sc_cmd.specs.declared.cores.Base.{Base}
-use Rattle.sc_cmd.specs.declared.orders.OrderLine.{OrderLine}
-use Rattle.sc_mail.specs.declared.bodies.Mail.{Mail}
-use Rattle.sc_mail.specs.declared.bodies.MailBody.TheVariants.{Install}
 use Rattle.sc_member.specs.Roster.{is_member, least_of}
 use Rattle.sc_actor.specs.declared.actors.Seat.{Seat}
-use Rattle.sc_actor.specs.declared.rows.Event.{Event}
-use Rattle.sc_actor.specs.System.{row_of}
 use Rattle.sc_orderly_law.specs.Timely.{AreInTime}
 use Rattle.sc_scenario.specs.declared.scenarios.Scenario.{Scenario}
 use Rattle.sc_node_table.specs.Replica.{ReplicaState, next, last_slot}
-use Rattle.sc_sound.specs.Players.{Ahead, Player, player_table, births, as_nodes}
+use Rattle.sc_sound.specs.Players.{Ahead, Player, births, as_nodes}
 use Rattle.sc_calm_law.specs.Charts.{players}
 use Rattle.sc_log_law.specs.Descent.{Rows}
-use Rattle.sc_following_law.specs.Following.{members_at}
+use Rattle.sc_following_law.specs.Following.{members_at, Course}
 use Rattle.sc_following_law.specs.Hints.{Tellers}
 use Rattle.sc_calm_rows_law.specs.Groups.{view_at}
-use Rattle.sc_calm_rows_law.specs.Turns.{IsSeat}
 use Rattle.sc_calm_logs_law.specs.Logged.{logged_sets, IsGroupOf}
-use Rattle.sc_calm_groups_law.specs.Led.{IsLedOn}
-use Rattle.sc_calm_groups_law.specs.Through.{IsRowOf, IsSentSo}
+use Rattle.sc_calm_groups_law.specs.Led.{IsLedOn, IsWellLed}
+use Rattle.sc_calm_groups_law.specs.Through.{IsSentSo, IsRowOf}
 use Rattle.sc_calm_led_law.specs.Led.{over_at, HasLeaders}
+use Rattle.sc_cmd.specs.declared.orders.OrderLine.{OrderLine}
+use Rattle.sc_actor.specs.declared.rows.Event.{Event}
+use Rattle.sc_orderly_law.specs.Orderly.{IsCalmEvent}
+use Rattle.sc_calm_rows_law.specs.Turns.{IsSeat}
+use Rattle.sc_calm_groups_law.specs.Kinds.{IsLedStep}
 
 -- whether a replica has executed a slot
 abbrev pub has_executed : ℕ → Option ReplicaState → Bool
@@ -61,3 +59,12 @@ GroupsAreLed =
     (words : ℕ → ℕ → ℕ × ℕ) (scenario : Scenario) (journal front more : Rows) (base : Base) → IsGroupOf as_nodes words scenario journal base → AreInTime (players words (births as_nodes scenario)) journal → AreFew as_nodes scenario journal base → journal ≡ front ++ more
     → IsSentSo (births as_nodes scenario) front base
     → IsLedOn (logged_sets as_nodes base journal) (over_at as_nodes base journal) (tellers_at as_nodes scenario base journal) words (births as_nodes scenario) front base × HasLeaders as_nodes (tellers_at as_nodes scenario base journal) scenario journal front base
+
+-- And each of these rows is one of the group of a known kind, from the course before it to the one after it.
+abbrev pub LedRowsGoOn : Type 0
+LedRowsGoOn =
+    (words : ℕ → ℕ → ℕ × ℕ) (scenario : Scenario) (journal front more : Rows) (base : Base) → IsGroupOf as_nodes words scenario journal base → AreInTime (players words (births as_nodes scenario)) journal → AreFew as_nodes scenario journal base → journal ≡ front ++ more
+    → IsSentSo (births as_nodes scenario) front base
+    → (rows : Rows) (seat : Seat Player) (event : Event OrderLine) → IsRowOf front rows seat event → IsSeat (births as_nodes scenario) seat → IsCalmEvent (players words (births as_nodes scenario)) rows seat.who event
+    → (course : Course) × IsWellLed (logged_sets as_nodes base journal) (over_at as_nodes base journal) (tellers_at as_nodes scenario base journal) words (births as_nodes scenario) rows base course
+    × IsLedStep (logged_sets as_nodes base journal) (over_at as_nodes base journal) (tellers_at as_nodes scenario base journal) words (births as_nodes scenario) rows seat event base course

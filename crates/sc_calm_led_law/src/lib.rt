@@ -3,7 +3,7 @@
 #![tactic(auto)]
 
 ghost use Rattle.sc_calm_led_law.specs.Led.{ChildrenAreBegun, EndsAreLogged, GroupsBeginStanding, LedLogsAreOne, MembersMoveOneWay};
-ghost use Rattle.sc_calm_led_law.specs.Tellers.{GroupsAreLed, GroupsBeginLed};
+ghost use Rattle.sc_calm_led_law.specs.Tellers.{GroupsAreLed, GroupsBeginLed, LedRowsGoOn};
 
 use sc_calm_groups_law::{
     children_begin_led, events_go_on, replicas_are_kept, scenarios_are_kept_born,
@@ -90,6 +90,19 @@ pub fn groups_begin_led()
 /// come in time and its mail is sent so.
 pub fn groups_are_led()
     ensures { GroupsAreLed }
+{
+    scenarios_are_well_born();
+    scenarios_are_kept_born();
+    replicas_are_kept();
+    events_go_on();
+    led_logs_are_one();
+    slots_have_rosters();
+    groups_begin_led();
+}
+
+/// And each of these rows is one of the group of a known kind, which says how its course moves.
+pub fn led_rows_go_on()
+    ensures { LedRowsGoOn }
 {
     scenarios_are_well_born();
     scenarios_are_kept_born();
