@@ -21,12 +21,16 @@ use Rattle.sc_scenario.specs.declared.scenarios.Asks.{Asks as Requests}
 use Rattle.sc_scenario.specs.declared.scenarios.Scenario.{Scenario}
 use Rattle.sc_node_table.specs.Node.{NodeState, may_come, is_node}
 use Rattle.sc_node_table.specs.Slots.{numbers_from}
+use Rattle.sc_client_table.specs.Client.{Client as ClientState}
+use Rattle.sc_actor.specs.Replay.{value}
 use Rattle.sc_sound.specs.Players.{Player, player_table, node_seat, client_seat, client_seats, route_of, births, as_nodes}
 use Rattle.sc_calm_law.specs.Charts.{players}
+use Rattle.sc_orderly_law.specs.Timely.{AreInTime}
+use Rattle.sc_calm_law.specs.Totals.{Rows}
 use Rattle.sc_calm_rows_law.specs.Turns.{IsSeat}
 use Rattle.sc_calm_mail_law.specs.Posted.{IsNodesBody, IsClientsBody, IsPlayers, IsPosted, MailIsPosted, RowsPostTheirOwn, MailMayCome, DesksAreNotBorn}
 use Rattle.sc_calm_mail_law.proofs.Clients.{IsRequestOf}
-use Rattle.sc_calm_mail_law.proofs.Journals.{Speaks, Law, Holds, row_speaks, journals_hold}
+use Rattle.sc_calm_mail_law.proofs.Journals.{Speaks, Law, Holds, Plays, row_speaks, journals_hold}
 use Rattle.sc_calm_mail_law.proofs.Walks.{Walk, Sends, Hears}
 
 -- nothing is asked of a replica, and of mail what its sender sends
@@ -131,6 +135,20 @@ module _ (births : List (Seat Player)) where
 
 pub mail_posted : MailIsPosted
 mail_posted words scenario rows timely = (journals_hold scenario (posting_law (births as_nodes scenario)) words rows timely).1
+
+-- who is a client was born as one
+pub clients_stay : (words : ℕ → ℕ → ℕ × ℕ) (scenario : Scenario) (rows : Rows) → AreInTime (players words (births as_nodes scenario)) rows
+    → (seat : Seat Player) (client : ClientState) → IsSeat (births as_nodes scenario) seat → value player_table seat rows ≡ Client client → (own : ClientState) × (seat.actor ≡ Client own)
+clients_stay words scenario rows timely seat client born is =
+    by (value player_table seat rows) is
+    (Each-among (λ (x : Seat Player). Plays all (posting_law all) (length rows) x (value player_table x rows)) all seat (journals_hold scenario (posting_law all) words rows timely).0 (find_found (λ (x : Seat Player). eqb x.who seat.who) all seat born).0)
+  where
+    all : List (Seat Player)
+    all = births as_nodes scenario
+
+    by : (player : Player) → player ≡ Client client → Plays all (posting_law all) (length rows) seat player → (own : ClientState) × (seat.actor ≡ Client own)
+    by (Node node) e k = cc
+    by (Client other) e k = (k.0, k.1)
 
 pub rows_post : RowsPostTheirOwn
 rows_post words scenario rows row timely =
