@@ -212,7 +212,7 @@ module _ (words : ℕ → ℕ → ℕ × ℕ) (at : Sets) (over : Ends) (by : Te
 
     which : (first : Rows) (who : Seat Player) (number : ℕ) (mail : Mail) → Delivers then_ first who number mail → Last first who number mail ⊎ Delivers rows first who number mail
     which first who number mail d = elim (last_parts rows row first (row_of player_table who first (Deliver number)) d.row.more (d.row.is ∙ append_assoc first (row_of player_table who first (Deliver number) ∷ []) d.row.more)) [
-      | inl p ↦ inl (p.0, subst (λ (r : Row Mail OrderLine). AreInTime (players words all) (rows ++ r ∷ [])) (p.1 ∙ ap (λ f. row_of player_table who f (Deliver number)) p.0) timely)
+      | inl p ↦ inl (p.0, subst (λ (r : Row Mail OrderLine). AreInTime (players words all) (rows ++ r ∷ [])) (sym p.1 ∙ ap (λ f. row_of player_table who f (Deliver number)) p.0) timely)
       | inr q ↦ inr (record { row = record { more = q.0; is = q.1 ∙ sym (append_assoc first (row_of player_table who first (Deliver number) ∷ []) q.0) }; sent = d.sent })
     ]
 

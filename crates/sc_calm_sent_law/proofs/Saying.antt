@@ -49,7 +49,7 @@ module _ (name : Draw) (ballot : Ballot) (slots : ℕ) (Own : Type 0) where
   jumped_well : (slot : ℕ) (base : Base) (p : Part) → next_in p ≤ slot → Well p → Well (jumped_part slot base p)
   jumped_well slot base p later k is = (let w = k is in let up = installed_up slot in let low = w.2 in (w.0, w.1, omega (arith, up, low, later)))
 
-  abbrev pub talking : (Base → Type 0) → ℕ → Walk
+  abbrev talking : (Base → Type 0) → ℕ → Walk
   talking State who = record {
     me = who;
     Early = λ p. Well p;

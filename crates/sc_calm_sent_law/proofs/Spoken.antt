@@ -30,7 +30,7 @@ use Rattle.sc_scenario.specs.Valid.{IsBounded}
 use Rattle.sc_scenario.specs.declared.scenarios.Scenario.{Scenario}
 use Rattle.sc_node_table.specs.Node.{NodeState, replica_of, group_of_mail, group_of_order, may_come, on_mail, on_order}
 use Rattle.sc_node_table.specs.Ordering.{ordered_row}
-use Rattle.sc_node_table.specs.Replica.{ReplicaState, name_of, next, first_ballot}
+use Rattle.sc_node_table.specs.Replica.{ReplicaState, listed, name_of, next, first_ballot}
 use Rattle.sc_node_table.specs.Rows.{mailed}
 use Rattle.sc_group_law.proofs.RowSteps.{number_among}
 use Rattle.sc_sound.specs.Players.{Player, player_table, births, as_nodes}
@@ -38,8 +38,10 @@ use Rattle.sc_calm_law.specs.Charts.{players}
 use Rattle.sc_calm_law.specs.Totals.{Rows}
 use Rattle.sc_following_law.specs.Following.{Mark, Asks, Tells, Prepares, mark_of, Course, Sets, IsFit}
 use Rattle.sc_following_law.specs.Hints.{Tellers}
+use Rattle.sc_following_law.specs.Dated.{from_slot_of}
+use Rattle.sc_following_law.proofs.Dated.{prepares_are_known}
 use Rattle.sc_following_law.proofs.Nodes.{same_mark}
-use Rattle.sc_calm_rows_law.specs.Groups.{view_at, promise_in, progress_at}
+use Rattle.sc_calm_rows_law.specs.Groups.{view_at, next_in, promise_in, progress_at}
 use Rattle.sc_calm_rows_law.specs.Mailed.{TakesMail, HoldsReplica}
 use Rattle.sc_calm_rows_law.specs.Turns.{IsSeat, with_event, IsReplicasRow}
 use Rattle.sc_calm_rows_law.specs.WellKept.{IsWellKept}
@@ -47,10 +49,11 @@ use Rattle.sc_calm_rows_law.proofs.Scenes.{fit, goes_on, known}
 use Rattle.sc_calm_rows_law.proofs.Turning.{found_name, rows_replicas}
 use Rattle.sc_calm_rows_law.proofs.Viewing.{view_was, sent_is}
 use Rattle.sc_calm_rows_law.proofs.WellNodes.{Plays, Found, found_well, replay_well}
-use Rattle.sc_calm_groups_law.specs.Led.{Ends, IsWellLed}
+use Rattle.sc_calm_groups_law.specs.Led.{Ends, dated_at, IsWellLed}
 use Rattle.sc_calm_groups_law.specs.Mailed.{IsLedScene}
 use Rattle.sc_calm_groups_law.specs.Through.{IsWellPlayer, AreWellBorn, Delivers, HasOneLog, IsSentSo}
-use Rattle.sc_calm_groups_law.proofs.Mails.{scene, asked_low}
+use Rattle.sc_calm_groups_law.proofs.Mails.{scene}
+use Rattle.sc_calm_groups_law.proofs.Dating.{dated_in, taken_dated, rows_dated}
 use Rattle.sc_calm_mail_law.specs.Idle.{IsPlainlyKept, JournalsKeepIdle}
 use Rattle.sc_calm_mail_law.proofs.Posting.{mail_comes}
 use Rattle.sc_calm_sent_law.specs.Journals.{IsSentOn, FindsNothing}
@@ -140,7 +143,9 @@ module _ (words : ℕ → ℕ → ℕ × ℕ) (at : Sets) (over : Ends) (by : Te
             let marked : mark_of name mail.from mail.body ≡ Some (Prepares ballot) = ap (mark_of name mail.from) body ∙ same_mark name (Prepares ballot) in
             let least : IsAtLeast course.ballot ballot = known at words all rows seat node base course (scene at over by words all rows seat node base course s) number mail takes (Prepares ballot) marked in
             let goes = goes_on at words all rows seat node base course (scene at over by words all rows seat node base course s) r (view_of name (Some r) here) ballot least in
-            let low = asked_low at over by words all rows seat node base course s number mail takes r has ballot from_slot body (view_of name (Some r) here) in
+            let dated = rows_dated words all rows (row_of player_table seat rows (Deliver number)) base course course timely_mail in
+            let taken : taken_dated name (mails rows) (Deliver number) ≡ Some (Prepares ballot, from_slot) = ap (dated_in name) sent_at ∙ (ap (option_map (λ mark. (mark, from_slot_of mail.body))) marked ∙ ap (λ b. Some (Prepares ballot, from_slot_of b)) body) in
+            let low = prepares_are_known.above (progress_at all rows base course) (dated_at (players words all) rows name) seat.who ballot from_slot dated.left r was.low (dated.takes ∙ ap (λ o. listed o ++ dated.left) taken) (sym (ap (next_in base seat.who) (view_of name (Some r) here))) has.well.2 in
             subst (λ b. Well (mailed mail.from b (r, [])).0.1) (sym (body ∙ ap (λ n. Prepare n ballot from_slot) (sym named_is)))
             (prepare_says base.core.id course.ballot mail.from ballot from_slot r goes low (nothing rows seat number mail ballot from_slot r d body (view_of name (Some r) here)) most)
         by_body (Accept g ballot slot command) e =
@@ -190,10 +195,10 @@ module _ (words : ℕ → ℕ → ℕ × ℕ) (at : Sets) (over : Ends) (by : Te
     -- ---- an order
 
     order_well : (line : OrderLine) → Well (on_order line node).1
-    order_well line = node_orders base.core.id course.ballot node line (λ r here. by r here)
+    order_well line = node_orders base.core.id course.ballot node line (λ r here. go r here)
       where
-        by : (r : ReplicaState) → replica_of (group_of_order line.order) node.replicas ≡ Some r → Well (ordered_row node.draws line (r, [])).1
-        by r here = elim (cases_Bool (same_draw (group_of_order line.order) name)) [
+        go : (r : ReplicaState) → replica_of (group_of_order line.order) node.replicas ≡ Some r → Well (ordered_row node.draws line (r, [])).1
+        go r here = elim (cases_Bool (same_draw (group_of_order line.order) name)) [
           | inl t ↦ (let same = draw_is (group_of_order line.order) name t in
               order_says base.core.id course.ballot 0 (Unit {0}) seat.who node.draws line r (kept_of (group_of_order line.order) r here) (λ _. (tt, most_of (Some r) (view_of name (Some r) (ap (λ n. replica_of n node.replicas) (sym same) ∙ here)), omega arith)))
           | inr f ↦ order_says base.core.id course.ballot 0 ⊥ seat.who node.draws line r (kept_of (group_of_order line.order) r here)
@@ -203,12 +208,12 @@ module _ (words : ℕ → ℕ → ℕ × ℕ) (at : Sets) (over : Ends) (by : Te
   -- ---- each event
 
   says_by : (player : Player) → value player_table seat rows ≡ player → (e : Event OrderLine) → event ≡ e → Well (acted player_table player (input_of (mails rows) e)).1
-  says_by player is (Deliver number) e = by (numbered (mails rows) number) refl player is
+  says_by player is (Deliver number) e = go (numbered (mails rows) number) refl player is
     where
-      by : (o : Option Mail) → numbered (mails rows) number ≡ o → (p : Player) → value player_table seat rows ≡ p → Well (acted player_table p (option_map Got o)).1
-      by None at_ p is_ = tt
-      by (Some mail) at_ (Node node) is_ = mail_well node is_ number mail e at_
-      by (Some mail) at_ (Client client) is_ = client_says base.core.id course.ballot client (Got mail)
+      go : (o : Option Mail) → numbered (mails rows) number ≡ o → (p : Player) → value player_table seat rows ≡ p → Well (acted player_table p (option_map Got o)).1
+      go None at_ p is_ = tt
+      go (Some mail) at_ (Node node) is_ = mail_well node is_ number mail e at_
+      go (Some mail) at_ (Client client) is_ = client_says base.core.id course.ballot client (Got mail)
   says_by (Node node) is Go e = tt
   says_by (Client client) is Go e = client_says base.core.id course.ballot client GoInput
   says_by (Node node) is (Told line) e = order_well node is line
