@@ -46,12 +46,12 @@ module _ (most more : ℕ) (le : most ≤ more) where
 
 -- a mail with few slots is one that a replica may take
 hears_few : (n who : ℕ) (body : MailBody) → SaysFew (most_after n) body → Hears (few_walk n who) body
-hears_few n who (Prepare group ballot from_slot) k = k.0
+hears_few n who (Prepare group ballot from_slot) k = (k.0, tt)
 hears_few n who (Promise group ballot reports) k = k.1
 hears_few n who (Accept group ballot slot command) k = k
 hears_few n who (Accepted group ballot slot) k = k.1
 hears_few n who (Nack group promised) k = k
-hears_few n who (Learn group slot command) k = k
+hears_few n who (Learn group slot command) k = (k, tt)
 hears_few n who (Install group slot base sets) k = (k, k)
 hears_few n who (Ask group from_slot) k = tt
 hears_few n who (Request group client seq op) k = tt

@@ -97,6 +97,8 @@ few_walk n who = (
       Round = λ ballot. ballot.round ≤ most_after n;
       Slot = λ slot. slot ≤ most_after n;
       State = λ slot base. slot ≤ most_after n;
+      Polled = λ ballot. Unit {0};
+      Behind = λ slot. Unit {0};
       late = λ p k. late_few m p k;
       again = λ p command e k. again_few m p command e k;
       entered = λ command p low k. entered_few m command p low k;
@@ -120,9 +122,8 @@ few_walk n who = (
       installs = λ to sets p k. (let a = k.0.0 in omega (arith, a));
       teaches = λ to slot command group low. omega (arith, low);
       recalls = λ to slot command p e k. (let a = k.0.0 in let low = entry_low slot p.log command e in omega (arith, a, low));
-      wants = λ to p k. (let a = k.0.0 in omega (arith, a));
-      wants_all = λ to group. omega arith;
-      promises = λ to ballot from_slot p good k. (
+      wants = λ to slot p behind low k. (let a = k.0.0 in omega (arith, a));
+      promises = λ to ballot from_slot p good polled k. (
         omega (arith, good),
         Each-weaker (IsFewReport m) (IsFewReport x) (λ report q. (let a = q.0 in let b = q.1 in (omega (arith, a), omega (arith, b)))) (reports_from from_slot p.acceptor.accepted)
             (Each-filter (IsFewReport m) (λ report. nat_le from_slot report.slot) p.acceptor.accepted k.0.2),
@@ -142,4 +143,5 @@ pub few_births : (n who : ℕ) → Births (few_walk n who)
 few_births n who = record {
   born = λ base. ((omega arith, omega arith, tt, tt, tt, tt), omega arith, omega arith, λ some. (omega arith, omega arith));
   made = λ slot base good. made_few (most_after n) slot base (omega arith) good;
+  wants_all = λ to group. omega arith;
 }

@@ -38,6 +38,8 @@ module _ (top : Ballot) (slot : ℕ) where
     Round = λ ballot. Unit {0};
     Slot = λ slot. Unit {0};
     State = λ slot base. Unit {0};
+    Polled = λ ballot. Unit {0};
+    Behind = λ slot. Unit {0};
     late = λ p k. k;
     again = λ p command e k. (k, tt);
     entered = λ command p low k. entered_grown command p k;
@@ -60,9 +62,8 @@ module _ (top : Ballot) (slot : ℕ) where
     installs = λ to sets p k. tt;
     teaches = λ to slot command group low. tt;
     recalls = λ to slot command p e k. tt;
-    wants = λ to p k. tt;
-    wants_all = λ to group. tt;
-    promises = λ to ballot from_slot p good k. tt;
+    wants = λ to slot p behind low k. tt;
+    promises = λ to ballot from_slot p good polled k. tt;
     votes = λ to ballot slot group good low. tt;
     nacks = λ to p k. tt;
     offers = λ to tx offer own. tt;
@@ -74,7 +75,7 @@ module _ (top : Ballot) (slot : ℕ) where
   }
 
 pub mailed_grown : (who from : ℕ) (body : MailBody) (r : ReplicaState) → IsPlainlyKept who r → HasGrown r (mailed from body (r, [])).0.0
-mailed_grown who from body r kept = (takes_mail (growing r.top (next r) who) from body (r, []) (hears_all (growing r.top (next r) who) (λ ballot. tt) (λ slot. tt) body (λ group slot base sets e. (tt, tt))) ((kept, (at_least_itself r.top, omega arith)), tt)).0.1
+mailed_grown who from body r kept = (takes_mail (growing r.top (next r) who) from body (r, []) (hears_all (growing r.top (next r) who) (λ ballot. (tt, tt)) (λ slot. (tt, tt)) body (λ group slot base sets e. (tt, tt))) ((kept, (at_least_itself r.top, omega arith)), tt)).0.1
 
 pub ordered_grown : (who : ℕ) (drawer : Drawer) (line : OrderLine) (r : ReplicaState) → IsPlainlyKept who r → HasGrown r (ordered_row drawer line (r, [])).0
 ordered_grown who drawer line r kept = (orders (growing r.top (next r) who) drawer line (r, []) ((kept, (at_least_itself r.top, omega arith)), tt)).0.1

@@ -77,6 +77,8 @@ module _ (into : Route) where
     Late = λ p. Over p;
     Says = λ to body. Unit {0};
     Round = λ ballot. Unit {0};
+    Polled = λ ballot. Unit {0};
+    Behind = λ slot. Unit {0};
     Slot = λ slot. Unit {0};
     State = λ slot base. IsOver into base.core;
     late = λ p k. k;
@@ -101,9 +103,8 @@ module _ (into : Route) where
     installs = λ to sets p k. tt;
     teaches = λ to slot command group low. tt;
     recalls = λ to slot command p e k. tt;
-    wants = λ to p k. tt;
-    wants_all = λ to group. tt;
-    promises = λ to ballot from_slot p good k. tt;
+    wants = λ to slot p behind low k. tt;
+    promises = λ to ballot from_slot p good polled k. tt;
     votes = λ to ballot slot group good low. tt;
     nacks = λ to p k. tt;
     offers = λ to tx offer own. tt;
@@ -119,7 +120,7 @@ module _ (into : Route) where
   IsHeard body = (who : ℕ) → Hears (ending who) body
 
   heard_by : (name : Draw) (body : MailBody) → Some name ≡ group_of_mail body → ((slot : ℕ) (base : Base) (sets : List (List ℕ)) → body ≡ Install name slot base sets → IsOver into base.core) → IsHeard body
-  heard_by name body g states = λ who. hears_all (ending who) (λ ballot. tt) (λ slot. tt) body (λ group slot base sets e. (let same : Some name ≡ Some group = g ∙ ap group_of_mail e in let own : group ≡ name = cc in
+  heard_by name body g states = λ who. hears_all (ending who) (λ ballot. (tt, tt)) (λ slot. (tt, tt)) body (λ group slot base sets e. (let same : Some name ≡ Some group = g ∙ ap group_of_mail e in let own : group ≡ name = cc in
       let over = states slot base sets (e ∙ ap (λ (n : Draw). Install n slot base sets) own) in (over, over)))
 
 pub over_stays : OverStays

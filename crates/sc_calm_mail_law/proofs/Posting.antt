@@ -1,5 +1,5 @@
 -- Each mail of a journal is sent by a player of its number, to whom such a player sends such mail.
-use Rattle.std.proofs.Common.{◌≡◌, ℕ, zero, suc, ◌+◌, ◌≤◌, nat_le, eqb, true, false, List, [], ◌∷◌, map, refl, sym, ◌∙◌, ap, subst, inl, inr, arith, rules, tests}
+use Rattle.std.proofs.Common.{length, ◌≡◌, ℕ, zero, suc, ◌+◌, ◌≤◌, nat_le, eqb, true, false, List, [], ◌∷◌, map, refl, sym, ◌∙◌, ap, subst, inl, inr, arith, rules, tests}
 use Rattle.std.proofs.lemmas.Bool.{le-leb}
 use Rattle.sc_base.specs.Among.{Each}
 use Rattle.sc_base.specs.Limits.{most_nodes}
@@ -18,11 +18,15 @@ use Rattle.sc_scenario.specs.declared.scenarios.Asks.{Asks as Requests}
 use Rattle.sc_scenario.specs.declared.scenarios.Scenario.{Scenario}
 use Rattle.sc_node_table.specs.Node.{may_come, is_node}
 use Rattle.sc_node_table.specs.Slots.{numbers_from}
+use Rattle.sc_client_table.specs.Client.{Client as ClientState}
+use Rattle.sc_actor.specs.Replay.{value}
 use Rattle.sc_sound.specs.Players.{Player, player_table, node_seat, client_seat, client_seats, route_of, births, as_nodes}
 use Rattle.sc_calm_law.specs.Charts.{players}
+use Rattle.sc_orderly_law.specs.Timely.{AreInTime}
+use Rattle.sc_calm_law.specs.Totals.{Rows}
 use Rattle.sc_calm_rows_law.specs.Turns.{IsSeat}
 use Rattle.sc_calm_mail_law.specs.Posted.{IsNodesBody, IsClientsBody, IsPlayers, IsPosted, MailIsPosted, RowsPostTheirOwn, MailMayCome, DesksAreNotBorn}
-use Rattle.sc_calm_mail_law.proofs.Journals.{Speaks, Law, Holds, row_speaks, journals_hold}
+use Rattle.sc_calm_mail_law.proofs.Journals.{Speaks, Law, Holds, Plays, row_speaks, journals_hold}
 use Rattle.sc_calm_mail_law.proofs.Walks.{Walk, hears_all}
 
 -- nothing is asked of a replica, and of mail what its sender sends
@@ -35,6 +39,8 @@ posting who = record {
   Round = λ ballot. Unit {0};
   Slot = λ slot. Unit {0};
   State = λ slot base. Unit {0};
+  Polled = λ ballot. Unit {0};
+  Behind = λ slot. Unit {0};
   late = λ p k. tt;
   again = λ p command e k. (tt, tt);
   entered = λ command p low k. tt;
@@ -57,9 +63,8 @@ posting who = record {
   installs = λ to sets p k. tt;
   teaches = λ to slot command group low. tt;
   recalls = λ to slot command p e k. tt;
-  wants = λ to p k. tt;
-  wants_all = λ to group. tt;
-  promises = λ to ballot from_slot p good k. tt;
+  wants = λ to slot p behind low k. tt;
+  promises = λ to ballot from_slot p good polled k. tt;
   votes = λ to ballot slot group good low. tt;
   nacks = λ to p k. tt;
   offers = λ to tx offer own. own;
@@ -86,19 +91,33 @@ module _ (births : List (Seat Player)) where
   posting_law = record {
     walk = λ n who. posting who;
     mine = λ n who. refl;
-    births = λ n who. record { born = λ base. tt; made = λ slot base good. tt };
+    births = λ n who. record { born = λ base. tt; made = λ slot base good. tt; wants_all = λ to group. tt };
     Kept = λ n p. Unit {0};
     Good = λ n mail. IsPosted births mail;
     begins = λ base. tt;
     starts = λ n who p k. tt;
     keeps = λ n who p k. tt;
     more = λ n mail good. good;
-    hears = λ n who mail good. hears_all (posting who) (λ ballot. tt) (λ slot. tt) mail.body (λ group slot base sets e. (tt, tt));
+    hears = λ n who mail good. hears_all (posting who) (λ ballot. (tt, tt)) (λ slot. (tt, tt)) mail.body (λ group slot base sets e. (tt, tt));
     said = λ n seat mail born s. posted seat mail born s;
   }
 
 pub mail_posted : MailIsPosted
 mail_posted words scenario rows timely = (journals_hold scenario (posting_law (births as_nodes scenario)) words rows timely).1
+
+-- who is a client was born as one
+pub clients_stay : (words : ℕ → ℕ → ℕ × ℕ) (scenario : Scenario) (rows : Rows) → AreInTime (players words (births as_nodes scenario)) rows
+    → (seat : Seat Player) (client : ClientState) → IsSeat (births as_nodes scenario) seat → value player_table seat rows ≡ Client client → (own : ClientState) × (seat.actor ≡ Client own)
+clients_stay words scenario rows timely seat client born is =
+    by (value player_table seat rows) is
+    (Each-among (λ (x : Seat Player). Plays all (posting_law all) (length rows) x (value player_table x rows)) all seat (journals_hold scenario (posting_law all) words rows timely).0 (find_found (λ (x : Seat Player). eqb x.who seat.who) all seat born).0)
+  where
+    all : List (Seat Player)
+    all = births as_nodes scenario
+
+    by : (player : Player) → player ≡ Client client → Plays all (posting_law all) (length rows) seat player → (own : ClientState) × (seat.actor ≡ Client own)
+    by (Node node) e k = cc
+    by (Client other) e k = (k.0, k.1)
 
 pub rows_post : RowsPostTheirOwn
 rows_post words scenario rows row timely =

@@ -2,7 +2,7 @@
 use Rattle.std.proofs.Common.{◌≡◌, ℕ, zero, suc, ◌+◌, ◌≤◌, ◌&&◌, ◌||◌, not, nat_le, nat_lt, eqb, refl, Bool, true, false, true≢false, cond, List, [], ◌∷◌, ◌++◌, length, Option, Some, None, sym, ◌∙◌, subst, arith}
 use Rattle.std.specs.Prelude.{is_some}
 use Rattle.sc_base.specs.Among.{Each}
-use Rattle.std.proofs.lemmas.Bool.{cond_both, and_parts, eqb-true, ltb-false}
+use Rattle.std.proofs.lemmas.Bool.{cond_both, and_parts, eqb-true, ltb-false, ltb-true}
 use Rattle.sc_base.specs.Same.{same_ballot}
 use Rattle.sc_base.specs.Drawing.{Drawer, next_name}
 use Rattle.sc_base.specs.declared.names.Ballot.{Ballot}
@@ -102,21 +102,21 @@ module _ (w : Walk) where
   nacked : (from : ℕ) (place : Place) → Before w place → Before w (place.0, sent place.0.me from (Nack (name_of place.0) place.0.acceptor.promised) place.1)
   nacked from (r, mails) k = (k.0, one_sent w r.me k.0.0.0 from (Nack (name_of r) r.acceptor.promised) mails (w.nacks from (part r) k.0.1) k.1)
 
-  promises_to : (from : ℕ) (ballot : Ballot) (from_slot : ℕ) (place : Place) → w.Round ballot → Before w place → Before w (promise_to from ballot (prepared ballot from_slot place.0.acceptor) place)
-  promises_to from ballot from_slot (r, mails) good k =
+  promises_to : (from : ℕ) (ballot : Ballot) (from_slot : ℕ) (place : Place) → w.Round ballot → w.Polled ballot → Before w place → Before w (promise_to from ballot (prepared ballot from_slot place.0.acceptor) place)
+  promises_to from ballot from_slot (r, mails) good polled k =
       either_way (λ (p : PrepareAnswer Command × AcceptorState Command). Before w (promise_to from ballot p (r, mails))) (may_promise r.acceptor ballot)
       (Prepared.Promise (reports_from from_slot r.acceptor.accepted), after_promise ballot r.acceptor) (Prepared.Ignored r.acceptor.promised, r.acceptor) (
         hints ballot (record r { acceptor = after_promise ballot r.acceptor }) (k.0.0, w.promised ballot (part r) good k.0.1),
-        one_sent w r.me k.0.0.0 from (Promise (name_of r) ballot (reports_from from_slot r.acceptor.accepted)) mails (w.promises from ballot from_slot (part r) good k.0.1) k.1,
+        one_sent w r.me k.0.0.0 from (Promise (name_of r) ballot (reports_from from_slot r.acceptor.accepted)) mails (w.promises from ballot from_slot (part r) good polled k.0.1) k.1,
       )
       (nacked from (r, mails) k)
 
-  prepares : (from : ℕ) (ballot : Ballot) (from_slot : ℕ) (place : Place) → w.Round ballot → Before w place → Before w (prepare_row from ballot from_slot place)
+  prepares : (from : ℕ) (ballot : Ballot) (from_slot : ℕ) (place : Place) → w.Round ballot → w.Polled ballot → Before w place → Before w (prepare_row from ballot from_slot place)
   unfolding prepare_row
-  prepares from ballot from_slot place good k =
+  prepares from ballot from_slot place good polled k =
       let seen : Place = saw ballot place in
       let q : Before w seen = sees_ballot w ballot place good k in
-      promised_place (Before w) from ballot from_slot seen (state_sent w from seen q) (promises_to from ballot from_slot seen good q)
+      promised_place (Before w) from ballot from_slot seen (state_sent w from seen q) (promises_to from ballot from_slot seen good polled q)
 
   accepts_to : (from : ℕ) (report : Report Command) (place : Place) → IsReported w.Round w.Slot report → Before w place → Before w (accepted_to from report.ballot report.slot (accepted_by report place.0.acceptor) place)
   accepts_to from report (r, mails) good k =
@@ -178,15 +178,15 @@ module _ (w : Walk) where
 
   -- ---- Learn, Ask and Install
 
-  learns : (from slot : ℕ) (command : Command) (place : Place) → w.Slot slot → Before w place → AfterAll w (learn_row from slot command place)
+  learns : (from slot : ℕ) (command : Command) (place : Place) → w.Slot slot → w.Behind slot → Before w place → AfterAll w (learn_row from slot command place)
   unfolding learn_row
-  learns from slot command (r, mails) low k =
+  learns from slot command (r, mails) low behind k =
       let l : After w (r, mails) = on_late w (r, mails) k in
       either_way (AfterAll w) (nat_lt last_slot slot) _ _ l
       (cond_both (eqb slot (next r)) (executed false command (r, mails)) _ (AfterAll w)
       (λ t. executes w false command (r, mails) (λ e. absurd (true≢false (sym e))) (subst w.Slot (eqb-true slot (next r) t) low) k)
-      (λ _. either_way (AfterAll w) (nat_lt (next r) slot) (childless (r, sent r.me from (Ask (name_of r) (next r)) mails)) (childless (r, mails))
-      (l.0, one_sent w r.me k.0.0.0 from (Ask (name_of r) (next r)) mails (w.wants from (part r) k.0.1) k.1) l))
+      (λ _. cond_both (nat_lt (next r) slot) (childless (r, sent r.me from (Ask (name_of r) (next r)) mails)) (childless (r, mails)) (AfterAll w)
+      (λ t. (l.0, one_sent w r.me k.0.0.0 from (Ask (name_of r) (next r)) mails (w.wants from slot (part r) behind (ltb-true (next r) slot t) k.0.1) k.1)) (λ _. l)))
 
   teaches_by : (count : ℕ) (r : ReplicaState) (from slot : ℕ) (mails : List Mail) (o : Option Command) → entry_at slot r.log ≡ o → EarlyAt w r → AreSaid w mails → ((more : List Mail) → AreSaid w more → AreSaid w (taught count r from (slot + 1) more))
       → AreSaid w (elim o [ None ↦ mails | Some command ↦ taught count r from (slot + 1) (sent r.me from (Learn (name_of r) slot command) mails) ])
@@ -328,12 +328,12 @@ module _ (w : Walk) where
   pub takes_mail : (from : ℕ) (body : MailBody) (place : Place) → Hears w body → Before w place → AfterAll w (mailed from body place)
   unfolding mailed
   takes_mail from (Request group client seq op) place h k = requests client seq op place k
-  takes_mail from (Prepare group ballot from_slot) place h k = on_late w (prepare_row from ballot from_slot place) (prepares from ballot from_slot place h k)
+  takes_mail from (Prepare group ballot from_slot) place h k = on_late w (prepare_row from ballot from_slot place) (prepares from ballot from_slot place h.0 h.1 k)
   takes_mail from (Promise group ballot reports) place h k = polls_pump from ballot reports place h k
   takes_mail from (Accept group ballot slot command) place h k = on_late w (accept_row from ballot slot command place) (accepts from ballot slot command place h.0 h.1 k)
   takes_mail from (Accepted group ballot slot) place h k = votes_count from ballot slot place h k
   takes_mail from (Nack group ballot) place h k = on_late w (nack_row ballot place) (nacks ballot place h k)
-  takes_mail from (Learn group slot command) place h k = learns from slot command place h k
+  takes_mail from (Learn group slot command) place h k = learns from slot command place h.0 h.1 k
   takes_mail from (Ask group from_slot) place h k = on_late w (ask_row from from_slot place) (answers_ask from from_slot place k)
   takes_mail from (Install group slot base sets) place h k = installs from slot base sets place h.0 k
   takes_mail from (Answer group seq answer) place h k = on_late w place k

@@ -81,6 +81,9 @@ pub record Walk : Type 1 where
   pub Round : Ballot → Type 0
   pub Slot : ℕ → Type 0
   pub State : ℕ → Base → Type 0
+  -- .. of a ballot that it is asked to promise, and of a slot of which it is told before its own
+  pub Polled : Ballot → Type 0
+  pub Behind : ℕ → Type 0
   -- what it becomes
   pub late : (p : Part) → Early p → Late p
   pub again : (p : Part) (command : Command) → at_slot p.ready (next_in p) ≡ Some command → Late p → Early p × Slot (next_in p)
@@ -105,9 +108,8 @@ pub record Walk : Type 1 where
   pub installs : (to : ℕ) (sets : List (List ℕ)) (p : Part) → Early p → Says to (Install (named_in p) (next_in p - 1) (base_of p.group) sets)
   pub teaches : (to slot : ℕ) (command : Command) (group : Draw) → Slot slot → Says to (Learn group slot command)
   pub recalls : (to slot : ℕ) (command : Command) (p : Part) → entry_at slot p.log ≡ Some command → Early p → Says to (Learn (named_in p) slot command)
-  pub wants : (to : ℕ) (p : Part) → Early p → Says to (Ask (named_in p) (next_in p))
-  pub wants_all : (to : ℕ) (group : Draw) → Says to (Ask group 0)
-  pub promises : (to : ℕ) (ballot : Ballot) (from_slot : ℕ) (p : Part) → Round ballot → Early p → Says to (Promise (named_in p) ballot (reports_from from_slot p.acceptor.accepted))
+  pub wants : (to slot : ℕ) (p : Part) → Behind slot → next_in p < slot → Early p → Says to (Ask (named_in p) (next_in p))
+  pub promises : (to : ℕ) (ballot : Ballot) (from_slot : ℕ) (p : Part) → Round ballot → Polled ballot → Early p → Says to (Promise (named_in p) ballot (reports_from from_slot p.acceptor.accepted))
   pub votes : (to : ℕ) (ballot : Ballot) (slot : ℕ) (group : Draw) → Round ballot → Slot slot → Says to (Accepted group ballot slot)
   pub nacks : (to : ℕ) (p : Part) → Early p → Says to (Nack (named_in p) p.acceptor.promised)
   pub offers : (to : ℕ) (tx : Draw) (offer : Offer) → offer.by ≡ me → Says to (TxPrepare tx offer)
@@ -121,6 +123,8 @@ pub record Walk : Type 1 where
 pub record Births (w : Walk) : Type 0 where
   pub born : (base : Base) → w.Late (born_part base)
   pub made : (slot : ℕ) (base : Base) → w.State slot base → w.Early (cut_part slot (record (born_part base) { log = installed slot }))
+  -- .. and what is asked for where there is none
+  pub wants_all : (to : ℕ) (group : Draw) → w.Says to (Ask group 0)
 
 module _ (w : Walk) where
   -- a mail of the node that it may send, and some mail
@@ -153,12 +157,12 @@ module _ (w : Walk) where
 
   -- what a mail tells is what the law says of ballots, slots and states
   abbrev pub Hears : MailBody → Type 0
-  Hears (Prepare group ballot from_slot) = w.Round ballot
+  Hears (Prepare group ballot from_slot) = w.Round ballot × w.Polled ballot
   Hears (Promise group ballot reports) = Each (IsReported w.Round w.Slot) reports
   Hears (Accept group ballot slot command) = w.Round ballot × w.Slot slot
   Hears (Accepted group ballot slot) = w.Slot slot
   Hears (Nack group promised) = w.Round promised
-  Hears (Learn group slot command) = w.Slot slot
+  Hears (Learn group slot command) = w.Slot slot × w.Behind slot
   Hears (Install group slot base sets) = w.State slot base × w.State slot (named group base)
   Hears (Ask group from_slot) = Unit {0}
   Hears (Request group client seq op) = Unit {0}
@@ -176,13 +180,13 @@ module _ (w : Walk) where
   all_reported rounds slots [] = tt
   all_reported rounds slots (report ∷ reports) = ((rounds report.ballot, slots report.slot), all_reported rounds slots reports)
 
-  pub hears_all : ((ballot : Ballot) → w.Round ballot) → ((slot : ℕ) → w.Slot slot) → (body : MailBody)
+  pub hears_all : ((ballot : Ballot) → w.Round ballot × w.Polled ballot) → ((slot : ℕ) → w.Slot slot × w.Behind slot) → (body : MailBody)
       → ((group : Draw) (slot : ℕ) (base : Base) (sets : List (List ℕ)) → body ≡ Install group slot base sets → w.State slot base × w.State slot (named group base)) → Hears body
   hears_all rounds slots (Prepare group ballot from_slot) states = rounds ballot
-  hears_all rounds slots (Promise group ballot reports) states = all_reported rounds slots reports
-  hears_all rounds slots (Accept group ballot slot command) states = (rounds ballot, slots slot)
-  hears_all rounds slots (Accepted group ballot slot) states = slots slot
-  hears_all rounds slots (Nack group promised) states = rounds promised
+  hears_all rounds slots (Promise group ballot reports) states = all_reported (λ ballot. (rounds ballot).0) (λ slot. (slots slot).0) reports
+  hears_all rounds slots (Accept group ballot slot command) states = ((rounds ballot).0, (slots slot).0)
+  hears_all rounds slots (Accepted group ballot slot) states = (slots slot).0
+  hears_all rounds slots (Nack group promised) states = (rounds promised).0
   hears_all rounds slots (Learn group slot command) states = slots slot
   hears_all rounds slots (Install group slot base sets) states = states group slot base sets refl
   hears_all rounds slots (Ask group from_slot) states = tt

@@ -1,0 +1,73 @@
+-- That a group's mail is sent so through a calm journal, as its leader's course needs it.
+use Rattle.std.specs.Prelude.{◌≡◌, ℕ, true, List, [], ◌++◌, Some, None, ◌⊎◌}
+use Rattle.sc_base.specs.declared.names.Ballot.{Ballot}
+use Rattle.sc_cmd.specs.declared.cores.Base.{Base}
+use Rattle.sc_cmd.specs.declared.orders.OrderLine.{OrderLine}
+use Rattle.sc_mail.specs.declared.bodies.Mail.{Mail}
+use Rattle.sc_mail.specs.declared.bodies.MailBody.TheVariants.{Prepare}
+use Rattle.sc_member.specs.Roster.{is_member}
+use Rattle.sc_actor.specs.declared.actors.Seat.{Seat}
+use Rattle.sc_actor.specs.declared.rows.Event.{Event}
+use Rattle.sc_actor.specs.Mail.{mails}
+use Rattle.sc_orderly_law.specs.Timely.{AreInTime}
+use Rattle.sc_paxos_words.specs.Acceptors.{reports_from}
+use Rattle.sc_scenario.specs.Valid.{IsBounded}
+use Rattle.sc_scenario.specs.declared.scenarios.Scenario.{Scenario}
+use Rattle.sc_node_table.specs.Replica.{ReplicaState, born_replica}
+use Rattle.sc_node_table.specs.Slots.{slots_ahead}
+use Rattle.sc_sound.specs.Players.{Player, births, as_nodes}
+use Rattle.sc_calm_law.specs.Charts.{players}
+use Rattle.sc_calm_law.specs.Totals.{Rows}
+use Rattle.sc_following_law.specs.Following.{Course, Sets}
+use Rattle.sc_following_law.specs.Hints.{Tellers}
+use Rattle.sc_calm_rows_law.specs.Groups.{view_at, marks_at, progress_at}
+use Rattle.sc_calm_rows_law.specs.Turns.{with_event}
+use Rattle.sc_calm_groups_law.specs.Led.{Ends, IsWellLed}
+use Rattle.sc_calm_groups_law.specs.Logged.{IsLogOf}
+use Rattle.sc_calm_groups_law.specs.Through.{Delivers, HasOneLog, IsSentSo}
+use Rattle.sc_calm_logs_law.specs.Logged.{logged_sets, IsGroupOf}
+use Rattle.sc_calm_led_law.specs.Led.{over_at}
+use Rattle.sc_calm_led_law.specs.Tellers.{tellers_at, AreFew}
+use Rattle.sc_calm_sent_law.specs.Homes.{IsAtHome}
+use Rattle.sc_calm_sent_law.specs.Sent.{AreSaidWell}
+
+-- After some rows, in the course in which a group is well led: its mail finds a replica where it needs one, and each mail that was ever sent says so of the group.
+pub record IsSentOn (at : Sets) (words : ℕ → ℕ → ℕ × ℕ) (births : List (Seat Player)) (rows : Rows) (base : Base) (course : Course) : Type 0 where
+  pub homes : IsAtHome at (progress_at births rows base course) (marks_at (players words births) rows base.core.id)
+  pub says : AreSaidWell base.core.id course.ballot (mails rows)
+
+-- a first member of a group that has no replica of it yet is sent nothing of it
+abbrev pub IsQuietWhileYoung : (ℕ → ℕ → ℕ × ℕ) → List (Seat Player) → Rows → Base → Type 0
+IsQuietWhileYoung words births rows base = (who : ℕ) → is_member base.core.members who ≡ true → view_at births rows base.core.id who ≡ None → marks_at (players words births) rows base.core.id who ≡ []
+
+-- where a replica is asked to promise a ballot, it has accepted nothing from the slot on from which it is asked
+abbrev pub FindsNothing : List (Seat Player) → Rows → Base → Type 0
+FindsNothing births journal base =
+    (rows : Rows) (seat : Seat Player) (number : ℕ) (mail : Mail) (ballot : Ballot) (from_slot : ℕ) (r : ReplicaState) → Delivers journal rows seat number mail → mail.body ≡ Prepare base.core.id ballot from_slot
+    → view_at births rows base.core.id seat.who ≡ Some r → reports_from from_slot r.acceptor.accepted ≡ []
+
+-- So its mail is sent so in one row more.
+abbrev pub NextMailIsSentSo : Type 0
+NextMailIsSentSo =
+    (words : ℕ → ℕ → ℕ × ℕ) (at : Sets) (over : Ends) (by : Tellers) (scenario : Scenario) (rows : Rows) (seat : Seat Player) (event : Event OrderLine) (base : Base) (course : Course) → IsBounded scenario → IsLogOf at by
+    → AreInTime (players words (births as_nodes scenario)) (with_event rows seat event) → IsWellLed at over by words (births as_nodes scenario) rows base course → IsSentOn at words (births as_nodes scenario) rows base course
+    → IsQuietWhileYoung words (births as_nodes scenario) rows base → IsSentSo (births as_nodes scenario) rows base → IsSentSo (births as_nodes scenario) (with_event rows seat event) base
+
+-- each replica of the group at the births is as the group begins, at one of its first members
+abbrev pub AreBornAsBegun : List (Seat Player) → Base → Type 0
+AreBornAsBegun births base = (who : ℕ) → (view_at births [] base.core.id who ≡ None) ⊎ ((view_at births [] base.core.id who ≡ Some (born_replica slots_ahead who base)) × (is_member base.core.members who ≡ true))
+
+-- a group is well led after some rows, in whose course its mail is sent so, with one log
+pub record IsSentThrough (at : Sets) (over : Ends) (by : Tellers) (words : ℕ → ℕ → ℕ × ℕ) (births : List (Seat Player)) (rows : Rows) (base : Base) : Type 0 where
+  pub course : Course
+  pub led : IsWellLed at over by words births rows base course
+  pub sent : IsSentOn at words births rows base course
+  pub so : IsSentSo births rows base
+  pub one : HasOneLog at over by births rows base
+
+-- So it is after first rows of a journal that comes in time, where no first member is sent anything before it has its replica, and what asks to promise finds nothing.
+abbrev pub LedJournalsAreSentSo : Type 0
+LedJournalsAreSentSo =
+    (words : ℕ → ℕ → ℕ × ℕ) (scenario : Scenario) (journal : Rows) (base : Base) → IsGroupOf as_nodes words scenario journal base → AreInTime (players words (births as_nodes scenario)) journal → AreFew as_nodes scenario journal base
+    → AreBornAsBegun (births as_nodes scenario) base → ((rows more : Rows) → journal ≡ rows ++ more → IsQuietWhileYoung words (births as_nodes scenario) rows base) → FindsNothing (births as_nodes scenario) journal base
+    → (rows more : Rows) → journal ≡ rows ++ more → IsSentThrough (logged_sets as_nodes base journal) (over_at as_nodes base journal) (tellers_at as_nodes scenario base journal) words (births as_nodes scenario) rows base

@@ -1,0 +1,33 @@
+-- What mail of a group says: none asks for entries, a Nack names no later ballot than the group's, and a Promise has no reports.
+use Rattle.std.specs.Prelude.{◌≡◌, ℕ, List, []}
+use Rattle.sc_base.specs.Among.{Each}
+use Rattle.sc_base.specs.declared.names.Ballot.{Ballot}
+use Rattle.sc_base.specs.declared.names.Draw.{Draw}
+use Rattle.sc_mail.specs.declared.bodies.Mail.{Mail}
+use Rattle.sc_mail.specs.declared.bodies.MailBody.{MailBody}
+use Rattle.sc_mail.specs.declared.bodies.MailBody.TheVariants.{Request, Answer, Prepare, Promise, Accept, Accepted, Nack, Learn, Ask, Install, TxPrepare, TxVote, TxOutcome, TxElsewhere, TxWatch, TxWatched, Told}
+use Rattle.sc_paxos_words.specs.Ballots.{IsAtLeast}
+
+-- a mail says so of the group with this name, whose ballot is this
+abbrev pub SaysWell : Draw → Ballot → MailBody → Type 0
+SaysWell name ballot (Ask group from_slot) = group ≡ name → ⊥
+SaysWell name ballot (Nack group promised) = group ≡ name → IsAtLeast ballot promised
+SaysWell name ballot (Promise group other reports) = group ≡ name → reports ≡ []
+SaysWell name ballot (Request group client seq op) = Unit {0}
+SaysWell name ballot (Answer group seq answer) = Unit {0}
+SaysWell name ballot (Prepare group other from_slot) = Unit {0}
+SaysWell name ballot (Accept group other slot command) = Unit {0}
+SaysWell name ballot (Accepted group other slot) = Unit {0}
+SaysWell name ballot (Learn group slot command) = Unit {0}
+SaysWell name ballot (Install group slot base sets) = Unit {0}
+SaysWell name ballot (TxPrepare tx offer) = Unit {0}
+SaysWell name ballot (TxVote tx coord part vote) = Unit {0}
+SaysWell name ballot (TxOutcome tx part outcome) = Unit {0}
+SaysWell name ballot (TxElsewhere tx coord hint) = Unit {0}
+SaysWell name ballot (TxWatch tx watch) = Unit {0}
+SaysWell name ballot (TxWatched tx coord part vote) = Unit {0}
+SaysWell name ballot (Told order result) = Unit {0}
+
+-- each of these mails does
+abbrev pub AreSaidWell : Draw → Ballot → List Mail → Type 0
+AreSaidWell name ballot mails = Each (λ mail. SaysWell name ballot mail.body) mails

@@ -1,0 +1,38 @@
+//! Of one group through a calm journal, that its mail is sent as its leader's course needs it.
+//! Definitions and laws, no logic.
+#![tactic(auto)]
+
+ghost use Rattle.sc_calm_sent_law.specs.Homes.{HomesAreKept};
+ghost use Rattle.sc_calm_sent_law.specs.Journals.{LedJournalsAreSentSo, NextMailIsSentSo};
+
+use sc_calm_groups_law::{events_go_on, scenarios_are_well_born};
+use sc_calm_led_law::{groups_are_led, groups_begin_led, led_logs_are_one};
+use sc_calm_mail_law::journals_keep_idle;
+use sc_scenario::valid_scenarios_are_bounded;
+
+/// Votes and promises come to nodes that have a replica, and nothing of a group comes to an actor
+/// that is never a member: each kind of row keeps that.
+pub fn homes_are_kept()
+    ensures { HomesAreKept }
+{}
+
+/// Where mail finds a replica where it needs one, and says so of a group, it is sent so in one row
+/// more.
+pub fn next_mail_is_sent_so()
+    ensures { NextMailIsSentSo }
+{}
+
+/// So a group's mail is sent so through a journal whose rows come in time, and the group is well
+/// led with one log, where no first member is sent anything before it has its replica, and what
+/// asks to promise finds nothing accepted.
+pub fn led_journals_are_sent_so()
+    ensures { LedJournalsAreSentSo }
+{
+    valid_scenarios_are_bounded();
+    journals_keep_idle();
+    scenarios_are_well_born();
+    groups_are_led();
+    led_logs_are_one();
+    events_go_on();
+    groups_begin_led();
+}
