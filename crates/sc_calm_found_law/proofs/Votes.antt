@@ -198,7 +198,7 @@ module _ (words : ℕ → ℕ → ℕ × ℕ) (births : List (Seat Player)) (row
   known_slot =
       let own = named_so words births rows seat number mail base node r h runs named (Accepted named ballot slot) body refl in
       let is : mark_of base.core.id mail.from mail.body ≡ Some (Votes mail.from ballot slot) =
-          ap (mark_of base.core.id mail.from) body ∙ (ap (λ n. mark_of base.core.id mail.from (Accepted n ballot slot)) own ∙ same_mark base.core.id (Votes mail.from ballot slot)) in
+      ap (mark_of base.core.id mail.from) body ∙ (ap (λ n. mark_of base.core.id mail.from (Accepted n ballot slot)) own ∙ same_mark base.core.id (Votes mail.from ballot slot)) in
       known g.at words births rows seat node base g.course (the_scene words births rows seat number mail base node r h runs) number mail (takes words births rows seat number mail base node r h runs) (Votes mail.from ballot slot) is
 
   -- ---- the one command
@@ -313,9 +313,9 @@ module _ (words : ℕ → ℕ → ℕ × ℕ) (births : List (Seat Player)) (row
         let place : flight.slot ≡ next r = (let top = known_slot in omega (arith, low, at_slot, bound, top)) in
         let one = works_one words births rows seat number mail base node r h runs under in
         let some : Among work.0 (works r) =
-            among-right work.0 (works_in r.acts) (works_in r.calls ++ (works_flying r.leader.flights ++ works_ready r.ready))
-            (among-right work.0 (works_in r.calls) (works_flying r.leader.flights ++ works_ready r.ready)
-            (among-left work.0 (works_flying r.leader.flights) (works_ready r.ready) (work_flies r.leader.flights flight work.0 f.0 work.1))) in
+        among-right work.0 (works_in r.acts) (works_in r.calls ++ (works_flying r.leader.flights ++ works_ready r.ready))
+        (among-right work.0 (works_in r.calls) (works_flying r.leader.flights ++ works_ready r.ready)
+        (among-left work.0 (works_flying r.leader.flights) (works_ready r.ready) (work_flies r.leader.flights flight work.0 f.0 work.1))) in
         let only : works r ≡ work.0 ∷ [] = one.1 ∙ only_work one.0 work.0 (subst (Among work.0) one.1 some) in
         let flies = fly_lone work.0 flight r runs (free_of words births rows seat number mail base node r h runs) only lone.flights lone.ready f.0 place in
         let told = tell.led births rows base.core.id seat.who r lead_alone in
