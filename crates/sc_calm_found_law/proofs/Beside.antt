@@ -198,9 +198,10 @@ beside_told : (words : ℕ → ℕ → ℕ × ℕ) (births : List (Seat Player))
 beside_told words births rows seat line node base r g o named off =
     let after = ordered_row node.draws line (r, []) in
     let row : IsReplicasRow births rows seat (Told line) base.core.id (Some r) after = subst (λ n. IsReplicasRow births rows seat (Told line) n (Some r) after) (sym named) (rows_replicas.ordered births rows seat line node r o.seated o.is_node o.here) in
-    let none = (asides_still.ordered node.draws line r off base.core.id).off in
-    (subst (λ n. IsBeside births rows seat (Told line) n after) named (comes_beside words births rows seat (Told line) base g o.timely r after row off (λ runs. absurd (true≢false (sym runs ∙ none)))),
-      (NotLeader r.hint, refused_off node.draws line r off))
+    let none = (asides_still.ordered node.draws line r off base.core.id).off in (
+      subst (λ n. IsBeside births rows seat (Told line) n after) named (comes_beside words births rows seat (Told line) base g o.timely r after row off (λ runs. absurd (true≢false (sym runs ∙ none)))),
+      (NotLeader r.hint, refused_off node.draws line r off),
+    )
 
 pub besides_found : BesidesAreFound
 besides_found = record {

@@ -91,28 +91,28 @@ module _ (words : ℕ → ℕ → ℕ × ℕ) (births : List (Seat Player)) (row
   abbrev name : Draw
   name = base.core.id
 
-  abbrev the_scene : IsScene g.at words births rows seat node base g.course
+  abbrev pub the_scene : IsScene g.at words births rows seat node base g.course
   the_scene = record { rosters = g.log.log.rosters; seated = h.taking.seated; is = h.taking.is_node; followed = g.led.followed }
 
-  abbrev takes : TakesMail words births rows seat number mail
+  abbrev pub takes : TakesMail words births rows seat number mail
   takes = record { timely = h.taking.timely; sent = h.taking.sent; comes = h.taking.comes }
 
-  here_view : view_at births rows base.core.id seat.who ≡ Some r
+  pub here_view : view_at births rows base.core.id seat.who ≡ Some r
   here_view = view_here words births rows seat number mail base node r h
 
   delivers : Delivers (with_event rows seat (Deliver number)) rows seat number mail
   delivers = record { row = record { more = []; is = sym (append-nil (with_event rows seat (Deliver number))) }; sent = h.taking.sent }
 
-  leads : IsLeadOf g.at (progress_at births rows base g.course) r × (seat.who ≡ g.course.ballot.node)
+  pub leads : IsLeadOf g.at (progress_at births rows base g.course) r × (seat.who ≡ g.course.ballot.node)
   leads = gives g.at g.over g.by words births rows base g.course g.led seat.who r here_view runs
 
-  leads_alone : LeadsAlone births rows base.core.id seat.who r
+  pub leads_alone : LeadsAlone births rows base.core.id seat.who r
   leads_alone = alone g.at g.over g.by words births rows base g.course g.led seat.who r here_view runs
 
-  free_of : IsUnbound r
+  pub free_of : IsUnbound r
   free_of = unbound g.at g.over g.by words births rows base g.course g.led seat.who r here_view runs
 
-  named_so : (named : Draw) (body : MailBody) → mail.body ≡ body → group_of_mail body ≡ Some named → named ≡ base.core.id
+  pub named_so : (named : Draw) (body : MailBody) → mail.body ≡ body → group_of_mail body ≡ Some named → named ≡ base.core.id
   named_so named body e is = some_draw named base.core.id (sym is ∙ (ap group_of_mail (sym e) ∙ h.taking.named))
 
   marked : (body : MailBody) (mark : Mark) → mail.body ≡ body → mark_of base.core.id mail.from body ≡ Some mark → mark_of base.core.id mail.from mail.body ≡ Some mark
@@ -129,7 +129,7 @@ module _ (words : ℕ → ℕ → ℕ × ℕ) (births : List (Seat Player)) (row
   goes_so : (ballot : Ballot) → below g.course.ballot ballot ≡ false → GoesOn ballot r
   goes_so ballot low = goes_on g.at words births rows seat node base g.course the_scene r here_view ballot low
 
-  works_one : IsUnderWay (scene_at births rows) → (work : Option Work) × (works r ≡ listed work)
+  pub works_one : IsUnderWay (scene_at births rows) → (work : Option Work) × (works r ≡ listed work)
   works_one under = (let one = stages_leave_one (scene_at births rows) name under in (one.0, sym (tell.led births rows name seat.who r leads_alone).1.1 ∙ one.1))
 
   finds : (body : MailBody) → mail.body ≡ body → IsUnderWay (scene_at births rows) → IsUnsettled r body → ((named : Draw) (client seq : ℕ) (op : Op) → body ≡ Request named client seq op → ⊥)

@@ -1,3 +1,4 @@
+pub mod Along
 pub mod Beside
 pub mod Leader
 pub mod Leading
@@ -5,3 +6,4 @@ pub mod Missed
 pub mod Newest
 pub mod Posted
 pub mod Rows
+pub mod Votes

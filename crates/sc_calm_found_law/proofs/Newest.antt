@@ -1,5 +1,5 @@
 -- The newest replicas of a group, before a row and after it.
-use Rattle.std.proofs.Common.{List, None, Some, [], ap, arith, inl, inr, subst, sym, true, true≢false, ℕ, ◌++◌, ◌∙◌, ◌∷◌, ◌≡◌, ◌≤◌}
+use Rattle.std.proofs.Common.{List, None, Some, [], ap, arith, false, inl, inr, subst, sym, true, true≢false, ℕ, ◌++◌, ◌∙◌, ◌∷◌, ◌≡◌, ◌≤◌}
 use Rattle.std.proofs.lemmas.Bool.{cases_eq}
 use Rattle.sc_actor.specs.Mail.{mails}
 use Rattle.sc_actor.specs.System.{row_of}
@@ -124,6 +124,23 @@ module _ (words : ℕ → ℕ → ℕ × ℕ) (births : List (Seat Player)) (row
       | RowLeads r after row runs counts led same ↦ (seat.who, after.0, row.is, sym (ap (λ (c : Course). c.newest) same))
       | RowElects r after ballot row off elects same ↦ (seat.who, after.0, row.is, sym ((g.step.led.followed.given.gives seat.who after.0 row.is elects.runs).0.newest))
     ]
+
+    -- where the one that leads stops by the row, its state is the newest
+    pub stopped_newest : (r : ReplicaState) (after : Place) → IsReplicasRow births rows seat event base.core.id (Some r) after → r.running ≡ true → after.0.running ≡ false → later.newest ≡ next after.0
+    stopped_newest r after row runs stops = elim g.step.row [
+      | RowPasses same idle ↦ elim idle.view [
+        | inl stays ↦ absurd (true≢false (sym runs ∙ (ap (λ (x : ReplicaState). x.running) (is_after r (stays ∙ row.was)) ∙ stops)))
+        | inr born ↦ (let bad : Some r ≡ None = sym row.was ∙ born.0 in cc)
+      ]
+      | RowRests same x then_ line off still kind ↦ absurd (true≢false (sym runs ∙ (ap (λ (y : ReplicaState). y.running) (some_is r x row.was line.was) ∙ off)))
+      | RowTakes same x then_ mark line taken steps kind ↦ absurd (true≢false (sym runs ∙ (ap (λ (y : ReplicaState). y.running) (some_is r x row.was line.was) ∙ (sym steps.runs ∙ (ap (λ (y : ReplicaState). y.running) (is_after then_.0 line.is) ∙ stops)))))
+      | RowMakes same from slot state sets line taken logs kind ↦ (let bad : Some r ≡ None = sym row.was ∙ line.was in cc)
+      | RowLeads x then_ line ran counts led same ↦ ap (λ (c : Course). c.newest) same ∙ ap next (is_after then_.0 line.is)
+      | RowElects x then_ ballot line off elects same ↦ absurd (true≢false (sym runs ∙ (ap (λ (y : ReplicaState). y.running) (some_is r x row.was line.was) ∙ off)))
+    ]
+      where
+        is_after : (x : ReplicaState) → view_at births (with_event rows seat event) base.core.id seat.who ≡ Some x → x ≡ after.0
+        is_after x e = same_some (view_at births (with_event rows seat event) base.core.id seat.who) x after.0 e row.is
 
     pub reached_after : IsThere births rows base.core.id → IsReached births (with_event rows seat event) base later
     reached_after there = reached_on (g.reached there)

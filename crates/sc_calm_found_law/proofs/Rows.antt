@@ -13,6 +13,7 @@ use Rattle.sc_calm_found_law.proofs.Beside.{besides_found}
 use Rattle.sc_calm_found_law.proofs.Leader.{leaders_found}
 use Rattle.sc_calm_found_law.proofs.Leading.{alone, quiet_leaders_have_nothing, unbound}
 use Rattle.sc_calm_found_law.proofs.Missed.{missed_found, young_may}
+use Rattle.sc_calm_found_law.proofs.Votes.{votes_found}
 use Rattle.sc_calm_found_law.specs.Beside.{IsHere}
 use Rattle.sc_calm_found_law.specs.Guided.{IsGuided, IsNamedGuide}
 use Rattle.sc_calm_found_law.specs.Missed.{IsYoung}
@@ -110,7 +111,8 @@ module _ (words : ℕ → ℕ → ℕ × ℕ) (scenario : Scenario) (rows : Rows
         let u = q.unsettled number mail base.core.id node r is t here in
         elim (cases_Bool r.running) [
           | inl runs ↦ (let f = leaders_found words all rows seat number mail base node r h runs q.under u (λ named client seq op e. q.requests number mail named client seq op is t.sent e)
-                (λ named ballot slot e. q.votes number mail base.core.id node r named ballot slot is t here runs e) in
+              (λ named ballot slot e. (let v = q.votes number mail base.core.id node r named ballot slot is t here runs e in
+              votes_found words all rows seat number mail base node r named ballot slot h runs e q.under v.0 (replicas_kept all rows base.core.id seat.who r (scenarios_kept_born scenario) view).1 v.1)) in
               AtLeader f.0 f.1)
           | inr off ↦ AtAnother (besides_found.beside words all rows seat number mail base node r h off) (besides_found.finds words all rows seat number mail base node r h off (sent_so number mail t.sent) u)
         ]
@@ -120,10 +122,11 @@ module _ (words : ℕ → ℕ → ℕ × ℕ) (scenario : Scenario) (rows : Rows
     here_found group t here =
         let view : view_at all rows group seat.who ≡ Some r = view_was all rows seat Go group t.seated (Node node) t.is_node ∙ here in
         let guide : IsNamedGuide words all rows seat (Deliver number) group = subst (λ e. IsNamedGuide words all rows seat e group) is (q.groups group seat.who r view) in
-        let name = sym guide.named in
-        (each_so (IsYoung words all rows seat) (MayBear all rows seat) (λ child. young_may words all rows seat child) (mailed mail.from mail.body (r, [])).1 (q.children number mail group node r is t here),
+        let name = sym guide.named in (
+          each_so (IsYoung words all rows seat) (MayBear all rows seat) (λ child. young_may words all rows seat child) (mailed mail.from mail.body (r, [])).1 (q.children number mail group node r is t here),
           subst (λ n. FindsReplica all rows seat number mail n r) guide.named
-          (at_base guide.base guide.guided (subst (λ n. IsTaking words all rows seat number mail n node) name t) (subst (λ n. replica_of n node.replicas ≡ Some r) name here)))
+              (at_base guide.base guide.guided (subst (λ n. IsTaking words all rows seat number mail n node) name t) (subst (λ n. replica_of n node.replicas ≡ Some r) name here)),
+        )
 
   missed : (number : ℕ) (mail : Mail) (group : Draw) (node : NodeState) → event ≡ Deliver number → IsTaking words (births as_nodes scenario) rows seat number mail group node → NodeFinds (births as_nodes scenario) rows seat number mail group mail.body
   missed number mail group node is t =

@@ -13,12 +13,13 @@ use Rattle.sc_base.specs.declared.ops.Op.{Op}
 use Rattle.sc_calm_found_law.specs.Beside.{IsUnsettled}
 use Rattle.sc_calm_found_law.specs.Guided.{IsNamedGuide, WaitsForFlights}
 use Rattle.sc_calm_found_law.specs.Missed.{IsYoung}
+use Rattle.sc_calm_found_law.specs.Votes.{IsOrdersAlone, IsTrueEntry}
 use Rattle.sc_calm_law.specs.Charts.{players}
 use Rattle.sc_calm_law.specs.Totals.{Rows}
 use Rattle.sc_calm_orders_law.specs.Stages.{IsUnderWay}
 use Rattle.sc_calm_rows_law.specs.Groups.{marks_at, view_at}
 use Rattle.sc_calm_rows_law.specs.Turns.{IsSeat, with_event}
-use Rattle.sc_calm_scenes_law.specs.Found.{FindsFlight, FindsOrder}
+use Rattle.sc_calm_scenes_law.specs.Found.{FindsOrder}
 use Rattle.sc_calm_scenes_law.specs.Fresh.{IsThere}
 use Rattle.sc_calm_scenes_law.specs.Quiet.{GoesToActor}
 use Rattle.sc_calm_scenes_law.specs.Scenes.{errand_taken, scene_at}
@@ -46,7 +47,7 @@ pub record IsToldCalmly (words : ℕ → ℕ → ℕ × ℕ) (births : List (Sea
   pub strangers : (name : Draw) (who : ℕ) → is_born (players words births) who ≡ false → marks_at (players words births) rows name who ≡ []
   pub room : (name : Draw) (node : ℕ) (r : ReplicaState) → view_at births rows name node ≡ Some r → r.running ≡ true → (next r ≤ last_slot) × WaitsForFlights r
 
--- A row of a bounded scenario that comes in time while an order is under way: each group that has a replica is guided at it, and so is one of which a state comes; children that it makes are young; mail of transactions comes unsettled, and no request comes; what a vote finds at a leader is said; an order is told calmly; and no client takes an errand.
+-- A row of a bounded scenario that comes in time while an order is under way: each group that has a replica is guided at it, and so is one of which a state comes; children that it makes are young; mail of transactions comes unsettled, and no request comes; a leader that takes a vote has only work in flight, and true entries; an order is told calmly; and no client takes an errand.
 pub record IsOrdersRow (words : ℕ → ℕ → ℕ × ℕ) (scenario : Scenario) (rows : Rows) (seat : Seat Player) (event : Event OrderLine) : Type 0 where
   pub bounded : IsBounded scenario
   pub seated : IsSeat (births as_nodes scenario) seat
@@ -61,7 +62,8 @@ pub record IsOrdersRow (words : ℕ → ℕ → ℕ × ℕ) (scenario : Scenario
       → IsUnsettled r mail.body
   pub requests : (number : ℕ) (mail : Mail) (named : Draw) (client seq : ℕ) (op : Op) → event ≡ Deliver number → numbered (mails rows) number ≡ Some mail → mail.body ≡ Request named client seq op → ⊥
   pub votes : (number : ℕ) (mail : Mail) (group : Draw) (node : NodeState) (r : ReplicaState) (named : Draw) (ballot : Ballot) (slot : ℕ) → event ≡ Deliver number → IsTaking words (births as_nodes scenario) rows seat number mail group node
-      → replica_of group node.replicas ≡ Some r → r.running ≡ true → mail.body ≡ Accepted named ballot slot → FindsFlight (births as_nodes scenario) rows seat number mail group r slot
+      → replica_of group node.replicas ≡ Some r → r.running ≡ true → mail.body ≡ Accepted named ballot slot
+      → IsOrdersAlone r × Each (λ flight. IsTrueEntry r.me r.group flight.value) r.leader.flights
   pub told : (line : OrderLine) → event ≡ Told line → IsToldCalmly words (births as_nodes scenario) rows
   pub clients : (client : ClientState) → value player_table seat rows ≡ Client client → errand_taken (mails rows) event ≡ None
 

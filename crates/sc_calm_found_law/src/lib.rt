@@ -2,11 +2,16 @@
 //! logic.
 #![tactic(auto)]
 
+ghost use Rattle.sc_calm_found_law.specs.Along.{RowsAreGuided};
 ghost use Rattle.sc_calm_found_law.specs.Beside.{BesidesAreFound};
 ghost use Rattle.sc_calm_found_law.specs.Guided.{NewestStay, QuietLeadersHaveNothing, WellLedLeadAlone};
 ghost use Rattle.sc_calm_found_law.specs.Leader.{LeadersAreFound, StagesLeaveOneWork};
 ghost use Rattle.sc_calm_found_law.specs.Missed.{MissedAreFound, YoungMayBear};
 ghost use Rattle.sc_calm_found_law.specs.Rows.{OrdersRowsFind};
+ghost use Rattle.sc_calm_found_law.specs.Votes.{StagesExpectWork, VotesAreFound};
+
+use sc_calm_groups_law::{events_go_on, scenarios_are_well_born};
+use sc_calm_led_law::{groups_are_led, led_logs_are_one};
 
 /// A well led group has one that leads alone, bound by no report, or none runs; and each replica
 /// that runs is that one.
@@ -18,6 +23,17 @@ pub fn well_led_lead_alone()
 pub fn quiet_leaders_have_nothing()
     ensures { QuietLeadersHaveNothing }
 {}
+
+/// A group of a journal is guided at a row before which it is well led, where its mail is sent so
+/// and its replicas are bound by what they have executed.
+pub fn rows_are_guided()
+    ensures { RowsAreGuided }
+{
+    groups_are_led();
+    led_logs_are_one();
+    events_go_on();
+    scenarios_are_well_born();
+}
 
 /// The newest replicas of a group are bound as its newest state, before a row and after it.
 pub fn newest_stay()
@@ -50,6 +66,17 @@ pub fn missed_are_found()
 /// member's node makes it.
 pub fn young_may_bear()
     ensures { YoungMayBear }
+{}
+
+/// In each stage a group waits for its leader's work, by its bond.
+pub fn stages_expect_work()
+    ensures { StagesExpectWork }
+{}
+
+/// A vote at the leader finds nothing in flight at its slot, or the one command that is there, of
+/// one of the kinds of entries, where only work is in flight and that is true.
+pub fn votes_are_found()
+    ensures { VotesAreFound }
 {}
 
 /// Each row of a calm journal in which an order is under way finds what an order needs, where its
