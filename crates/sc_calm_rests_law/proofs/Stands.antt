@@ -152,22 +152,25 @@ module _ (run : ReplicasRunLogs) (by : Tellers) (words : ℕ → ℕ → ℕ × 
       }
 
       stands_quiet : IsLinked (replicas_at scenario front) lead → (quiet : StandsQuiet (replicas_at scenario front) base.core.id) × (see course.ballot.node ≡ Some quiet.lead)
-      stands_quiet linked = (record {
-        lead = lead;
-        newest = record { is_there = own_place; most = led.most };
-        stands = stood;
-        leads = rest.leads;
-        alone = led.alone;
-        below_it = is_below;
-        member = λ node m.
-            (let has = members_have by words scenario journal front base course q node course.newest (omega arith) (member_then node m) in
-            (has.0, has.1, up_to_date node has.0 has.1 m));
-        voter = λ set node a m.
-            (let open_ = set_opens set node a m in
-            let has = has_one by words scenario journal front base course q node (even_led.replicas node open_) in
-            (has.0, has.1, votes node has.0 has.1 open_));
-        linked = linked;
-      }, there)
+      stands_quiet linked = (
+        record {
+          lead = lead;
+          newest = record { is_there = own_place; most = led.most };
+          stands = stood;
+          leads = rest.leads;
+          alone = led.alone;
+          below_it = is_below;
+          member = λ node m.
+              (let has = members_have by words scenario journal front base course q node course.newest (omega arith) (member_then node m) in
+              (has.0, has.1, up_to_date node has.0 has.1 m));
+          voter = λ set node a m.
+              (let open_ = set_opens set node a m in
+              let has = has_one by words scenario journal front base course q node (even_led.replicas node open_) in
+              (has.0, has.1, votes node has.0 has.1 open_));
+          linked = linked;
+        },
+        there,
+      )
 
   -- ---- a group that is gone
 
