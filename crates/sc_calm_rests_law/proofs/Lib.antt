@@ -1,1 +1,4 @@
 pub mod Facts
+pub mod KeptAll
+pub mod Resting
+pub mod Stands
