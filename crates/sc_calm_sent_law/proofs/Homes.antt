@@ -70,8 +70,10 @@ module _ (at : Sets) (now after : Progress) (node : ℕ) (taken : Option Mark) (
       | inr ne ↦ (let old = h.promised who in let u = up (now.promise who).node in subst (IsHeld after) (sym (row.promise who ne)) (omega (arith, old, u)))
     ];
     strangers = λ who out. elim (cases_eq who node) [
-      | inl is ↦ (ap after.next is ∙ (i.next ∙ (ap now.next (sym is) ∙ (h.strangers who out).0)),
-          ap marks_after is ∙ (row.own ∙ (ap (λ l. row.left ++ l) (i.sends node) ∙ (append-nil row.left ∙ (sym (row.takes ∙ ap (λ t. listed t ++ row.left) i.takes) ∙ (ap marks (sym is) ∙ (h.strangers who out).1))))))
+      | inl is ↦ (
+        ap after.next is ∙ (i.next ∙ (ap now.next (sym is) ∙ (h.strangers who out).0)),
+        ap marks_after is ∙ (row.own ∙ (ap (λ l. row.left ++ l) (i.sends node) ∙ (append-nil row.left ∙ (sym (row.takes ∙ ap (λ t. listed t ++ row.left) i.takes) ∙ (ap marks (sym is) ∙ (h.strangers who out).1))))),
+      )
       | inr ne ↦ (row.next who ne ∙ (h.strangers who out).0, row.others who ne ∙ (ap (λ l. l ++ sent who) (h.strangers who out).1 ∙ i.sends who))
     ];
   }

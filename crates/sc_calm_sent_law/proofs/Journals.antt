@@ -138,10 +138,13 @@ module _ (at : Sets) (births : List (Seat Player)) (base : Base) (course : Cours
   born_homes = record {
     finds = λ who. tt;
     promised = λ who. subst (λ n. 1 ≤ now.next n) (sym (promise_at who)) (one_at base.core.first first);
-    strangers = λ who out. (elim (born who) [
-      | inl none ↦ ap (next_in base who) none ∙ cond-false (is_member base.core.members who) 1 0 (ap (λ l. is_member l who) (sym begins) ∙ out 0)
-      | inr some ↦ absurd (true≢false (sym some.1 ∙ (ap (λ l. is_member l who) (sym begins) ∙ out 0)))
-    ], refl);
+    strangers = λ who out. (
+      elim (born who) [
+        | inl none ↦ ap (next_in base who) none ∙ cond-false (is_member base.core.members who) 1 0 (ap (λ l. is_member l who) (sym begins) ∙ out 0)
+        | inr some ↦ absurd (true≢false (sym some.1 ∙ (ap (λ l. is_member l who) (sym begins) ∙ out 0)))
+      ],
+      refl,
+    );
   }
 
 -- ---- through a journal
@@ -198,7 +201,7 @@ module _ (bounds : ValidScenariosAreBounded) (idle : JournalsKeepIdle) (wb : Sce
         let one = one_log then_ more is so in
         let step : IsLedStep at over by words all rows seat event base t.course = go_on at over by words all then_ base (wb scenario) one so rows seat event t.course (record { more = []; is = sym (append-nil then_) }) born_ calm timely_ t.led in
         let finds : FindsNothing all then_ base = λ before who number mail ballot from_slot r d.
-            nothing before who number mail ballot from_slot r (record { row = record { more = d.row.more ++ more; is = is ∙ (ap (λ l. l ++ more) d.row.is ∙ append_assoc (with_event before who _) d.row.more more) }; sent = d.sent }) in
+        nothing before who number mail ballot from_slot r (record { row = record { more = d.row.more ++ more; is = is ∙ (ap (λ l. l ++ more) d.row.is ∙ append_assoc (with_event before who _) d.row.more more) }; sent = d.sent }) in
         record {
           course = step.later;
           led = step.led;

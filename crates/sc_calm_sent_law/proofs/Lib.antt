@@ -4,3 +4,4 @@ pub mod Finds
 pub mod Turns
 pub mod Spoken
 pub mod Journals
+pub mod Born

@@ -1,5 +1,6 @@
 -- That a group's mail is sent so through a calm journal, as its leader's course needs it.
 use Rattle.std.specs.Prelude.{◌≡◌, ℕ, true, List, [], ◌++◌, Some, None, ◌⊎◌}
+use Rattle.sc_base.specs.Among.{Among}
 use Rattle.sc_base.specs.declared.names.Ballot.{Ballot}
 use Rattle.sc_cmd.specs.declared.cores.Base.{Base}
 use Rattle.sc_cmd.specs.declared.orders.OrderLine.{OrderLine}
@@ -71,3 +72,7 @@ LedJournalsAreSentSo =
     (words : ℕ → ℕ → ℕ × ℕ) (scenario : Scenario) (journal : Rows) (base : Base) → IsGroupOf as_nodes words scenario journal base → AreInTime (players words (births as_nodes scenario)) journal → AreFew as_nodes scenario journal base
     → AreBornAsBegun (births as_nodes scenario) base → ((rows more : Rows) → journal ≡ rows ++ more → IsQuietWhileYoung words (births as_nodes scenario) rows base) → FindsNothing (births as_nodes scenario) journal base
     → (rows more : Rows) → journal ≡ rows ++ more → IsSentThrough (logged_sets as_nodes base journal) (over_at as_nodes base journal) (tellers_at as_nodes scenario base journal) words (births as_nodes scenario) rows base
+
+-- So each group of a bounded scenario is born; and so is a child of a split, of which no node has a replica then.
+abbrev pub ScenariosAreBornAsBegun : Type 0
+ScenariosAreBornAsBegun = (scenario : Scenario) → IsBounded scenario → (base : Base) → Among base scenario.groups → AreBornAsBegun (births as_nodes scenario) base

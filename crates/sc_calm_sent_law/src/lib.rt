@@ -3,7 +3,7 @@
 #![tactic(auto)]
 
 ghost use Rattle.sc_calm_sent_law.specs.Homes.{HomesAreKept};
-ghost use Rattle.sc_calm_sent_law.specs.Journals.{LedJournalsAreSentSo, NextMailIsSentSo};
+ghost use Rattle.sc_calm_sent_law.specs.Journals.{LedJournalsAreSentSo, NextMailIsSentSo, ScenariosAreBornAsBegun};
 
 use sc_calm_groups_law::{events_go_on, scenarios_are_well_born};
 use sc_calm_led_law::{groups_are_led, groups_begin_led, led_logs_are_one};
@@ -36,3 +36,8 @@ pub fn led_journals_are_sent_so()
     events_go_on();
     groups_begin_led();
 }
+
+/// The replicas of a scenario's group at the births are as the group begins.
+pub fn scenarios_are_born_as_begun()
+    ensures { ScenariosAreBornAsBegun }
+{}
