@@ -1,7 +1,7 @@
 -- The replicas of a scenario's group at its births are as the group begins, at its first members.
-use Rattle.std.proofs.Common.{◌≡◌, ℕ, Bool, true, false, cond, Option, Some, None, ◌⊎◌, inl, inr, refl, sym, ◌∙◌, ap}
+use Rattle.std.proofs.Common.{◌≡◌, Bool, true, false, cond, Option, Some, None, ◌⊎◌, inl, inr, refl}
 use Rattle.sc_member.specs.Roster.{is_member}
-use Rattle.sc_node_table.specs.Replica.{ReplicaState, born_replica}
+use Rattle.sc_node_table.specs.Replica.{born_replica}
 use Rattle.sc_node_table.specs.Slots.{slots_ahead}
 use Rattle.sc_calm_rows_law.proofs.Beginning.{view_born}
 use Rattle.sc_calm_sent_law.specs.Journals.{ScenariosAreBornAsBegun}

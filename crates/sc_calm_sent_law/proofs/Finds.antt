@@ -1,10 +1,10 @@
 -- What mail of a group is, where what it finds and says is known.
-use Rattle.std.proofs.Common.{◌≡◌, ℕ, ◌+◌, ◌<◌, ◌≤◌, ◌&&◌, eqb, cond, true, false, true≢false, nat_le, le-leb, ltb, find, List, [], ◌∷◌, ◌++◌, length, map, Bool, Option, Some, None, ◌⊎◌, inl, inr, refl, sym, ◌∙◌, ap, subst, append_assoc, arith, rules, tests}
+use Rattle.std.proofs.Common.{◌≡◌, ℕ, ◌+◌, ◌<◌, ◌&&◌, eqb, cond, true, false, nat_le, List, [], ◌∷◌, ◌++◌, map, Bool, Option, Some, None, ◌⊎◌, inl, inr, refl, sym, ◌∙◌, ap, subst, append_assoc, arith}
 use Rattle.std.specs.List.{All}
 use Rattle.std.proofs.lemmas.Bool.{cases_Bool, cond-false, and_parts, leb-true}
 use Rattle.std.proofs.lemmas.List.Elements.{All-head, All-tail}
 use Rattle.sc_base.specs.Among.{Each}
-use Rattle.sc_base.specs.Limits.{most_nodes, client_actor}
+use Rattle.sc_base.specs.Limits.{most_nodes}
 use Rattle.sc_base.specs.Same.{same_draw}
 use Rattle.sc_base.specs.declared.names.Draw.{Draw}
 use Rattle.sc_base.specs.declared.names.Ballot.{Ballot}
@@ -27,12 +27,11 @@ use Rattle.sc_client_table.specs.Client.{Client as ClientState}
 use Rattle.sc_orderly_law.specs.Timely.{AreInTime}
 use Rattle.sc_orderly_law.proofs.InTime.{in_time_before}
 use Rattle.sc_paxos_words.specs.Ballots.{below, IsAtLeast}
-use Rattle.sc_paxos_words.specs.declared.reports.Report.{Report}
-use Rattle.sc_paxos_words.proofs.ListLemmas.{Each-among, Each-append, Each-weaker, find_found}
+use Rattle.sc_paxos_words.proofs.ListLemmas.{Each-among, Each-append, find_found}
 use Rattle.sc_scenario.specs.Valid.{IsBounded, IsBoundedClient}
 use Rattle.sc_scenario.specs.declared.scenarios.Asks.{Asks as Requests}
 use Rattle.sc_scenario.specs.declared.scenarios.Scenario.{Scenario}
-use Rattle.sc_node_table.specs.Node.{NodeState, replica_of, may_come, is_node}
+use Rattle.sc_node_table.specs.Node.{may_come, is_node}
 use Rattle.sc_node_table.specs.Replica.{ReplicaState, listed}
 use Rattle.sc_node_table.specs.Slots.{numbers_from}
 use Rattle.sc_group_law.proofs.RowSteps.{number_among}

@@ -1,5 +1,5 @@
 -- Mail of a group finds a replica where it needs one, after each kind of row.
-use Rattle.std.proofs.Common.{◌≡◌, ℕ, suc, zero, ◌+◌, ◌≤◌, ◌&&◌, eqb, true, false, true≢false, List, [], ◌∷◌, ◌++◌, Option, Some, None, ◌⊎◌, inl, inr, refl, sym, ◌∙◌, ap, subst, arith, append-nil}
+use Rattle.std.proofs.Common.{◌≡◌, ℕ, suc, zero, ◌+◌, ◌≤◌, ◌&&◌, eqb, true≢false, List, [], ◌∷◌, ◌++◌, Option, Some, ◌⊎◌, inl, inr, refl, sym, ◌∙◌, ap, subst, arith, append-nil}
 use Rattle.std.proofs.lemmas.Bool.{cases_eq, cond_both, cond-false, eqb-true, and_parts}
 use Rattle.sc_base.specs.Among.{Each}
 use Rattle.sc_base.specs.declared.names.Ballot.{Ballot}
@@ -7,8 +7,8 @@ use Rattle.sc_member.specs.Roster.{is_member}
 use Rattle.sc_node_table.specs.Replica.{listed}
 use Rattle.sc_paxos_words.specs.Ballots.{below}
 use Rattle.sc_paxos_words.proofs.ListLemmas.{Each-append, Each-weaker}
-use Rattle.sc_following_law.specs.Following.{Mark, Asks, Votes, Tells, Installs, Prepares, Promises, Course, Progress, Sets, members_at, next_by, promise_by, reached, IsFit, AreFit, IsFollowing}
-use Rattle.sc_following_law.specs.Rows.{IsRow, IsIdle, IsOffer, answered, Takes, told_of, told_from, welcome, Leads, Elects}
+use Rattle.sc_following_law.specs.Following.{Mark, Asks, Votes, Tells, Installs, Prepares, Promises, Course, Progress, Sets, members_at, promise_by, IsFit, AreFit, IsFollowing}
+use Rattle.sc_following_law.specs.Rows.{IsRow, IsIdle, IsOffer, answered, Takes, told_of, told_from, Leads, Elects}
 use Rattle.sc_following_law.proofs.Keeps.{each-row}
 use Rattle.sc_following_law.proofs.Marks.{offers-each, told-each, rises, reached-least}
 use Rattle.sc_calm_sent_law.specs.Homes.{IsHeld, FindsOne, IsStranger, IsAtHome, HomesAreKept}

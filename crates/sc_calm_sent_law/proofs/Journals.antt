@@ -1,7 +1,6 @@
 -- A group's mail is sent so through a journal, row by row.
-use Rattle.std.proofs.Common.{◌≡◌, ℕ, ◌+◌, ◌≤◌, true, List, [], ◌∷◌, ◌++◌, Option, Some, None, ◌⊎◌, inl, inr, refl, sym, ◌∙◌, ap, subst, append_assoc, append-nil, arith}
-use Rattle.std.proofs.lemmas.Bool.{cases_Bool, cond-true, cond-false, true≢false}
-use Rattle.sc_base.specs.Among.{Each}
+use Rattle.std.proofs.Common.{◌≡◌, ℕ, ◌+◌, ◌≤◌, true, List, [], ◌∷◌, ◌++◌, inl, inr, refl, sym, ◌∙◌, ap, subst, append_assoc, append-nil, arith}
+use Rattle.std.proofs.lemmas.Bool.{cond-true, cond-false, true≢false}
 use Rattle.sc_base.specs.declared.names.Ballot.{Ballot}
 use Rattle.sc_base.specs.declared.names.Draw.{Draw}
 use Rattle.sc_cmd.specs.declared.cores.Base.{Base}
@@ -19,30 +18,28 @@ use Rattle.sc_actor.specs.System.{row_of}
 use Rattle.sc_orderly_law.specs.Orderly.{IsCalmEvent}
 use Rattle.sc_orderly_law.specs.Timely.{AreInTime}
 use Rattle.sc_orderly_law.proofs.InTime.{by_time, last_in_time}
-use Rattle.sc_paxos_words.specs.Ballots.{below, IsAtLeast}
+use Rattle.sc_paxos_words.specs.Ballots.{IsAtLeast}
 use Rattle.sc_paxos_words.proofs.BallotLemmas.{at_least_below, at_least_from_below}
 use Rattle.sc_paxos_words.proofs.ListLemmas.{Each-append, Each-weaker}
-use Rattle.sc_scenario.specs.Valid.{IsBounded, ValidScenariosAreBounded}
+use Rattle.sc_scenario.specs.Valid.{ValidScenariosAreBounded}
 use Rattle.sc_scenario.specs.declared.scenarios.Scenario.{Scenario}
-use Rattle.sc_node_table.specs.Replica.{ReplicaState, born_replica}
-use Rattle.sc_node_table.specs.Slots.{slots_ahead}
 use Rattle.sc_sound.specs.Players.{Player, player_table, births, as_nodes}
 use Rattle.sc_calm_law.specs.Charts.{players}
 use Rattle.sc_calm_law.specs.Totals.{Rows}
-use Rattle.sc_following_law.specs.Following.{Mark, Course, Progress, Sets}
+use Rattle.sc_following_law.specs.Following.{Course, Progress, Sets}
 use Rattle.sc_following_law.specs.Hints.{Tellers}
-use Rattle.sc_calm_rows_law.specs.Groups.{view_at, marks_at, next_in, promise_in, progress_at, taken_mark}
+use Rattle.sc_calm_rows_law.specs.Groups.{marks_at, next_in, promise_in, progress_at}
 use Rattle.sc_calm_rows_law.specs.Steps.{led_course, elected_course}
 use Rattle.sc_calm_rows_law.specs.Turns.{IsSeat, with_event}
 use Rattle.sc_calm_rows_law.proofs.Marking.{rows_are}
 use Rattle.sc_calm_logs_law.specs.Logged.{logged_sets, IsGroupOf}
 use Rattle.sc_calm_groups_law.specs.Kinds.{IsGroupRow, RowPasses, RowRests, RowTakes, RowMakes, RowLeads, RowElects, IsLedStep}
 use Rattle.sc_calm_groups_law.specs.Led.{Ends, IsWellLed}
-use Rattle.sc_calm_groups_law.specs.Through.{Delivers, HasOneLog, IsSentSo, EventsGoOn, ScenariosAreWellBorn}
+use Rattle.sc_calm_groups_law.specs.Through.{HasOneLog, IsSentSo, EventsGoOn, ScenariosAreWellBorn}
 use Rattle.sc_calm_led_law.specs.Led.{over_at, LedLogsAreOne}
 use Rattle.sc_calm_led_law.specs.Tellers.{tellers_at, AreFew, GroupsAreLed, GroupsBeginLed}
 use Rattle.sc_calm_mail_law.specs.Idle.{JournalsKeepIdle}
-use Rattle.sc_calm_sent_law.specs.Homes.{IsStranger, IsAtHome}
+use Rattle.sc_calm_sent_law.specs.Homes.{IsAtHome}
 use Rattle.sc_calm_sent_law.specs.Journals.{IsSentOn, IsQuietWhileYoung, FindsNothing, AreBornAsBegun, IsSentThrough, LedJournalsAreSentSo}
 use Rattle.sc_calm_sent_law.specs.Sent.{SaysWell, AreSaidWell}
 use Rattle.sc_calm_sent_law.proofs.Finds.{next_mail_so}

@@ -1,6 +1,6 @@
 -- What a replica says in a row of its table, of a group with some name.
-use Rattle.std.proofs.Common.{◌≡◌, ℕ, ◌+◌, ◌<◌, ◌≤◌, ◌||◌, not, nat_le, nat_lt, eqb, cond, true, false, List, [], ◌∷◌, Option, Some, None, ◌⊎◌, inl, inr, refl, sym, ◌∙◌, ap, subst, length, arith}
-use Rattle.std.proofs.lemmas.Bool.{eqb-true, le-ltb, lt-leb}
+use Rattle.std.proofs.Common.{◌≡◌, ℕ, ◌<◌, ◌≤◌, cond, List, [], ◌∷◌, refl, sym, ◌∙◌, subst, length, arith}
+use Rattle.std.proofs.lemmas.Bool.{lt-leb}
 use Rattle.sc_base.specs.Among.{Each}
 use Rattle.sc_base.specs.Drawing.{Drawer}
 use Rattle.sc_base.specs.declared.names.Ballot.{Ballot}
@@ -31,7 +31,7 @@ use Rattle.sc_following_law.proofs.Nodes.{saw_either}
 use Rattle.sc_calm_mail_law.specs.Idle.{IsPlainlyKept}
 use Rattle.sc_calm_mail_law.proofs.FewWalks.{entered_up, installed_up}
 use Rattle.sc_calm_mail_law.proofs.WalkRows.{takes_mail, orders, looks_up}
-use Rattle.sc_calm_mail_law.proofs.Walks.{Walk, Part, part, next_in, named_in, entered_part, jumped_part, IsReported, Sends, AreSaid, Hears, AfterAll, After}
+use Rattle.sc_calm_mail_law.proofs.Walks.{Walk, Part, part, next_in, named_in, entered_part, jumped_part, IsReported, Sends, AreSaid, Hears}
 use Rattle.sc_calm_sent_law.specs.Sent.{SaysWell, AreSaidWell}
 
 -- the walk of one replica, and a group with this name; if it is the replica's own, it has promised no later ballot and executed these slots

@@ -1,10 +1,9 @@
 -- What is said in a row of players, of a group that is well led and whose mail is sent so.
-use Rattle.std.proofs.Common.{◌≡◌, ℕ, ◌+◌, ◌≤◌, true, false, true≢false, List, [], ◌∷◌, ◌++◌, Option, Some, None, ◌⊎◌, inl, inr, refl, sym, ◌∙◌, ap, subst, append-nil, arith}
+use Rattle.std.proofs.Common.{◌≡◌, ℕ, ◌+◌, true, true≢false, List, [], ◌++◌, Option, Some, None, inl, inr, refl, sym, ◌∙◌, ap, subst, append-nil, arith}
 use Rattle.std.specs.Option.{option_map}
 use Rattle.std.proofs.lemmas.Bool.{cases_Bool}
 use Rattle.sc_base.specs.Among.{Each}
 use Rattle.sc_base.specs.Same.{same_draw}
-use Rattle.sc_base.specs.declared.names.Ballot.{Ballot}
 use Rattle.sc_base.specs.declared.names.Draw.{Draw}
 use Rattle.sc_base.proofs.NameLemmas.{draw_is, same_name}
 use Rattle.sc_cmd.specs.declared.cores.Base.{Base}
@@ -23,14 +22,13 @@ use Rattle.sc_actor.specs.System.{row_of}
 use Rattle.sc_orderly_law.specs.Orderly.{IsCalmEvent}
 use Rattle.sc_orderly_law.specs.Timely.{AreInTime}
 use Rattle.sc_orderly_law.proofs.InTime.{in_time_before}
-use Rattle.sc_paxos_words.specs.Acceptors.{reports_from}
-use Rattle.sc_paxos_words.specs.Ballots.{below, IsAtLeast}
+use Rattle.sc_paxos_words.specs.Ballots.{IsAtLeast}
 use Rattle.sc_paxos_words.proofs.ListLemmas.{Each-among}
 use Rattle.sc_scenario.specs.Valid.{IsBounded}
 use Rattle.sc_scenario.specs.declared.scenarios.Scenario.{Scenario}
 use Rattle.sc_node_table.specs.Node.{NodeState, replica_of, group_of_mail, group_of_order, may_come, on_mail, on_order}
 use Rattle.sc_node_table.specs.Ordering.{ordered_row}
-use Rattle.sc_node_table.specs.Replica.{ReplicaState, listed, name_of, next, first_ballot}
+use Rattle.sc_node_table.specs.Replica.{ReplicaState, listed, name_of, next}
 use Rattle.sc_node_table.specs.Rows.{mailed}
 use Rattle.sc_group_law.proofs.RowSteps.{number_among}
 use Rattle.sc_sound.specs.Players.{Player, player_table, births, as_nodes}

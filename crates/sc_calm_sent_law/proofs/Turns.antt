@@ -1,41 +1,27 @@
 -- What a player says in a row, of a group that is well led.
-use Rattle.std.proofs.Common.{◌≡◌, ℕ, ◌+◌, ◌<◌, ◌≤◌, ◌||◌, not, nat_lt, eqb, cond, true, false, true≢false, List, [], ◌∷◌, ◌++◌, length, Bool, Option, Some, None, ◌⊎◌, inl, inr, refl, sym, ◌∙◌, ap, subst, append_assoc, arith}
-use Rattle.std.specs.Option.{option_map}
-use Rattle.std.proofs.lemmas.Bool.{cases_Bool, cond-true, eqb-true}
-use Rattle.sc_base.specs.Among.{Each}
+use Rattle.std.proofs.Common.{◌≡◌, ℕ, ◌||◌, not, nat_lt, eqb, cond, true, false, List, [], length, Bool, Option, Some, None, ◌⊎◌, inl, inr, refl, sym, ◌∙◌, ap, subst, arith}
+use Rattle.std.proofs.lemmas.Bool.{cond-true, eqb-true}
 use Rattle.sc_base.specs.Same.{same_draw}
 use Rattle.sc_base.specs.declared.names.Draw.{Draw}
 use Rattle.sc_base.specs.declared.names.Ballot.{Ballot}
-use Rattle.sc_base.proofs.NameLemmas.{draw_is, same_name}
+use Rattle.sc_base.proofs.NameLemmas.{same_name}
 use Rattle.sc_cmd.specs.declared.cores.Base.{Base}
 use Rattle.sc_cmd.specs.declared.orders.OrderLine.{OrderLine}
 use Rattle.sc_mail.specs.declared.bodies.Mail.{Mail}
 use Rattle.sc_mail.specs.declared.bodies.MailBody.{MailBody}
 use Rattle.sc_mail.specs.declared.bodies.MailBody.TheVariants.{Request, Answer, Prepare, Promise, Accept, Accepted, Nack, Learn, Ask, Install, TxPrepare, TxVote, TxOutcome, TxElsewhere, TxWatch, TxWatched, Told as ToldMail}
-use Rattle.sc_mail.specs.declared.roles.Role.TheVariants.{Node, Client}
-use Rattle.sc_actor.specs.declared.actors.Seat.{Seat}
-use Rattle.sc_actor.specs.declared.rows.Event.{Event}
-use Rattle.sc_actor.specs.declared.rows.Event.TheVariants.{Deliver, Tick, Go, Told, Crash, Drop, Again}
 use Rattle.sc_actor.specs.declared.rows.Input.{Input}
-use Rattle.sc_actor.specs.declared.rows.Input.TheVariants.{Got, Go as GoInput, Told as ToldInput}
-use Rattle.sc_actor.specs.Mail.{mails, numbered}
-use Rattle.sc_actor.specs.Replay.{value, input_of, acted}
-use Rattle.sc_actor.specs.System.{row_of}
 use Rattle.sc_client_table.specs.Client.{Client as ClientState}
 use Rattle.sc_client_table.specs.Table.{table}
-use Rattle.sc_node_table.specs.Node.{NodeState, replica_of, group_of_mail, group_of_order, may_come, unknown, absent, with_made, taken_by, routed, on_mail, ordered_of, on_order}
-use Rattle.sc_node_table.specs.Replica.{ReplicaState, name_of, next, first_ballot, last_slot}
+use Rattle.sc_node_table.specs.Node.{NodeState, replica_of, group_of_mail, group_of_order, may_come, unknown, with_made, taken_by, routed, on_mail, ordered_of, on_order}
+use Rattle.sc_node_table.specs.Replica.{ReplicaState, first_ballot, last_slot}
 use Rattle.sc_node_table.specs.Ordering.{ordered_row}
 use Rattle.sc_node_table.specs.Rows.{mailed, made_by}
 use Rattle.sc_node_table.specs.Slots.{slots_ahead}
-use Rattle.sc_following_law.specs.Following.{Mark, Asks, Votes, Tells, Installs, Prepares, Promises, mark_of}
+use Rattle.sc_following_law.specs.Following.{Mark, Asks, Tells, Installs, Prepares, mark_of}
 use Rattle.sc_paxos_words.specs.Ballots.{IsAtLeast}
 use Rattle.sc_paxos_words.proofs.ListLemmas.{Each-weaker}
 use Rattle.sc_law_lemmas.proofs.Ways.{either_way}
-use Rattle.sc_sound.specs.Players.{Player, player_table}
-use Rattle.sc_calm_law.specs.Totals.{Rows}
-use Rattle.sc_calm_rows_law.specs.Turns.{IsSeat}
-use Rattle.sc_calm_rows_law.proofs.Viewing.{sent_is}
 use Rattle.sc_calm_mail_law.proofs.Clients.{IsRequestOf, clients_ask}
 use Rattle.sc_calm_sent_law.specs.Sent.{SaysWell, AreSaidWell}
 use Rattle.sc_calm_sent_law.proofs.Saying.{made_says}
