@@ -1,7 +1,7 @@
 -- A group of a journal is guided at each of its rows.
 use Rattle.std.proofs.Common.{[], ap, append-nil, append_assoc, sym, ◌++◌, ◌∙◌, ◌∷◌}
 use Rattle.sc_calm_found_law.specs.Along.{RowsAreGuided}
-use Rattle.sc_calm_groups_law.specs.Through.{EventsGoOn, HasOneLog, ScenariosAreWellBorn}
+use Rattle.sc_calm_groups_law.specs.Through.{EventsGoOn, ScenariosAreWellBorn}
 use Rattle.sc_calm_law.specs.Charts.{players}
 use Rattle.sc_calm_led_law.specs.Led.{LedLogsAreOne, over_at}
 use Rattle.sc_calm_led_law.specs.Tellers.{GroupsAreLed, tellers_at}

@@ -9,7 +9,7 @@ use Rattle.sc_calm_found_law.proofs.Newest.{newest_after, newest_before, unled}
 use Rattle.sc_calm_found_law.proofs.Posted.{offers_own, watches_own}
 use Rattle.sc_calm_found_law.specs.Guided.{IsGuided, IsNamedGuide}
 use Rattle.sc_calm_found_law.specs.Missed.{MissedAreFound, YoungMayBear}
-use Rattle.sc_calm_groups_law.specs.Led.{Ends, hints_at}
+use Rattle.sc_calm_groups_law.specs.Led.{hints_at}
 use Rattle.sc_calm_groups_law.specs.Logged.{IsLogsState}
 use Rattle.sc_calm_groups_law.specs.Through.{Delivers}
 use Rattle.sc_calm_law.specs.Totals.{Rows}

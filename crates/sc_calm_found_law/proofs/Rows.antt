@@ -49,7 +49,6 @@ use Rattle.sc_scenario.specs.declared.scenarios.Scenario.{Scenario}
 use Rattle.sc_sound.specs.Players.{Player, as_nodes, births, player_table}
 use Rattle.std.proofs.Common.{zero, suc}
 use Rattle.sc_mail.specs.declared.roles.Role.TheVariants.{Node, Client}
-use Rattle.sc_client_table.specs.Client.{Client as ClientState}
 use Rattle.sc_calm_groups_law.proofs.TopNodes.{Plays as TopPlays, replay_well as tops_replay}
 
 -- a mail that has a number was sent

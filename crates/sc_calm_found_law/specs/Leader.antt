@@ -17,7 +17,6 @@ use Rattle.sc_mail.specs.declared.bodies.MailBody.TheVariants.{Accepted, Request
 use Rattle.sc_node_table.specs.Node.{NodeState}
 use Rattle.sc_node_table.specs.Replica.{ReplicaState, listed}
 use Rattle.sc_sound.specs.Players.{Player}
-use Rattle.sc_mail.specs.declared.bodies.MailBody.TheVariants.{Told as ToldMail}
 
 -- The stages leave each leader one work, or none.
 abbrev pub StagesLeaveOneWork : Type 0

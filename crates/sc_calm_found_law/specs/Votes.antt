@@ -9,7 +9,7 @@ use Rattle.sc_calm_groups_law.specs.Slots.{IsSlotKept}
 use Rattle.sc_calm_law.specs.Totals.{Rows}
 use Rattle.sc_calm_orders_law.specs.Entries.{IsBegun}
 use Rattle.sc_calm_orders_law.specs.Parts.{bond_of}
-use Rattle.sc_calm_orders_law.specs.Scenes.{Answers, Asking, Bond, Bound, Changes, Ends, First, GivesUp, IsNone, Lone, Next, Opens, Records, Scene, Turn, Unbound, Work, is_watch}
+use Rattle.sc_calm_orders_law.specs.Scenes.{Answers, Asking, Bond, Bound, Changes, Ends, First, GivesUp, Lone, Next, Opens, Records, Scene, Turn, Unbound, Work, is_watch}
 use Rattle.sc_calm_orders_law.specs.Stages.{IsUnderWay, IsVote}
 use Rattle.sc_calm_scenes_law.specs.Counted.{StaysIn}
 use Rattle.sc_calm_scenes_law.specs.Found.{FindsFlight}
