@@ -1,4 +1,4 @@
--- Each group of a lawful journal is well led at the births: one of the scenario as it begins, and another since no node has a replica of it.
+-- Each group of a lawful journal is one of the scenario, or no node has a replica of it at the births; so it is well led then.
 use Rattle.std.proofs.Common.{◌≡◌, ℕ, eqb, false, true≢false, List, [], ◌∷◌, find, map, Some, None, ◌⊎◌, inl, inr, refl, sym, ◌∙◌, ap, subst, arith}
 use Rattle.std.specs.List.{filter}
 use Rattle.std.proofs.lemmas.Bool.{cases_Bool, cond_both, cond-false}
@@ -33,7 +33,7 @@ use Rattle.sc_calm_groups_law.specs.Begun.{BeginsSo, ScenariosBeginLed, Children
 use Rattle.sc_calm_led_law.specs.Led.{over_at, GroupsBeginStanding, EndsAreLogged}
 use Rattle.sc_calm_groups_law.specs.Taught.{ScenariosBeginTaught, ChildrenBeginTaught}
 use Rattle.sc_calm_led_law.specs.Taught.{GroupsBeginTaught}
-use Rattle.sc_calm_led_law.specs.Tellers.{GroupsBeginLed}
+use Rattle.sc_calm_led_law.specs.Tellers.{GroupsAreBornOrNot, GroupsBeginLed}
 
 -- ---- no player has a replica of a group with another name at the births
 
@@ -90,10 +90,9 @@ module _ (name : Draw) where
       behind f none other (inl same) is = true≢false (sym (same_name b.core.id name (ap (λ (x : Base). x.core.id) same ∙ is)) ∙ f)
       behind f none other (inr a) is = none other a is
 
--- ---- what the laws under this one say of valid scenarios
+-- ---- a group of the journal is one of the scenario, or unborn
 
-module _ (bounded : ValidScenariosAreBounded) (begin : ValidScenariosBeginWell) (allowed : TakenOrdersAreAllowed) (wishes : TakenWishesAreAllowed) (positions : WishesAreAtPositions) (free : OtherNamesAreFree)
-    (rosters : SlotsHaveRosters) (standing : GroupsBeginStanding) (ends : EndsAreLogged) where
+module _ (bounded : ValidScenariosAreBounded) (begin : ValidScenariosBeginWell) (allowed : TakenOrdersAreAllowed) (wishes : TakenWishesAreAllowed) (positions : WishesAreAtPositions) (free : OtherNamesAreFree) where
   module _ (words : ℕ → ℕ → ℕ × ℕ) (scenario : Scenario) (journal : Rows) (base : Base) (group : IsGroupOf as_nodes words scenario journal base) where
     abbrev sources : Sources
     sources = record { owner = owner_in as_nodes scenario journal; request = section_op scenario }
@@ -113,6 +112,16 @@ module _ (bounded : ValidScenariosAreBounded) (begin : ValidScenariosBeginWell) 
         let later = (stay sources as_nodes words scenario route well journal orders group.lawful [] journal refl).groups one a in
         subst (λ b. Among b scenario.groups) ((found sources as_nodes words scenario route well journal orders group.lawful).apart one base later group.stands is) a
 
+  pub born_or_not : GroupsAreBornOrNot
+  born_or_not words scenario journal base group = elim (one_or_none base.core.id scenario.groups) [
+    | inl r ↦ inl (its_own words scenario journal base group r.0 r.1 r.2)
+    | inr none ↦ inr (unborn base.core.id scenario none)
+  ]
+
+-- ---- so it is well led at the births, and its members learn all entries
+
+module _ (bounded : ValidScenariosAreBounded) (born : GroupsAreBornOrNot) (rosters : SlotsHaveRosters) (standing : GroupsBeginStanding) (ends : EndsAreLogged) where
+  module _ (words : ℕ → ℕ → ℕ × ℕ) (scenario : Scenario) (journal : Rows) (base : Base) (group : IsGroupOf as_nodes words scenario journal base) where
     begins_so : BeginsSo (logged_sets as_nodes base journal) (over_at as_nodes base journal) base
     begins_so = record {
       sets = rosters.first as_nodes words scenario journal base group;
@@ -122,26 +131,20 @@ module _ (bounded : ValidScenariosAreBounded) (begin : ValidScenariosBeginWell) 
     }
 
   pub groups_begin_led : ScenariosBeginLed → ChildrenBeginLed → GroupsBeginLed
-  groups_begin_led begin_led children_led words by scenario journal base group = elim (one_or_none base.core.id scenario.groups) [
-    | inl r ↦ (
+  groups_begin_led begin_led children_led words by scenario journal base group = elim (born words scenario journal base group) [
+    | inl own ↦ (
       begun_course base,
-      begin_led (logged_sets as_nodes base journal) (over_at as_nodes base journal) by words scenario base (bounded scenario group.valid) (its_own words scenario journal base group r.0 r.1 r.2) (begins_so words scenario journal base group),
+      begin_led (logged_sets as_nodes base journal) (over_at as_nodes base journal) by words scenario base (bounded scenario group.valid) own (begins_so words scenario journal base group),
     )
-    | inr none ↦ (
+    | inr unborn ↦ (
       begun_course base,
       children_led (logged_sets as_nodes base journal) (over_at as_nodes base journal) by words (births as_nodes scenario) [] base (begins_so words scenario journal base group)
-          (standing.first as_nodes words scenario journal base group) (unborn base.core.id scenario none) (λ who. refl),
+          (standing.first as_nodes words scenario journal base group) unborn (λ who. refl),
     )
   ]
 
--- ---- and its members learn all entries
-
-module _ (bounded : ValidScenariosAreBounded) (begin : ValidScenariosBeginWell) (allowed : TakenOrdersAreAllowed) (wishes : TakenWishesAreAllowed) (positions : WishesAreAtPositions) (free : OtherNamesAreFree)
-    (rosters : SlotsHaveRosters) (standing : GroupsBeginStanding) (ends : EndsAreLogged) (begin_taught : ScenariosBeginTaught) (children_taught : ChildrenBeginTaught) where
-  pub groups_begin_taught : GroupsBeginTaught
-  groups_begin_taught words by scenario journal base group = elim (one_or_none base.core.id scenario.groups) [
-    | inl r ↦ begin_taught (logged_sets as_nodes base journal) (over_at as_nodes base journal) by words scenario base (bounded scenario group.valid)
-        (its_own bounded begin allowed wishes positions free rosters standing ends words scenario journal base group r.0 r.1 r.2) (begins_so bounded begin allowed wishes positions free rosters standing ends words scenario journal base group)
-    | inr none ↦ children_taught (logged_sets as_nodes base journal) (over_at as_nodes base journal) by words (births as_nodes scenario) base
-        (standing.first as_nodes words scenario journal base group) (unborn base.core.id scenario none) (begins_so bounded begin allowed wishes positions free rosters standing ends words scenario journal base group)
+  pub groups_begin_taught : ScenariosBeginTaught → ChildrenBeginTaught → GroupsBeginTaught
+  groups_begin_taught begin_taught children_taught words by scenario journal base group = elim (born words scenario journal base group) [
+    | inl own ↦ begin_taught (logged_sets as_nodes base journal) (over_at as_nodes base journal) by words scenario base (bounded scenario group.valid) own (begins_so words scenario journal base group)
+    | inr unborn ↦ children_taught (logged_sets as_nodes base journal) (over_at as_nodes base journal) by words (births as_nodes scenario) base (standing.first as_nodes words scenario journal base group) unborn (begins_so words scenario journal base group)
   ]

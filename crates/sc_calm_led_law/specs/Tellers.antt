@@ -1,5 +1,6 @@
 -- Who leads a group at each slot, by a journal, and that groups of journals whose rows come in time have leaders.
-use Rattle.std.specs.Prelude.{◌≡◌, ℕ, ◌-◌, ◌^◌, ◌<◌, ◌≤◌, nat_lt, Bool, false, List, [], ◌∷◌, ◌++◌, if◌then◌else◌, Option, Some, None}
+use Rattle.std.specs.Prelude.{◌≡◌, ℕ, ◌-◌, ◌^◌, ◌<◌, ◌≤◌, nat_lt, Bool, false, List, [], ◌∷◌, ◌++◌, if◌then◌else◌, Option, Some, None, ◌⊎◌}
+use Rattle.sc_base.specs.Among.{Among}
 use Rattle.sc_base.specs.declared.names.Draw.{Draw}
 use Rattle.sc_cmd.specs.declared.cores.Base.{Base}
 use Rattle.sc_member.specs.Roster.{is_member, least_of}
@@ -48,7 +49,12 @@ abbrev pub AreFew : Ahead → Scenario → Rows → Base → Type 0
 AreFew ahead scenario journal base =
     (rows more : Rows) (who : ℕ) (r : ReplicaState) → journal ≡ rows ++ more → view_at (births ahead scenario) rows base.core.id who ≡ Some r → (next r ≤ last_slot) × (r.top.round < 2 ^ 32 - 1)
 
--- Each group of a lawful journal of a valid scenario is well led at the births, whoever leads later.
+-- Each group of a lawful journal of a valid scenario is one of the scenario, or no node has a replica of it at the births.
+abbrev pub GroupsAreBornOrNot : Type 0
+GroupsAreBornOrNot = (words : ℕ → ℕ → ℕ × ℕ) (scenario : Scenario) (journal : Rows) (base : Base) → IsGroupOf as_nodes words scenario journal base
+    → Among base scenario.groups ⊎ ((who : ℕ) → view_at (births as_nodes scenario) [] base.core.id who ≡ None)
+
+-- So each is well led at the births, whoever leads later.
 abbrev pub GroupsBeginLed : Type 0
 GroupsBeginLed = (words : ℕ → ℕ → ℕ × ℕ) (by : Tellers) (scenario : Scenario) (journal : Rows) (base : Base) → IsGroupOf as_nodes words scenario journal base
     → IsLedOn (logged_sets as_nodes base journal) (over_at as_nodes base journal) by words (births as_nodes scenario) [] base

@@ -5,7 +5,7 @@
 ghost use Rattle.sc_calm_led_law.specs.Led.{ChildrenAreBegun, EndsAreLogged, GroupsBeginStanding, LedLogsAreOne, MembersMoveOneWay};
 ghost use Rattle.sc_calm_led_law.specs.States.{LeaversFree, ReplicasRunLogs};
 ghost use Rattle.sc_calm_led_law.specs.Taught.{GroupsAreTaught, GroupsBeginTaught};
-ghost use Rattle.sc_calm_led_law.specs.Tellers.{GroupsAreLed, GroupsBeginLed, LedRowsGoOn};
+ghost use Rattle.sc_calm_led_law.specs.Tellers.{GroupsAreBornOrNot, GroupsAreLed, GroupsBeginLed, LedRowsGoOn};
 
 use sc_calm_groups_law::{
     children_begin_led, children_begin_taught, events_go_on, groups_are_taught_through,
@@ -88,15 +88,23 @@ pub fn led_logs_are_one()
     members_move_one_way();
 }
 
-/// Each group of the journal is well led at the births: one of the scenario as it begins, and each
-/// other since no node has a replica of it.
-pub fn groups_begin_led()
-    ensures { GroupsBeginLed }
+/// Each group of the journal is one of the scenario, or no node has a replica of it at the births.
+pub fn groups_are_born_or_not()
+    ensures { GroupsAreBornOrNot }
 {
     valid_scenarios_are_bounded();
     valid_scenarios_begin_well();
     orders_are_allowed();
     names_have_one_owner();
+}
+
+/// So it is well led at the births: one of the scenario as it begins, and each other since no node
+/// has a replica of it.
+pub fn groups_begin_led()
+    ensures { GroupsBeginLed }
+{
+    valid_scenarios_are_bounded();
+    groups_are_born_or_not();
     slots_have_rosters();
     groups_begin_standing();
     ends_are_logged();
@@ -136,9 +144,7 @@ pub fn groups_begin_taught()
     ensures { GroupsBeginTaught }
 {
     valid_scenarios_are_bounded();
-    valid_scenarios_begin_well();
-    orders_are_allowed();
-    names_have_one_owner();
+    groups_are_born_or_not();
     slots_have_rosters();
     groups_begin_standing();
     ends_are_logged();

@@ -40,7 +40,7 @@ use Rattle.sc_calm_led_law.specs.Led.{over_at, LedLogsAreOne}
 use Rattle.sc_calm_led_law.specs.Tellers.{tellers_at, AreFew, GroupsAreLed, GroupsBeginLed}
 use Rattle.sc_calm_mail_law.specs.Idle.{JournalsKeepIdle}
 use Rattle.sc_calm_sent_law.specs.Homes.{IsAtHome}
-use Rattle.sc_calm_sent_law.specs.Journals.{IsSentOn, IsQuietWhileYoung, FindsNothing, AreBornAsBegun, IsSentThrough, LedJournalsAreSentSo}
+use Rattle.sc_calm_sent_law.specs.Journals.{IsSentOn, IsQuietWhileYoung, FindsNothing, AreBornAsBegun, GroupsAreBornAsBegun, IsSentThrough, LedJournalsAreSentSo}
 use Rattle.sc_calm_sent_law.specs.Sent.{SaysWell, AreSaidWell}
 use Rattle.sc_calm_sent_law.proofs.Finds.{next_mail_so}
 use Rattle.sc_calm_sent_law.proofs.Homes.{homes_are_kept}
@@ -150,9 +150,9 @@ none_behind : (before : Rows) (row : Row Mail OrderLine) (more : Rows) → [] �
 none_behind [] row more e = cc
 none_behind (x ∷ before) row more e = cc
 
-module _ (bounds : ValidScenariosAreBounded) (idle : JournalsKeepIdle) (wb : ScenariosAreWellBorn) (groups_led : GroupsAreLed) (logs : LedLogsAreOne) (go_on : EventsGoOn) (begins : GroupsBeginLed) where
+module _ (bounds : ValidScenariosAreBounded) (idle : JournalsKeepIdle) (wb : ScenariosAreWellBorn) (groups_led : GroupsAreLed) (logs : LedLogsAreOne) (go_on : EventsGoOn) (begins : GroupsBeginLed) (births_are : GroupsAreBornAsBegun) where
   module _ (words : ℕ → ℕ → ℕ × ℕ) (scenario : Scenario) (journal : Rows) (base : Base) (group : IsGroupOf as_nodes words scenario journal base) (timely : AreInTime (players words (births as_nodes scenario)) journal) (few : AreFew as_nodes scenario journal base)
-      (born : AreBornAsBegun (births as_nodes scenario) base) (quiet : (rows more : Rows) → journal ≡ rows ++ more → IsQuietWhileYoung words (births as_nodes scenario) rows base) (nothing : FindsNothing (births as_nodes scenario) journal base) where
+      (quiet : (rows more : Rows) → journal ≡ rows ++ more → IsQuietWhileYoung words (births as_nodes scenario) rows base) (nothing : FindsNothing (births as_nodes scenario) journal base) where
     abbrev all : List (Seat Player)
     all = births as_nodes scenario
 
@@ -188,7 +188,7 @@ module _ (bounds : ValidScenariosAreBounded) (idle : JournalsKeepIdle) (wb : Sce
     first_rows more is =
         let one = one_log [] more is no_mail in
         let led = begins words by scenario journal base group in
-        record { course = led.0; led = led.1; sent = record { homes = born_homes at all base led.0 words born one.first (one.begins 0 (omega arith)); says = tt }; so = no_mail; one = one }
+        record { course = led.0; led = led.1; sent = record { homes = born_homes at all base led.0 words (births_are words scenario journal base group) one.first (one.begins 0 (omega arith)); says = tt }; so = no_mail; one = one }
 
     next_row : (rows : Rows) (seat : Seat Player) (event : Event OrderLine) (more : Rows) → journal ≡ with_event rows seat event ++ more → IsSeat (births as_nodes scenario) seat → IsCalmEvent (players words (births as_nodes scenario)) rows seat.who event
         → AreInTime (players words (births as_nodes scenario)) (with_event rows seat event) → Through rows → Through (with_event rows seat event)
@@ -219,6 +219,6 @@ module _ (bounds : ValidScenariosAreBounded) (idle : JournalsKeepIdle) (wb : Sce
     before_in_time rows more is = λ before row after e. timely before row (after ++ more) (is ∙ (ap (λ rs. rs ++ more) e ∙ append_assoc before (row ∷ after) more))
 
   pub journals_sent_so : LedJournalsAreSentSo
-  journals_sent_so words scenario journal base group timely few born quiet nothing rows more is =
-      by_time (players words (births as_nodes scenario)) (Begin words scenario journal base group timely few born quiet nothing) (first_rows words scenario journal base group timely few born quiet nothing) (after_row words scenario journal base group timely few born quiet nothing) rows
-      (before_in_time words scenario journal base group timely few born quiet nothing rows more is) more is
+  journals_sent_so words scenario journal base group timely few quiet nothing rows more is =
+      by_time (players words (births as_nodes scenario)) (Begin words scenario journal base group timely few quiet nothing) (first_rows words scenario journal base group timely few quiet nothing) (after_row words scenario journal base group timely few quiet nothing) rows
+      (before_in_time words scenario journal base group timely few quiet nothing rows more is) more is

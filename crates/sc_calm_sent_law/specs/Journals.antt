@@ -70,9 +70,15 @@ pub record IsSentThrough (at : Sets) (over : Ends) (by : Tellers) (words : ℕ �
 abbrev pub LedJournalsAreSentSo : Type 0
 LedJournalsAreSentSo =
     (words : ℕ → ℕ → ℕ × ℕ) (scenario : Scenario) (journal : Rows) (base : Base) → IsGroupOf as_nodes words scenario journal base → AreInTime (players words (births as_nodes scenario)) journal → AreFew as_nodes scenario journal base
-    → AreBornAsBegun (births as_nodes scenario) base → ((rows more : Rows) → journal ≡ rows ++ more → IsQuietWhileYoung words (births as_nodes scenario) rows base) → FindsNothing (births as_nodes scenario) journal base
+    → ((rows more : Rows) → journal ≡ rows ++ more → IsQuietWhileYoung words (births as_nodes scenario) rows base) → FindsNothing (births as_nodes scenario) journal base
     → (rows more : Rows) → journal ≡ rows ++ more → IsSentThrough (logged_sets as_nodes base journal) (over_at as_nodes base journal) (tellers_at as_nodes scenario base journal) words (births as_nodes scenario) rows base
 
--- So each group of a bounded scenario is born; and so is a child of a split, of which no node has a replica then.
-abbrev pub ScenariosAreBornAsBegun : Type 0
-ScenariosAreBornAsBegun = (scenario : Scenario) → IsBounded scenario → (base : Base) → Among base scenario.groups → AreBornAsBegun (births as_nodes scenario) base
+-- So each group of a lawful journal of a valid scenario is born: one of the scenario, and each other since no node has a replica of it then.
+abbrev pub GroupsAreBornAsBegun : Type 0
+GroupsAreBornAsBegun = (words : ℕ → ℕ → ℕ × ℕ) (scenario : Scenario) (journal : Rows) (base : Base) → IsGroupOf as_nodes words scenario journal base → AreBornAsBegun (births as_nodes scenario) base
+
+-- A first member of a group of the scenario has a replica at the births, and so at all times.
+abbrev pub FirstGroupsAreNeverYoung : Type 0
+FirstGroupsAreNeverYoung =
+    (words : ℕ → ℕ → ℕ × ℕ) (scenario : Scenario) (rows : Rows) (base : Base) → IsBounded scenario → Among base scenario.groups → AreInTime (players words (births as_nodes scenario)) rows
+    → IsQuietWhileYoung words (births as_nodes scenario) rows base

@@ -3,11 +3,13 @@
 #![tactic(auto)]
 
 ghost use Rattle.sc_calm_sent_law.specs.Homes.{HomesAreKept};
-ghost use Rattle.sc_calm_sent_law.specs.Journals.{LedJournalsAreSentSo, NextMailIsSentSo, ScenariosAreBornAsBegun};
+ghost use Rattle.sc_calm_sent_law.specs.Journals.{
+    FirstGroupsAreNeverYoung, GroupsAreBornAsBegun, LedJournalsAreSentSo, NextMailIsSentSo,
+};
 
 use sc_calm_groups_law::{events_go_on, scenarios_are_well_born};
-use sc_calm_led_law::{groups_are_led, groups_begin_led, led_logs_are_one};
-use sc_calm_mail_law::journals_keep_idle;
+use sc_calm_led_law::{groups_are_born_or_not, groups_are_led, groups_begin_led, led_logs_are_one};
+use sc_calm_mail_law::{journals_keep_idle, replicas_last};
 use sc_scenario::valid_scenarios_are_bounded;
 
 /// Votes and promises come to nodes that have a replica, and nothing of a group comes to an actor
@@ -35,9 +37,21 @@ pub fn led_journals_are_sent_so()
     led_logs_are_one();
     events_go_on();
     groups_begin_led();
+    groups_are_born_as_begun();
 }
 
-/// The replicas of a scenario's group at the births are as the group begins.
-pub fn scenarios_are_born_as_begun()
-    ensures { ScenariosAreBornAsBegun }
-{}
+/// The replicas of a group at the births are as the group begins.
+pub fn groups_are_born_as_begun()
+    ensures { GroupsAreBornAsBegun }
+{
+    valid_scenarios_are_bounded();
+    groups_are_born_or_not();
+}
+
+/// A first member of a group of the scenario always has a replica of it, so it is sent nothing
+/// before it has one.
+pub fn first_groups_are_never_young()
+    ensures { FirstGroupsAreNeverYoung }
+{
+    replicas_last();
+}
