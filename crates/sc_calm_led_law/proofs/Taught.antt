@@ -1,6 +1,5 @@
 -- Members of a group learn all entries, in a journal whose rows come in time.
-use Rattle.std.proofs.Common.{◌≡◌, ℕ, [], ◌∷◌, ◌++◌, ◌∙◌, sym, ap, append_assoc, append-nil}
-use Rattle.sc_scenario.specs.declared.scenarios.Scenario.{Scenario}
+use Rattle.std.proofs.Common.{[], ◌∷◌, ◌++◌, ◌∙◌, sym, ap, append_assoc, append-nil}
 use Rattle.sc_sound.specs.Players.{births, as_nodes}
 use Rattle.sc_calm_logs_law.specs.Logged.{logged_sets}
 use Rattle.sc_calm_groups_law.specs.Taught.{GroupsAreTaughtThrough}

@@ -1,10 +1,10 @@
 -- The replicas of a group at the births are as the group begins, at its first members; and those of the scenario's groups are there from then on.
-use Rattle.std.proofs.Common.{◌≡◌, ℕ, Bool, true, false, cond, List, [], Option, Some, None, ◌⊎◌, inl, inr, refl, sym, ◌∙◌, subst}
+use Rattle.std.proofs.Common.{◌≡◌, Bool, true, false, cond, [], Option, Some, None, ◌⊎◌, inl, inr, refl, sym, ◌∙◌}
 use Rattle.std.proofs.lemmas.Bool.{cond-true}
 use Rattle.sc_base.specs.Among.{Among}
 use Rattle.sc_cmd.specs.declared.cores.Base.{Base}
 use Rattle.sc_member.specs.Roster.{is_member}
-use Rattle.sc_node_table.specs.Replica.{ReplicaState, born_replica}
+use Rattle.sc_node_table.specs.Replica.{born_replica}
 use Rattle.sc_node_table.specs.Slots.{slots_ahead}
 use Rattle.sc_scenario.specs.Valid.{IsBounded, ValidScenariosAreBounded}
 use Rattle.sc_scenario.specs.declared.scenarios.Scenario.{Scenario}

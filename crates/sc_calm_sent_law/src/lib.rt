@@ -4,7 +4,10 @@
 
 ghost use Rattle.sc_calm_sent_law.specs.Homes.{HomesAreKept};
 ghost use Rattle.sc_calm_sent_law.specs.Journals.{
-    FirstGroupsAreNeverYoung, GroupsAreBornAsBegun, LedJournalsAreSentSo, NextMailIsSentSo,
+  FirstGroupsAreNeverYoung,
+  GroupsAreBornAsBegun,
+  LedJournalsAreSentSo,
+  NextMailIsSentSo,
 };
 
 use sc_calm_groups_law::{events_go_on, scenarios_are_well_born};
