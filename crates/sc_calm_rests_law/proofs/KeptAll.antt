@@ -1,5 +1,5 @@
 -- Each replica of a quiet group is as any journal keeps it.
-use Rattle.std.proofs.Common.{◌≡◌, ℕ, suc, ◌+◌, ◌<◌, ◌≤◌, Bool, true, false, List, [], ◌∷◌, length, Option, Some, None, inl, inr, refl, sym, ◌∙◌, ap, subst, arith}
+use Rattle.std.proofs.Common.{◌≡◌, ℕ, ◌+◌, true, false, List, [], ◌∷◌, length, Some, inl, inr, sym, ◌∙◌, ap, subst, arith}
 use Rattle.std.specs.Prelude.{slice_get}
 use Rattle.std.proofs.lemmas.Bool.{cases_Bool}
 use Rattle.sc_base.specs.Among.{Each}
@@ -9,13 +9,13 @@ use Rattle.sc_mail.specs.declared.roles.Role.TheVariants.{Node, Client}
 use Rattle.sc_member.specs.Roster.{IsRoster, is_member}
 use Rattle.sc_scenario.specs.declared.scenarios.Scenario.{Scenario}
 use Rattle.sc_node_table.specs.Node.{is_node}
-use Rattle.sc_node_table.specs.Replica.{ReplicaState, next, members}
-use Rattle.sc_sound.specs.Players.{Player, births, as_nodes}
+use Rattle.sc_node_table.specs.Replica.{ReplicaState, next}
+use Rattle.sc_sound.specs.Players.{Player, as_nodes}
 use Rattle.sc_calm_law.specs.Laws.{IsUnbound, AreNines}
 use Rattle.sc_calm_law.proofs.OwedLearn.{unbound_new}
 use Rattle.sc_budget_law.specs.AtRest.{IsOfNodes, IsKept}
 use Rattle.sc_log_law.specs.Descent.{Rows}
-use Rattle.sc_following_law.specs.Following.{Sets, Course, members_at}
+use Rattle.sc_following_law.specs.Following.{Sets, Course}
 use Rattle.sc_following_law.specs.Hints.{Tellers}
 use Rattle.sc_following_law.specs.Offers.{AreAt}
 use Rattle.sc_calm_rows_law.specs.WellKept.{IsWellKept}
