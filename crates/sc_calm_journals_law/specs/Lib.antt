@@ -1,0 +1,3 @@
+pub mod Journal
+pub mod Resting
+pub mod Under
