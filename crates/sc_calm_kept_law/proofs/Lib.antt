@@ -1,0 +1,9 @@
+mod Asking
+mod Counting
+mod Delivering
+mod Following
+mod Questions
+mod Seen
+mod Views
+mod Rising
+mod Telling

@@ -1,0 +1,96 @@
+-- What a stage says of a question, and of one that is sent elsewhere.
+use Rattle.std.proofs.Common.{◌≡◌, ℕ, true, false, Bool, List, [], ◌∷◌, ◌++◌, Some, inl, inr, refl, sym, ◌∙◌, ap, subst}
+use Rattle.sc_base.specs.Among.{Among}
+use Rattle.sc_base.specs.declared.names.Draw.{Draw}
+use Rattle.sc_mail.specs.declared.bodies.Mail.{Mail}
+use Rattle.sc_calm_orders_law.specs.Scenes.{Turn, is_watch, Errand, Question, Elsewhere, Reply, Result, Here, free, Scene}
+use Rattle.sc_calm_orders_law.specs.Parts.{errand_by, errand_for, errands_for}
+use Rattle.sc_calm_orders_law.specs.Stages.{Deal, Leg, Mailed, closing, heard, parties_of, Stage, Still, Ordered, Asks, SentOn, Weighs, Replied, Recorded, Closes, ClosesBoth, IsAt}
+use Rattle.sc_calm_orders_law.proofs.Errands.{errand-own}
+use Rattle.sc_calm_orders_law.proofs.Lists.{tokens, tagged, found, among-left, among-right}
+use Rattle.sc_calm_orders_law.proofs.Moves.{no-errand, closing-errand}
+
+abbrev errands_of : Here → List Errand
+errands_of h = h.errands
+
+-- the question of a stage
+pub record IsQuestionOf (name tx coord : Draw) (watch : Bool) (stage : Stage) : Type 0 where
+  pub deal : Deal
+  pub to : ℕ
+  pub stage_is : stage ≡ Asks deal to
+  pub asked_is : deal.asked ≡ name
+  pub tx_is : deal.tx ≡ tx
+  pub coord_is : deal.coord ≡ coord
+  pub watch_is : is_watch deal.turn ≡ watch
+
+-- .. one that is to be asked elsewhere
+pub record IsSentOnIn (name tx : Draw) (stage : Stage) : Type 0 where
+  pub deal : Deal
+  pub stage_is : stage ≡ SentOn deal
+  pub coord_is : deal.coord ≡ name
+  pub tx_is : deal.tx ≡ tx
+
+result_last : (tx : Draw) (leg : Leg) (host : ℕ) (name : Draw) (t : Draw × Errand) → Among t (tagged name (closing tx leg host).errands ++ []) → (name, Result tx host) ≡ t
+result_last tx leg host name t a = elim (closing-errand tx leg host name [] t a) [ inl r ↦ r.1 | inr none ↦ absurd none ]
+
+module _ (name tx coord : Draw) (watch : Bool) (by to : ℕ) where
+  abbrev asked : Draw × Errand
+  asked = (name, Question tx coord watch by to)
+
+  no_result : (n other : Draw) (host : ℕ) → (n, Result other host) ≡ asked → ⊥
+  no_result n other host e = cc
+
+  question_in : (stage : Stage) → Among asked (tokens errands_of (parties_of stage)) → IsQuestionOf name tx coord watch stage
+  question_in Still a = absurd a
+  question_in (Ordered group chief work) a = absurd a
+  question_in (Asks deal node) (inl e) = record { deal = deal; to = node; stage_is = refl; asked_is = cc; tx_is = cc; coord_is = cc; watch_is = cc }
+  question_in (Asks deal node) (inr a) = absurd (no-errand deal.tx deal.turn asked a)
+  question_in (SentOn deal) (inl e) = (let bad : (deal.coord, Elsewhere deal.tx deal.chief) ≡ asked = e in cc)
+  question_in (SentOn deal) (inr a) = absurd (no-errand deal.tx deal.turn asked a)
+  question_in (Weighs deal host) a = absurd (no-errand deal.tx deal.turn asked a)
+  question_in (Replied deal agreed host) (inl e) = (let bad : (deal.coord, Reply deal.tx (is_watch deal.turn) agreed host deal.chief) ≡ asked = e in cc)
+  question_in (Replied deal agreed host) (inr a) = absurd (no-errand deal.tx deal.turn asked a)
+  question_in (Recorded deal agreed host) a = absurd (no-errand deal.tx deal.turn asked a)
+  question_in (Closes other party) a = absurd (no_result party.group other party.host (result_last other party.leg party.host party.group asked a))
+  question_in (ClosesBoth other one two) a = elim (closing-errand other one.leg one.host one.group (tagged two.group (closing other two.leg two.host).errands ++ []) asked a) [
+    | inl r ↦ absurd (no_result one.group other one.host r.1)
+    | inr more ↦ absurd (no_result two.group other two.host (result_last other two.leg two.host two.group asked more))
+  ]
+
+  pub question_stage : (now : Scene) (stage : Stage) → IsAt stage now → Among (Question tx coord watch by to) (now.at name).errands → IsQuestionOf name tx coord watch stage
+  question_stage now stage at among = question_in stage (found errands_of now.at name (Question tx coord watch by to) among (parties_of stage) at.parties refl)
+
+module _ (name tx : Draw) (to : ℕ) where
+  abbrev sent : Draw × Errand
+  sent = (name, Elsewhere tx to)
+
+  no_end : (n other : Draw) (host : ℕ) → (n, Result other host) ≡ sent → ⊥
+  no_end n other host e = cc
+
+  elsewhere_in : (stage : Stage) → Among sent (tokens errands_of (parties_of stage)) → IsSentOnIn name tx stage
+  elsewhere_in Still a = absurd a
+  elsewhere_in (Ordered group chief work) a = absurd a
+  elsewhere_in (Asks deal node) (inl e) = (let bad : (deal.asked, Question deal.tx deal.coord (is_watch deal.turn) deal.chief node) ≡ sent = e in cc)
+  elsewhere_in (Asks deal node) (inr a) = absurd (no-errand deal.tx deal.turn sent a)
+  elsewhere_in (SentOn deal) (inl e) = record { deal = deal; stage_is = refl; coord_is = cc; tx_is = cc }
+  elsewhere_in (SentOn deal) (inr a) = absurd (no-errand deal.tx deal.turn sent a)
+  elsewhere_in (Weighs deal host) a = absurd (no-errand deal.tx deal.turn sent a)
+  elsewhere_in (Replied deal agreed host) (inl e) = (let bad : (deal.coord, Reply deal.tx (is_watch deal.turn) agreed host deal.chief) ≡ sent = e in cc)
+  elsewhere_in (Replied deal agreed host) (inr a) = absurd (no-errand deal.tx deal.turn sent a)
+  elsewhere_in (Recorded deal agreed host) a = absurd (no-errand deal.tx deal.turn sent a)
+  elsewhere_in (Closes other party) a = absurd (no_end party.group other party.host (result_last other party.leg party.host party.group sent a))
+  elsewhere_in (ClosesBoth other one two) a = elim (closing-errand other one.leg one.host one.group (tagged two.group (closing other two.leg two.host).errands ++ []) sent a) [
+    | inl r ↦ absurd (no_end one.group other one.host r.1)
+    | inr more ↦ absurd (no_end two.group other two.host (result_last other two.leg two.host two.group sent more))
+  ]
+
+  pub elsewhere_stage : (now : Scene) (stage : Stage) → IsAt stage now → Among (Elsewhere tx to) (now.at name).errands → IsSentOnIn name tx stage
+  elsewhere_stage now stage at among = elsewhere_in stage (found errands_of now.at name (Elsewhere tx to) among (parties_of stage) at.parties refl)
+
+-- ---- mail that is left
+
+-- the errand of a mail that stands among some stands among the errands of these
+pub errand_there : (name : Draw) (errand : Errand) (mail : Mail) (mails : List Mail) → Among mail mails → errand_by mail.from mail.to mail.body ≡ Some (name, errand) → Among errand (errands_for name mails)
+errand_there name errand mail [] a e = absurd a
+errand_there name errand mail (m ∷ mails) (inl same) e = among-left errand _ (errands_for name mails) (subst (λ o. Among errand (errand_for name o)) (sym (ap (λ (x : Mail). errand_by x.from x.to x.body) same ∙ e)) (subst (Among errand) (sym (errand-own name errand)) (inl refl)))
+errand_there name errand mail (m ∷ mails) (inr a) e = among-right errand (errand_for name (errand_by m.from m.to m.body)) (errands_for name mails) (errand_there name errand mail mails a e)

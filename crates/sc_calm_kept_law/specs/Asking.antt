@@ -1,0 +1,23 @@
+-- That the chart of a calm journal says what the coordinator of an order that is under way asks.
+use Rattle.std.specs.Prelude.{◌≡◌, ℕ, true, List, Some}
+use Rattle.sc_base.specs.Among.{Among}
+use Rattle.sc_base.specs.declared.names.Draw.{Draw}
+use Rattle.sc_actor.specs.declared.actors.Seat.{Seat}
+use Rattle.sc_node_table.specs.Replica.{ReplicaState, name_of}
+use Rattle.sc_sound.specs.Players.{Player}
+use Rattle.sc_calm_law.specs.Totals.{Rows}
+use Rattle.sc_calm_charts_law.specs.Charting.{all_replicas, asked_in}
+use Rattle.sc_calm_orders_law.specs.Scenes.{Turn, is_watch, Asking}
+use Rattle.sc_calm_orders_law.specs.Stages.{Stage, IsAt}
+use Rattle.sc_calm_scenes_law.specs.Scenes.{scene_at}
+use Rattle.sc_calm_scenes_law.specs.Turns.{LeadsAlone}
+
+-- each replica of a player that runs leads its group alone
+abbrev pub AllLeadAlone : List (Seat Player) → Rows → Type 0
+AllLeadAlone births rows = (r : ReplicaState) → Among r (all_replicas births rows) → r.running ≡ true → (node : ℕ) × LeadsAlone births rows (name_of r) node r
+
+-- Where that is so, and a group waits in a transaction for another, as a stage says, whose leader is there, the chart says that this one is asked, and whether as a watcher.
+abbrev pub StagesAsk : Type 0
+StagesAsk =
+    (births : List (Seat Player)) (rows : Rows) (stage : Stage) (tx coord asked : Draw) (turn : Turn) (r : ReplicaState) → AllLeadAlone births rows → IsAt stage (scene_at births rows)
+    → ((scene_at births rows).at coord).bond ≡ Asking tx asked turn → Among r (all_replicas births rows) → r.running ≡ true → name_of r ≡ coord → asked_in tx (all_replicas births rows) ≡ Some (asked, is_watch turn)
