@@ -105,6 +105,9 @@ module _ (tx : Draw) (core : Core) where
     bond : bond_in lock core ≡ Asking tx asked turn
     by : asked_by tx core lock ≡ Some (asked, is_watch turn)
 
+  abbrev sought : Body → Option Heard → Option (Draw × Bool)
+  sought body heard_ = Some ((asked_link core body heard_).group, is_some (watcher_link core body heard_))
+
   asked_some : (lock : Lock) → is_some (asked_by tx core lock) ≡ true → IsAsked lock
   asked_some Free some = cc
   asked_some (Promised other offer) some = cc
@@ -116,7 +119,7 @@ module _ (tx : Draw) (core : Core) where
         bond = ap (λ t. Asking t (asked_link core body heard_).group (turn_of core body heard_)) (draw_is other tx same);
         by = ap (λ b. cond b (Some ((asked_link core body heard_).group, is_some (watcher_link core body heard_))) None) same ∙ ap (λ w. Some ((asked_link core body heard_).group, w)) (watches core body heard_);
       }
-    | inr no ↦ absurd (true≢false (sym some ∙ ap (λ b. is_some (cond b (Some ((asked_link core body heard_).group, is_some (watcher_link core body heard_))) None)) no))
+    | inr other_ ↦ absurd (true≢false (sym some ∙ ap (λ b. is_some (cond b (sought body heard_) None)) other_))
   ]
 
   asking_lock : (lock : Lock) (asked : Draw) (turn : Turn) → bond_in lock core ≡ Asking tx asked turn → is_some (asked_by tx core lock) ≡ true
@@ -125,7 +128,7 @@ module _ (tx : Draw) (core : Core) where
   asking_lock (Watching other watch) asked turn e = absurd cc
   asking_lock (Coordinating other body order heard_) asked turn e =
       let same : other ≡ tx = cc in
-      ap (λ b. is_some (cond b (Some ((asked_link core body heard_).group, is_some (watcher_link core body heard_))) None)) (same_name other tx same)
+      ap (λ b. is_some (cond b (sought body heard_) None)) (same_name other tx same)
 
 -- ---- the first that asks
 
@@ -137,12 +140,11 @@ first_asks : (tx : Draw) (v : Option (Draw × Bool)) (rs : List ReplicaState) (r
 first_asks tx v [] r each a speaks = absurd a
 first_asks tx v (x ∷ rs) r each a speaks = elim (cases_Bool (Speaks tx x)) [
   | inl t ↦ ap (λ b. cond b (asked_by tx x.group.core x.group.core.lock) (asked_in tx rs)) t ∙ each x (inl refl) t
-  | inr f ↦ ap (λ b. cond b (asked_by tx x.group.core x.group.core.lock) (asked_in tx rs)) f ∙ more f a
+  | inr f ↦ ap (λ b. cond b (asked_by tx x.group.core x.group.core.lock) (asked_in tx rs)) f ∙ elim a [
+    | inl e ↦ absurd (true≢false (sym speaks ∙ (ap (Speaks tx) (sym e) ∙ f)))
+    | inr b ↦ first_asks tx v rs r (λ y c. each y (inr c)) b speaks
+  ]
 ]
-  where
-    more : Speaks tx x ≡ false → Among r (x ∷ rs) → asked_in tx rs ≡ v
-    more f (inl e) = absurd (true≢false (sym speaks ∙ (ap (Speaks tx) (sym e) ∙ f)))
-    more f (inr a) = first_asks tx v rs r (λ y b. each y (inr b)) a speaks
 
 module _ (tell : ScenesTell) (births : List (Seat Player)) (rows : Rows) (stage : Stage) (tx coord asked : Draw) (turn : Turn) (r : ReplicaState) (alone : AllLeadAlone births rows) (at : IsAt stage (scene_at births rows))
     (bond : ((scene_at births rows).at coord).bond ≡ Asking tx asked turn) (among : Among r (all_replicas births rows)) (runs : r.running ≡ true) (named : name_of r ≡ coord) where

@@ -1,8 +1,7 @@
 -- A leader of a well led group may count a vote, while an order is under way.
 use Rattle.std.proofs.Common.{◌≡◌, ℕ, suc, ◌+◌, ◌<◌, ◌≤◌, ◌&&◌, eqb, cond, true, false, true≢false, Bool, List, [], ◌∷◌, ◌++◌, length, find, Option, Some, None, inl, inr, refl, sym, ◌∙◌, ap, subst, arith}
 use Rattle.std.specs.Prelude.{is_some, option_map}
-use Rattle.std.proofs.lemmas.Bool.{eqb-true, eq-eqb, and_from, cond-true, lt-ltb}
-use Rattle.std.proofs.lemmas.Nat.{cases_lt}
+use Rattle.std.proofs.lemmas.Bool.{eqb-true, eq-eqb, and_from, cases_lt, cond-true, lt-ltb}
 use Rattle.sc_base.specs.Among.{Among, Each}
 use Rattle.sc_cmd.specs.declared.cores.Base.{Base}
 use Rattle.sc_cmd.specs.declared.commands.Command.{Command}
@@ -12,10 +11,10 @@ use Rattle.sc_paxos_words.specs.Leaders.{flight_at}
 use Rattle.sc_paxos_words.specs.declared.flights.Flight.{Flight}
 use Rattle.sc_paxos_words.proofs.ListLemmas.{find_found, Each-among, Each-from}
 use Rattle.sc_actor.specs.declared.actors.Seat.{Seat}
-use Rattle.sc_machine_table.specs.Apply.{applied}
+use Rattle.sc_machine_table.specs.Machine.{applied}
 use Rattle.sc_node_table.specs.Execute.{has_room, next_ready}
-use Rattle.sc_node_table.specs.Replica.{ReplicaState, next, members, flying, taken_at, either, listed}
-use Rattle.sc_node_table.specs.Slots.{at_slot, slots_ahead, last_slot}
+use Rattle.sc_node_table.specs.Replica.{ReplicaState, next, last_slot, members, flying, taken_at, either, listed}
+use Rattle.sc_node_table.specs.Slots.{at_slot, slots_ahead}
 use Rattle.sc_sound.specs.Players.{Player}
 use Rattle.sc_calm_law.specs.Executing.{ServesAll, IsServedCall}
 use Rattle.sc_calm_law.specs.Keeping.{MayCount}
@@ -124,7 +123,7 @@ module _ (lone_fly : WorksFlyLone) (entries_count : OrderEntriesCount) (leave_on
       let entry = Each-among (λ (x : Flight Command). IsEntry x.value r × (length (applied r.group x.value).0.core.members ≤ 9)) r.leader.flights flight counts.entries f.0 in
       entries_count slot flight r flies (counts.calls (λ none. absurd (subst (Among flight) none f.0))) may lead.led.roster.most entry.1 lead.led.member lead.led.stands entry.0
 
-  may_count : (slot : ℕ) → MayCount slot r
+  pub may_count : (slot : ℕ) → MayCount slot r
   may_count slot = elim (cases_lt (next r) course.bound) [
     | inl low ↦ (
         let taken = lead.led.may.taken (next r) (omega arith) low in
@@ -133,7 +132,7 @@ module _ (lone_fly : WorksFlyLone) (entries_count : OrderEntriesCount) (leave_on
     | inr high ↦ (
         let free = λ (s : ℕ) (low : next r ≤ s). neither_flies (flying r s) (at_slot r.ready s) (lead.led.may.free s (omega (arith, low, high))) in
         let flights : r.leader.flights ≡ [] = none_flies r.leader.flights (next r) kept.0.0.0 (λ s low. no_value (flight_at s r.leader.flights) (free s low).0) in
-        let ready : r.ready ≡ [] = none_ready r.ready (next r) kept.0.1.0.0 (λ s low. (free s low).1) in
+        let ready : r.ready ≡ [] = none_ready r.ready (next r) kept.0.1.0 (λ s low. (free s low).1) in
         inr (inl (record {
           running = runs;
           few = lead.led.roster.most;

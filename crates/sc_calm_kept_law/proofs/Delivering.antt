@@ -1,6 +1,6 @@
 -- What a delivery finds while an order is under way.
 use Rattle.std.proofs.Common.{◌≡◌, ℕ, ◌+◌, ◌≤◌, ◌^◌, zero, suc, eqb, cond, true, false, true≢false, Bool, List, [], ◌∷◌, ◌++◌, length, map, take, find, Option, Some, None, ◌⊎◌, inl, inr, refl, sym, ◌∙◌, ap, subst, arith, append-nil, append_assoc, length-append}
-use Rattle.std.specs.Prelude.{is_some, list_any, ◌||◌}
+use Rattle.std.specs.Prelude.{is_some, ◌||◌}
 use Rattle.std.proofs.lemmas.Bool.{cases_Bool, eqb-true}
 use Rattle.std.proofs.lemmas.Option.{none-some}
 use Rattle.sc_base.specs.Among.{Among, Each}
@@ -161,11 +161,11 @@ upto_low s rows (suc n) = by (is_quiet s (take (suc n) rows)) (upto_low s rows n
     by true le = omega arith
     by false le = omega (arith, le)
 
-runs_there : (o : Option ReplicaState) → is_running o ≡ true → (r : ReplicaState) × (o ≡ Some r) × (r.running ≡ true)
+pub runs_there : (o : Option ReplicaState) → is_running o ≡ true → (r : ReplicaState) × (o ≡ Some r) × (r.running ≡ true)
 runs_there None e = cc
 runs_there (Some r) e = (r, refl, e)
 
-gone_leads : (b : Bool) (o : Option Route) (into : Route) → o ≡ Some into → (b || is_some o) ≡ true
+pub gone_leads : (b : Bool) (o : Option Route) (into : Route) → o ≡ Some into → (b || is_some o) ≡ true
 gone_leads true o into e = refl
 gone_leads false o into e = ap is_some e
 
@@ -328,7 +328,7 @@ module _ (named_at : JournalMailFinds) (strays : StrayMailFinds) (for_node : Mai
           let mine : view_at all rows name seat.who ≡ Some r = view_is name ∙ here in
           let l = known.alone r (among_all all rows name seat.who r mine) runs_here in
           let own : (now.at name).bond ≡ bond_of r.group.core = ap (λ n. (now.at n).bond) (sym (named_so all rows name seat.who r mine)) ∙ (tell.led all rows (name_of r) l.0 r l.1).1.0 in
-          subst (MayAskThere chart.ways tx r) (sym u.1.0) (bonds chart.ways tx sent_in.deal.asked sent_in.deal.turn u.0 r (sym own ∙ bond_tx) asked)
+          subst (MayAskThere chart.ways tx r) (sym u.1) (bonds chart.ways tx sent_in.deal.asked sent_in.deal.turn u.0 r (sym own ∙ bond_tx) asked)
 
     -- ---- a vote
 

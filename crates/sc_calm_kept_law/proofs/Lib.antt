@@ -1,9 +1,9 @@
-mod Asking
-mod Counting
-mod Delivering
-mod Following
-mod Questions
-mod Seen
-mod Views
-mod Rising
-mod Telling
+pub mod Asking
+pub mod Counting
+pub mod Delivering
+pub mod Following
+pub mod Questions
+pub mod Seen
+pub mod Views
+pub mod Rising
+pub mod Telling

@@ -6,6 +6,7 @@ use Rattle.sc_mail.specs.declared.bodies.Mail.{Mail}
 use Rattle.sc_calm_orders_law.specs.Scenes.{Turn, is_watch, Errand, Question, Elsewhere, Reply, Result, Here, free, Scene}
 use Rattle.sc_calm_orders_law.specs.Parts.{errand_by, errand_for, errands_for}
 use Rattle.sc_calm_orders_law.specs.Stages.{Deal, Leg, Mailed, closing, heard, parties_of, Stage, Still, Ordered, Asks, SentOn, Weighs, Replied, Recorded, Closes, ClosesBoth, IsAt}
+use Rattle.sc_calm_orders_law.proofs.Begun.{first, second}
 use Rattle.sc_calm_orders_law.proofs.Errands.{errand-own}
 use Rattle.sc_calm_orders_law.proofs.Lists.{tokens, tagged, found, among-left, among-right}
 use Rattle.sc_calm_orders_law.proofs.Moves.{no-errand, closing-errand}
@@ -38,17 +39,28 @@ module _ (name tx coord : Draw) (watch : Bool) (by to : ℕ) where
   asked = (name, Question tx coord watch by to)
 
   no_result : (n other : Draw) (host : ℕ) → (n, Result other host) ≡ asked → ⊥
-  no_result n other host e = cc
+  no_result n other host e = no_end_here other host (second e)
+    where
+      no_end_here : (t : Draw) (h : ℕ) → Result t h ≡ Question tx coord watch by to → ⊥
+      no_end_here t h x = cc
+
+  no_sent : (t : Draw) (host : ℕ) → Elsewhere t host ≡ Question tx coord watch by to → ⊥
+  no_sent t host e = cc
+
+  no_reply : (t : Draw) (w agreed : Bool) (host chief : ℕ) → Reply t w agreed host chief ≡ Question tx coord watch by to → ⊥
+  no_reply t w agreed host chief e = cc
 
   question_in : (stage : Stage) → Among asked (tokens errands_of (parties_of stage)) → IsQuestionOf name tx coord watch stage
   question_in Still a = absurd a
   question_in (Ordered group chief work) a = absurd a
-  question_in (Asks deal node) (inl e) = record { deal = deal; to = node; stage_is = refl; asked_is = cc; tx_is = cc; coord_is = cc; watch_is = cc }
+  question_in (Asks deal node) (inl e) =
+      let same : Question deal.tx deal.coord (is_watch deal.turn) deal.chief node ≡ Question tx coord watch by to = second e in
+      record { deal = deal; to = node; stage_is = refl; asked_is = first e; tx_is = cc; coord_is = cc; watch_is = cc }
   question_in (Asks deal node) (inr a) = absurd (no-errand deal.tx deal.turn asked a)
-  question_in (SentOn deal) (inl e) = (let bad : (deal.coord, Elsewhere deal.tx deal.chief) ≡ asked = e in cc)
+  question_in (SentOn deal) (inl e) = absurd (no_sent deal.tx deal.chief (second e))
   question_in (SentOn deal) (inr a) = absurd (no-errand deal.tx deal.turn asked a)
   question_in (Weighs deal host) a = absurd (no-errand deal.tx deal.turn asked a)
-  question_in (Replied deal agreed host) (inl e) = (let bad : (deal.coord, Reply deal.tx (is_watch deal.turn) agreed host deal.chief) ≡ asked = e in cc)
+  question_in (Replied deal agreed host) (inl e) = absurd (no_reply deal.tx (is_watch deal.turn) agreed host deal.chief (second e))
   question_in (Replied deal agreed host) (inr a) = absurd (no-errand deal.tx deal.turn asked a)
   question_in (Recorded deal agreed host) a = absurd (no-errand deal.tx deal.turn asked a)
   question_in (Closes other party) a = absurd (no_result party.group other party.host (result_last other party.leg party.host party.group asked a))
@@ -65,17 +77,28 @@ module _ (name tx : Draw) (to : ℕ) where
   sent = (name, Elsewhere tx to)
 
   no_end : (n other : Draw) (host : ℕ) → (n, Result other host) ≡ sent → ⊥
-  no_end n other host e = cc
+  no_end n other host e = no_end_here other host (second e)
+    where
+      no_end_here : (t : Draw) (h : ℕ) → Result t h ≡ Elsewhere tx to → ⊥
+      no_end_here t h x = cc
+
+  no_question : (t c : Draw) (w : Bool) (by node : ℕ) → Question t c w by node ≡ Elsewhere tx to → ⊥
+  no_question t c w by node e = cc
+
+  no_vote : (t : Draw) (w agreed : Bool) (host chief : ℕ) → Reply t w agreed host chief ≡ Elsewhere tx to → ⊥
+  no_vote t w agreed host chief e = cc
 
   elsewhere_in : (stage : Stage) → Among sent (tokens errands_of (parties_of stage)) → IsSentOnIn name tx stage
   elsewhere_in Still a = absurd a
   elsewhere_in (Ordered group chief work) a = absurd a
-  elsewhere_in (Asks deal node) (inl e) = (let bad : (deal.asked, Question deal.tx deal.coord (is_watch deal.turn) deal.chief node) ≡ sent = e in cc)
+  elsewhere_in (Asks deal node) (inl e) = absurd (no_question deal.tx deal.coord (is_watch deal.turn) deal.chief node (second e))
   elsewhere_in (Asks deal node) (inr a) = absurd (no-errand deal.tx deal.turn sent a)
-  elsewhere_in (SentOn deal) (inl e) = record { deal = deal; stage_is = refl; coord_is = cc; tx_is = cc }
+  elsewhere_in (SentOn deal) (inl e) =
+      let same : Elsewhere deal.tx deal.chief ≡ Elsewhere tx to = second e in
+      record { deal = deal; stage_is = refl; coord_is = first e; tx_is = cc }
   elsewhere_in (SentOn deal) (inr a) = absurd (no-errand deal.tx deal.turn sent a)
   elsewhere_in (Weighs deal host) a = absurd (no-errand deal.tx deal.turn sent a)
-  elsewhere_in (Replied deal agreed host) (inl e) = (let bad : (deal.coord, Reply deal.tx (is_watch deal.turn) agreed host deal.chief) ≡ sent = e in cc)
+  elsewhere_in (Replied deal agreed host) (inl e) = absurd (no_vote deal.tx (is_watch deal.turn) agreed host deal.chief (second e))
   elsewhere_in (Replied deal agreed host) (inr a) = absurd (no-errand deal.tx deal.turn sent a)
   elsewhere_in (Recorded deal agreed host) a = absurd (no-errand deal.tx deal.turn sent a)
   elsewhere_in (Closes other party) a = absurd (no_end party.group other party.host (result_last other party.leg party.host party.group sent a))

@@ -1,6 +1,11 @@
 -- The replicas of all players in a quiet journal are those that are seen at nodes.
-use Rattle.std.proofs.Common.{◌≡◌, ℕ, ◌≤◌, cond, List, [], ◌∷◌, ◌++◌, ◌⊎◌, map, Option, Some, None, inl, inr, refl, sym, ◌∙◌, ap, subst, arith}
+use Rattle.std.proofs.Common.{◌≡◌, ℕ, ◌≤◌, leb, cond, true, true≢false, List, [], ◌∷◌, ◌++◌, ◌⊎◌, map, Option, Some, None, inl, inr, refl, sym, ◌∙◌, ap, subst, arith}
+use Rattle.std.proofs.lemmas.Bool.{cases_Bool, and_from, le-leb}
+use Rattle.std.proofs.lemmas.Option.{none-some}
+use Rattle.sc_base.proofs.NameLemmas.{draw_is, same_name}
 use Rattle.sc_base.specs.Among.{Among}
+use Rattle.sc_base.specs.Limits.{most_nodes}
+use Rattle.sc_base.specs.Same.{same_draw}
 use Rattle.sc_base.specs.declared.names.Draw.{Draw}
 use Rattle.sc_cmd.specs.declared.cores.Base.{Base}
 use Rattle.sc_cmd.specs.declared.orders.OrderLine.{OrderLine}
@@ -9,9 +14,11 @@ use Rattle.sc_mail.specs.declared.roles.Role.TheVariants.{Node, Client}
 use Rattle.sc_actor.specs.declared.actors.Seat.{Seat}
 use Rattle.sc_actor.specs.declared.rows.Row.{Row}
 use Rattle.sc_actor.specs.Replay.{value}
+use Rattle.sc_node_table.specs.Node.{is_node, replica_of}
 use Rattle.sc_node_table.specs.Replica.{ReplicaState, name_of}
 use Rattle.sc_node_table.specs.Slots.{numbers_from}
 use Rattle.sc_paxos_law.proofs.Among.{Among-left}
+use Rattle.sc_paxos_words.proofs.ListLemmas.{Each-among, find_found}
 use Rattle.sc_scenario.specs.declared.scenarios.Asks.{Asks}
 use Rattle.sc_scenario.specs.declared.scenarios.Scenario.{Scenario}
 use Rattle.sc_scenario.specs.Valid.{IsValid, ValidScenariosAreBounded}
@@ -21,9 +28,49 @@ use Rattle.sc_budget_law.specs.AskingQuiet.{replicas_after, IsQuietJournal}
 use Rattle.sc_budget_law.specs.BetweenJournal.{replicas_of}
 use Rattle.sc_budget_law.proofs.BetweenSteps.{in_numbers, to_numbers}
 use Rattle.sc_budget_law.proofs.Lists.{map_among}
-use Rattle.sc_calm_requests_law.specs.Starts.{LawfulReplicasAreNamedOnce}
+use Rattle.sc_calm_requests_law.specs.Starts.{AreNamedOnce, LawfulReplicasAreNamedOnce}
 use Rattle.sc_calm_settings_law.specs.Settings.{AreAtNodes}
-use Rattle.sc_calm_settings_law.proofs.Frames.{from_map, nodes_numbered, seen, view}
+
+-- what a mapped list has comes of one of its things
+pub from_map : {X Y : Type 0} (f : X → Y) (xs : List X) (y : Y) → Among y (map f xs) → (x : X) × Among x xs × (f x ≡ y)
+from_map f [] y a = absurd a
+from_map f (x ∷ xs) y (inl e) = (x, inl refl, e)
+from_map f (x ∷ xs) y (inr more) = (let r = from_map f xs y more in (r.0, inr r.1, r.2))
+
+-- one of some that are named once is found by its name
+found_once : (rs : List ReplicaState) (r : ReplicaState) → AreNamedOnce rs → Among r rs → replica_of (name_of r) rs ≡ Some r
+found_once [] r once a = absurd a
+found_once (x ∷ rs) r once (inl e) = ap (λ b. cond b (Some x) (replica_of (name_of r) rs)) (same_name (name_of x) (name_of r) (ap name_of e)) ∙ ap Some e
+found_once (x ∷ rs) r once (inr more) = elim (cases_Bool (same_draw (name_of x) (name_of r))) [
+  | inl same ↦ absurd (Each-among (λ (other : ReplicaState). name_of other ≡ name_of x → ⊥) rs r once.0 more (sym (draw_is (name_of x) (name_of r) same)))
+  | inr other ↦ ap (λ b. cond b (Some x) (replica_of (name_of r) rs)) other ∙ found_once rs r once.1 more
+]
+
+module _ (named : LawfulReplicasAreNamedOnce) (words : ℕ → ℕ → ℕ × ℕ) (scenario : Scenario) (first : Base) (rows : List (Row Mail OrderLine)) (nodes_are : (me : ℕ) → 1 ≤ me → me ≤ scenario.nodes → is_node me ≡ true) (valid : IsValid scenario) (lawful : Lawful as_nodes words scenario rows) (quiet : IsQuietJournal words scenario first rows) (homes : AreAtNodes scenario rows) where
+  abbrev at : Draw → ℕ → Option ReplicaState
+  at = replicas_after scenario rows
+
+  abbrev player : ℕ → Player
+  player me = value player_table (node_seat as_nodes scenario.groups scenario.policy me) rows
+
+  -- a replica that is seen is one of its node's
+  pub seen : (group : Draw) (node : ℕ) (r : ReplicaState) → at group node ≡ Some r → Among r (replicas_of (player node))
+  seen group node r e = elim (cases_Bool (is_node node)) [
+    | inl is ↦ (find_found (λ (x : ReplicaState). same_draw (name_of x) group) (replicas_of (player node)) r (sym (ap (λ b. cond b (replica_of group (replicas_of (player node))) None) is) ∙ e)).0
+    | inr none ↦ absurd (none-some r (sym (ap (λ b. cond b (replica_of group (replicas_of (player node))) None) none) ∙ e))
+  ]
+
+  -- a replica of a node is the one that is seen of its group
+  pub view : (me : ℕ) (r : ReplicaState) → 1 ≤ me → me ≤ scenario.nodes → Among r (replicas_of (player me)) → at (name_of r) me ≡ Some r
+  view me r low high a =
+      let n = quiet.nodes me low high in
+      let once = named words scenario rows me n.0 valid lawful low high n.1 in
+      let replicas : replicas_of (player me) ≡ n.0.replicas = ap replicas_of n.1 in
+      ap (λ b. cond b (replica_of (name_of r) (replicas_of (player me))) None) (nodes_are me low high) ∙ (ap (replica_of (name_of r)) replicas ∙ found_once n.0.replicas r once (subst (Among r) replicas a))
+
+-- the nodes of a scenario have numbers of nodes
+pub nodes_numbered : ValidScenariosAreBounded → (scenario : Scenario) → IsValid scenario → (me : ℕ) → 1 ≤ me → me ≤ scenario.nodes → is_node me ≡ true
+nodes_numbered all_bounded scenario valid me low high = (let most = (all_bounded scenario valid).nodes.1 in and_from (leb 1 me) (leb me most_nodes) (le-leb 1 me low) (le-leb me most_nodes (omega (arith, high, most))))
 
 split_among : {X : Type 0} (xs ys : List X) (x : X) → Among x (xs ++ ys) → Among x xs ⊎ Among x ys
 split_among [] ys x a = inr a
@@ -36,8 +83,8 @@ append_among (z ∷ xs) ys x a = inr (append_among xs ys x a)
 
 module _ (all_bounded : ValidScenariosAreBounded) (named : LawfulReplicasAreNamedOnce) (words : ℕ → ℕ → ℕ × ℕ) (scenario : Scenario) (first : Base) (others : List Base) (rows : List (Row Mail OrderLine)) (valid : IsValid scenario) (groups : scenario.groups ≡ first ∷ others)
     (lawful : Lawful as_nodes words scenario rows) (quiet : IsQuietJournal words scenario first rows) (homes : AreAtNodes scenario rows) where
-  abbrev at : Draw → ℕ → Option ReplicaState
-  at = replicas_after scenario rows
+  abbrev seen_at : Draw → ℕ → Option ReplicaState
+  seen_at = replicas_after scenario rows
 
   abbrev seats : List (Seat Player)
   seats = births as_nodes scenario
@@ -74,7 +121,7 @@ module _ (all_bounded : ValidScenariosAreBounded) (named : LawfulReplicasAreName
       subst (λ player. Among r (chart_replicas player)) is here
 
   -- each replica is one that is seen of its group
-  pub all_seen : (r : ReplicaState) → Among r all → (me : ℕ) × (at (name_of r) me ≡ Some r)
+  pub all_seen : (r : ReplicaState) → Among r all → (me : ℕ) × (seen_at (name_of r) me ≡ Some r)
   all_seen r a =
       let f = from_seats seats r a in
       elim (split_among (map seat_of (numbers_from 1 scenario.nodes)) (client_seats scenario.groups scenario.clients) f.0 f.1) [
@@ -90,7 +137,7 @@ module _ (all_bounded : ValidScenariosAreBounded) (named : LawfulReplicasAreName
       ]
 
   -- .. and the other way round
-  pub seen_all : (group : Draw) (me : ℕ) (r : ReplicaState) → at group me ≡ Some r → Among r all
+  pub seen_all : (group : Draw) (me : ℕ) (r : ReplicaState) → seen_at group me ≡ Some r → Among r all
   seen_all group me r e =
       let home = homes group me (r, e) in
       let n = quiet.nodes me home.0 home.1 in

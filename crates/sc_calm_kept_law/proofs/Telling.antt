@@ -96,7 +96,7 @@ module _ (order : TablesOrder) (views : ViewsAgree) (led_once : LedStandOnce) (a
     stays = by (untaken node.draws line r) refl
       where
         taken : r.running ≡ true → untaken node.draws line r ≡ None → StaysSo r (ordered_row node.draws line (r, []))
-        taken runs none = (let w = (order.taken node.draws line r (record { running = runs; unbound = (rests.pumps name seat.who r there).unbound; idle = no_works r (rests.is.quiet.at_rest name seat.who r there) }) none).2.2.2 in record { group = w.group; running = w.running })
+        taken runs none = (let w = (order.taken node.draws line r (record { running = runs; unbound = (rests.pumps name seat.who r there).unbound; idle = no_works r (rests.is.quiet.at_rest name seat.who r there) }) none).3 in record { group = w.group; running = w.running })
 
         by : (o : Option OrderRefusal) → untaken node.draws line r ≡ o → StaysSo r (ordered_row node.draws line (r, []))
         by (Some why) e = (let w = order.refused node.draws line why r e in record { group = w.group; running = w.running })

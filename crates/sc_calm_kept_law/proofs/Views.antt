@@ -17,8 +17,7 @@ use Rattle.sc_client_table.specs.Table.{table}
 use Rattle.sc_orderly_law.proofs.Seats.{seat_found}
 use Rattle.sc_paxos_law.proofs.Among.{Among-either}
 use Rattle.sc_paxos_words.proofs.ListLemmas.{find_found}
-use Rattle.sc_member.specs.Roster.{is_node}
-use Rattle.sc_node_table.specs.Node.{replica_of, born_node}
+use Rattle.sc_node_table.specs.Node.{NodeState, is_node, replica_of, born_node}
 use Rattle.sc_node_table.specs.Replica.{ReplicaState}
 use Rattle.sc_node_table.specs.Slots.{numbers_from}
 use Rattle.sc_scenario.specs.declared.scenarios.Asks.{Asks}
@@ -34,10 +33,13 @@ use Rattle.sc_budget_law.specs.BetweenJournal.{replicas_of as node_replicas}
 use Rattle.sc_budget_law.proofs.BetweenStage.{IsStage, stage}
 use Rattle.sc_budget_law.proofs.BetweenSteps.{in_numbers, to_numbers, node_born, node_number}
 use Rattle.sc_calm_settings_law.specs.Settings.{AreAtNodes}
-use Rattle.sc_calm_settings_law.proofs.Frames.{from_map}
+use Rattle.sc_calm_kept_law.proofs.Seen.{from_map}
 use Rattle.sc_calm_kept_law.specs.Viewing.{ViewsAgree}
 
 -- ---- what a player has
+
+roles_apart : (client : ClientState) (node : NodeState) → ◌≡◌ {A = Player} (Client client) (Node node) → ⊥
+roles_apart client node e = cc
 
 same_replicas : (player : Player) → replicas_of player ≡ node_replicas player
 same_replicas (Node node) = refl
@@ -55,21 +57,21 @@ client_step client (Some input) = ((table client input).0, refl)
 
 client_replays : (who : ℕ) (sent : List Mail) (rows : Rows) (client : ClientState) → replicas_of (replay player_table who (Client client) sent rows) ≡ []
 client_replays who sent [] client = refl
-client_replays who sent (row ∷ rows) client = by (eqb row.who who)
+client_replays who sent (row ∷ rows) client = by (eqb row.who who) (λ later. client_replays who (sent ++ row.sent) rows later)
   where
-    by : (b : Bool) → replicas_of (replay player_table who (cond b (acted player_table (Client client) (input_of sent row.event)).0 (Client client)) (sent ++ row.sent) rows) ≡ []
-    by true = (let step = client_step client (input_of sent row.event) in ap (λ player. replicas_of (replay player_table who player (sent ++ row.sent) rows)) step.1 ∙ client_replays who (sent ++ row.sent) rows step.0)
-    by false = client_replays who (sent ++ row.sent) rows client
+    by : (b : Bool) → ((later : ClientState) → replicas_of (replay player_table who (Client later) (sent ++ row.sent) rows) ≡ []) → replicas_of (replay player_table who (cond b (acted player_table (Client client) (input_of sent row.event)).0 (Client client)) (sent ++ row.sent) rows) ≡ []
+    by true more = (let step = client_step client (input_of sent row.event) in ap (λ player. replicas_of (replay player_table who player (sent ++ row.sent) rows)) step.1 ∙ more step.0)
+    by false more = more client
 
 -- ---- by the chart
 
 charts_from : (rows : Rows) (name : Draw) (who : ℕ) (seats : List (Seat Player)) → chart_replica seats rows name who ≡ replica_in name rows (find (λ seat. eqb seat.who who) seats)
 charts_from rows name who [] = refl
-charts_from rows name who (seat ∷ seats) = by (eqb seat.who who)
+charts_from rows name who (seat ∷ seats) = by (eqb seat.who who) (charts_from rows name who seats)
   where
-    by : (b : Bool) → cond b (replica_of name (chart_replicas (value player_table seat rows))) (chart_replica seats rows name who) ≡ replica_in name rows (cond b (Some seat) (find (λ other. eqb other.who who) seats))
-    by true = ap (replica_of name) (chart_same (value player_table seat rows))
-    by false = charts_from rows name who seats
+    by : (b : Bool) → chart_replica seats rows name who ≡ replica_in name rows (find (λ other. eqb other.who who) seats) → cond b (replica_of name (chart_replicas (value player_table seat rows))) (chart_replica seats rows name who) ≡ replica_in name rows (cond b (Some seat) (find (λ other. eqb other.who who) seats))
+    by true more = ap (replica_of name) (chart_same (value player_table seat rows))
+    by false more = more
 
 module _ (scenario : Scenario) (bounded : IsBounded scenario) (rows : Rows) (name : Draw) where
   abbrev seats : List (Seat Player)
@@ -129,10 +131,7 @@ module _ (scenario : Scenario) (bounded : IsBounded scenario) (rows : Rows) (nam
           ]
         where
           no_both : (s : Seat Player) (asks : Asks) → client_seat (route_of begins.first) asks ≡ nseat who → ⊥
-          no_both s asks e = roles (ap (λ (x : Seat Player). x.actor) e)
-            where
-              roles : {a : _} → Client a ≡ Node (born_node as_nodes.slots who scenario.groups scenario.policy) → ⊥
-              roles e = cc
+          no_both s asks e = roles_apart (born_client asks.client asks.ops (route_of begins.first)) (born_node as_nodes.slots who scenario.groups scenario.policy) (ap (λ (x : Seat Player). x.actor) e)
 
 pub views_agree : ViewsAgree
 views_agree = record {

@@ -1,5 +1,5 @@
 -- That each delivery finds what keeps a calm journal calm while an order is under way.
-use Rattle.std.specs.Prelude.{◌≡◌, ℕ, ◌≤◌, true, List, [], Some, length, ⊥}
+use Rattle.std.specs.Prelude.{◌≡◌, ℕ, ◌≤◌, true, List, [], Some, length}
 use Rattle.sc_base.specs.Among.{Among, Each}
 use Rattle.sc_base.specs.declared.names.Draw.{Draw}
 use Rattle.sc_cmd.specs.declared.cores.Base.{Base}
@@ -10,7 +10,7 @@ use Rattle.sc_actor.specs.declared.rows.Event.TheVariants.{Deliver}
 use Rattle.sc_actor.specs.Mail.{mails, numbered}
 use Rattle.sc_actor.specs.Replay.{value}
 use Rattle.sc_client_table.specs.Client.{Client as ClientState}
-use Rattle.sc_machine_table.specs.Apply.{applied}
+use Rattle.sc_machine_table.specs.Machine.{applied}
 use Rattle.sc_node_table.specs.Node.{NodeState, replica_of, group_of_mail}
 use Rattle.sc_node_table.specs.Replica.{ReplicaState}
 use Rattle.sc_scenario.specs.declared.scenarios.Scenario.{Scenario}
