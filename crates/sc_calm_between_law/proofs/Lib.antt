@@ -1,2 +1,2 @@
-mod Setting
-mod Requests
+pub mod Requests
+pub mod Setting

@@ -1,10 +1,11 @@
 -- Clients ask alone since a quiet front: it begins so, and goes on so.
-use Rattle.std.proofs.Common.{◌≡◌, ℕ, ◌+◌, ◌≤◌, ◌^◌, true, List, [], ◌∷◌, ◌++◌, length, Option, Some, None, ◌⊎◌, inl, inr, refl, sym, ◌∙◌, ap, subst, arith, append-nil, append_assoc, length-append}
+use Rattle.std.proofs.Common.{◌≡◌, ℕ, Bool, false, cond, ◌+◌, ◌≤◌, ◌^◌, true, List, [], ◌∷◌, ◌++◌, length, Option, Some, None, ◌⊎◌, inl, inr, refl, sym, ◌∙◌, ap, subst, arith, append-nil, append_assoc, length-append}
 use Rattle.std.proofs.lemmas.Option.{none-some}
 use Rattle.sc_base.proofs.NameLemmas.{draw_is}
 use Rattle.sc_base.specs.Among.{Among, Each}
 use Rattle.sc_base.specs.Same.{same_draw}
 use Rattle.sc_base.specs.declared.names.Draw.{Draw}
+use Rattle.sc_base.specs.declared.ops.Op.{Op}
 use Rattle.sc_cmd.specs.declared.cores.Base.{Base}
 use Rattle.sc_cmd.specs.declared.links.Route.{Route}
 use Rattle.sc_cmd.specs.declared.orders.OrderLine.{OrderLine}
@@ -19,8 +20,8 @@ use Rattle.sc_actor.specs.System.{System, row_of}
 use Rattle.sc_orderly_law.specs.Orderly.{IsInOrder, IsOrderly, IsTidy, is_born, rest}
 use Rattle.sc_orderly_law.specs.Timely.{AreInTime}
 use Rattle.sc_orderly_law.proofs.InTime.{in_time_tidy}
-use Rattle.sc_node_table.specs.Replica.{ReplicaState, next}
-use Rattle.sc_node_table.specs.Slots.{slots_ahead, last_slot, listed_}
+use Rattle.sc_node_table.specs.Replica.{ReplicaState, next, last_slot, listed}
+use Rattle.sc_node_table.specs.Slots.{slots_ahead}
 use Rattle.sc_scenario.specs.declared.scenarios.Scenario.{Scenario}
 use Rattle.sc_scenario.specs.Valid.{ValidScenariosAreBounded}
 use Rattle.sc_sound.specs.GroupsOf.{groups_at}
@@ -29,7 +30,7 @@ use Rattle.sc_calm_law.specs.Charts.{Chart, players}
 use Rattle.sc_calm_law.specs.Keeping.{FindsCalm}
 use Rattle.sc_calm_law.specs.Quiet.{StandsQuiet}
 use Rattle.sc_calm_law.specs.Totals.{Rows}
-use Rattle.sc_following_law.specs.Following.{mark_of, marks_of, named_mark}
+use Rattle.sc_following_law.specs.Following.{Mark, Asks, Votes, Tells, mark_of, marks_of, named_mark}
 use Rattle.sc_calm_rows_law.specs.Groups.{view_at, marks_at}
 use Rattle.sc_calm_rows_law.specs.Turns.{IsSeat, with_event}
 use Rattle.sc_calm_mail_law.specs.Few.{SlotsAreLeft}
@@ -43,7 +44,8 @@ use Rattle.sc_budget_law.specs.AskingLines.{AreRequests, NobodyWaits}
 use Rattle.sc_budget_law.specs.AskingQuiet.{replicas_after, setting_at, AreFramesOf, QuietJournalsAsk}
 use Rattle.sc_budget_law.specs.AtRest.{frame_at_rest}
 use Rattle.sc_budget_law.specs.BetweenJournal.{replica_at, next_in}
-use Rattle.sc_budget_law.specs.CalmNode.{Setting, IsHome, HasGoneTo, IsAsideBody, IsCalmMail}
+use Rattle.sc_budget_law.specs.CalmAsking.{IsLinkedSetting}
+use Rattle.sc_budget_law.specs.CalmNode.{Setting, IsSetting, IsHome, HasGoneTo, IsAsideBody, IsCalmMail}
 use Rattle.sc_budget_law.specs.Frames.{Frame}
 use Rattle.sc_budget_law.specs.PlainClient.{IsBegun}
 use Rattle.sc_budget_law.specs.PlainMail.{IsPlainBody, IsPlainMail}
@@ -56,6 +58,7 @@ use Rattle.sc_calm_settings_law.specs.Counting.{QuietChartsCount}
 use Rattle.sc_calm_settings_law.specs.Settings.{frames_after, QuietJournalsHaveFrames, QuietSettingsAreLinked}
 use Rattle.sc_calm_journals_law.specs.Journal.{IsCalmJournal, IsFront}
 use Rattle.sc_calm_journals_law.specs.Resting.{RestsAt}
+use Rattle.sc_calm_journals_law.proofs.Fronts.{fronts_of as front_before}
 use Rattle.sc_calm_kept_law.specs.Rising.{ChartHintsRise}
 use Rattle.sc_calm_kept_law.specs.Viewing.{ViewsAgree}
 use Rattle.sc_calm_kept_law.proofs.Delivering.{there_or}
@@ -98,10 +101,10 @@ other_ways set other chart frames at far c = record {
 
 -- ---- mail of requests has no mark for a group that has no frame
 
-no_mark : (name : Draw) (begun : ℕ → ℕ → _ → Type 0) (set : Setting) (mail : Mail) → ((frame : Frame) → Among frame set.frames → frame.core.id ≡ name → ⊥) → IsCalmMail begun set mail → mark_of name mail.from mail.body ≡ None
+no_mark : (name : Draw) (begun : ℕ → ℕ → Op → Type 0) (set : Setting) (mail : Mail) → ((frame : Frame) → Among frame set.frames → frame.core.id ≡ name → ⊥) → IsCalmMail begun set mail → mark_of name mail.from mail.body ≡ None
 no_mark name begun set mail apart (inl plain) = of mail.body (λ is. apart plain.frame plain.is_frame is) plain.says
   where
-    unnamed : (group : Draw) (m : _) → (group ≡ name → ⊥) → named_mark name group m ≡ None
+    unnamed : (group : Draw) (m : Mark) → (group ≡ name → ⊥) → named_mark name group m ≡ None
     unnamed group m ne = by (same_draw group name) refl
       where
         by : (b : Bool) → same_draw group name ≡ b → cond b (Some m) None ≡ None
@@ -111,9 +114,9 @@ no_mark name begun set mail apart (inl plain) = of mail.body (λ is. apart plain
     of : (body : MailBody) → (plain.frame.core.id ≡ name → ⊥) → IsPlainBody begun plain.frame mail.from mail.to body → mark_of name mail.from body ≡ None
     of (Request group client seq op) ne says = refl
     of (Answer group seq answer) ne says = refl
-    of (Accept group ballot slot command) ne says = unnamed group _ (λ e. ne (sym says.0 ∙ e))
-    of (Accepted group ballot slot) ne says = unnamed group _ (λ e. ne (sym says.0 ∙ e))
-    of (Learn group slot command) ne says = unnamed group _ (λ e. ne (sym says.0 ∙ e))
+    of (Accept group ballot slot command) ne says = unnamed group (Asks ballot slot) (λ e. ne (sym says.0 ∙ e))
+    of (Accepted group ballot slot) ne says = unnamed group (Votes mail.from ballot slot) (λ e. ne (sym says.0 ∙ e))
+    of (Learn group slot command) ne says = unnamed group (Tells slot) (λ e. ne (sym says.0 ∙ e))
     of (Prepare group ballot from_slot) ne says = absurd says
     of (Promise group ballot reports) ne says = absurd says
     of (Nack group promised) ne says = absurd says
@@ -147,7 +150,7 @@ no_mark name begun set mail apart (inr aside) = of mail.body aside
     of (TxWatched tx coord part vote) says = absurd says
     of (Told order result) says = absurd says
 
-no_marks : (name : Draw) (begun : ℕ → ℕ → _ → Type 0) (set : Setting) (mails : List Mail) → ((frame : Frame) → Among frame set.frames → frame.core.id ≡ name → ⊥) → Each (IsCalmMail begun set) mails → marks_of name mails ≡ []
+no_marks : (name : Draw) (begun : ℕ → ℕ → Op → Type 0) (set : Setting) (mails : List Mail) → ((frame : Frame) → Among frame set.frames → frame.core.id ≡ name → ⊥) → Each (IsCalmMail begun set) mails → marks_of name mails ≡ []
 no_marks name begun set [] apart each = refl
 no_marks name begun set (mail ∷ mails) apart each =
     ap (λ o. listed o ++ marks_of name mails) (no_mark name begun set mail apart each.0) ∙ no_marks name begun set mails apart each.1
@@ -206,7 +209,10 @@ module _ (all_bounded : ValidScenariosAreBounded) (frames_law : QuietJournalsHav
       orderly : IsOrderly s (quiet ++ after) row
       orderly = record { seat = seat; born = seated; event = event; row_is = refl; in_order = in_order }
 
+      is_setting_ : IsSetting set
       is_setting_ = quiet_of.is_setting all_bounded frames_law rise_law ask_law cuts_law round_law linked_law words scenario first others far sent journal quiet calm groups rests known
+
+      linked_ : IsLinkedSetting set
       linked_ = quiet_of.linked all_bounded frames_law rise_law ask_law cuts_law round_law linked_law words scenario first others far sent journal quiet calm groups rests known
 
       may : MayBegin words scenario set first quiet
@@ -237,3 +243,35 @@ module _ (all_bounded : ValidScenariosAreBounded) (frames_law : QuietJournalsHav
 
       keeps : FindsCalm (chart_at far sent s (quiet ++ after)) (births as_nodes scenario) (quiet ++ after) seat event × IsRequested words scenario first far sent quiet (after ++ row ∷ [])
       keeps = (finds, record { requests = requests; asking = asking })
+
+    -- no frame has the name of a group that was nowhere
+    nowhere_apart : (name : Draw) → IsNowhere (births as_nodes scenario) quiet name → (frame : Frame) → Among frame set.frames → frame.core.id ≡ name → ⊥
+    nowhere_apart name none frame a is =
+        let frames = quiet_of.frames all_bounded frames_law rise_law ask_law cuts_law round_law linked_law words scenario first others far sent journal quiet calm groups rests known in
+        let f = frames.are frame a in
+        let lead = f.1.lead in
+        let named : lead.group.core.id ≡ f.0 = (rests.is.kept f.0 lead.me lead f.1.newest.is_there).name_is in
+        let same : f.0 ≡ name = sym named ∙ (ap (λ (x : Frame). x.core.id) f.2 ∙ is) in
+        let there : replicas_after scenario quiet name lead.me ≡ Some lead = subst (λ n. replicas_after scenario quiet n lead.me ≡ Some lead) same f.1.newest.is_there in
+        none-some lead (sym (none lead.me) ∙ (views.nodes scenario quiet name lead.me (all_bounded scenario calm.valid) (known.homes quiet rests.front) ∙ there))
+
+    young : (base : Base) → Among base (groups_at as_nodes scenario.groups journal) → IsQuietWhileYoung words (births as_nodes scenario) (quiet ++ after) base
+    young base among who member none = elim (there_or (births as_nodes scenario) quiet base.core.id) [
+      | inl there ↦ (
+          let has = rests.members base among there who member in
+          let later = last_law words scenario quiet after base.core.id who has.0 timely has.1 in
+          absurd (none-some later.0 (sym none ∙ later.1)))
+      | inr nowhere ↦ no_marks base.core.id (IsBegun scenario (quiet ++ after)) set (rest s (quiet ++ after) who) (nowhere_apart base.core.id nowhere) (asked.asking.left who (known.born base among who member))
+    ]
+
+pub requests_begin : ValidScenariosAreBounded → QuietJournalsHaveFrames → ChartHintsRise → QuietJournalsAsk → QuietGroupsHaveCuts → StandingGroupsAreRound → QuietSettingsAreLinked → ViewsAgree → QuietChartsCount → QuietJournalsKnowOne → LawfulQuietJournalsCountOnce → RequestsGoOn → RequestRowsFindCalm → SlotsAreLeft → ReplicasLast → RequestsBegin
+requests_begin all_bounded frames_law rise_law ask_law cuts_law round_law linked_law views count_law know_one count_once go_on finds_law slots_left last_law words scenario first others far sent journal quiet calm groups rests known =
+    begin all_bounded frames_law rise_law ask_law cuts_law round_law linked_law views count_law know_one count_once go_on finds_law slots_left last_law words scenario first others far sent journal quiet calm groups rests known
+
+pub requests_keep : ValidScenariosAreBounded → QuietJournalsHaveFrames → ChartHintsRise → QuietJournalsAsk → QuietGroupsHaveCuts → StandingGroupsAreRound → QuietSettingsAreLinked → ViewsAgree → QuietChartsCount → QuietJournalsKnowOne → LawfulQuietJournalsCountOnce → RequestsGoOn → RequestRowsFindCalm → SlotsAreLeft → ReplicasLast → RequestsKeepCalm
+requests_keep all_bounded frames_law rise_law ask_law cuts_law round_law linked_law views count_law know_one count_once go_on finds_law slots_left last_law words scenario first others far sent journal quiet after seat event calm groups rests known asked next_front seated in_order own near =
+    keeps all_bounded frames_law rise_law ask_law cuts_law round_law linked_law views count_law know_one count_once go_on finds_law slots_left last_law words scenario first others far sent journal quiet calm groups rests known after (front_before journal (quiet ++ after) (row_of player_table seat (quiet ++ after) event ∷ []) next_front) asked seat event next_front seated in_order own near
+
+pub requests_leave_young : ValidScenariosAreBounded → QuietJournalsHaveFrames → ChartHintsRise → QuietJournalsAsk → QuietGroupsHaveCuts → StandingGroupsAreRound → QuietSettingsAreLinked → ViewsAgree → QuietChartsCount → QuietJournalsKnowOne → LawfulQuietJournalsCountOnce → RequestsGoOn → RequestRowsFindCalm → SlotsAreLeft → ReplicasLast → RequestsLeaveYoung
+requests_leave_young all_bounded frames_law rise_law ask_law cuts_law round_law linked_law views count_law know_one count_once go_on finds_law slots_left last_law words scenario first others far sent journal quiet after base calm groups rests front known asked among =
+    young all_bounded frames_law rise_law ask_law cuts_law round_law linked_law views count_law know_one count_once go_on finds_law slots_left last_law words scenario first others far sent journal quiet calm groups rests known after front asked base among

@@ -85,10 +85,10 @@ module _ (all_bounded : ValidScenariosAreBounded) (frames_law : QuietJournalsHav
   is_setting = asks.0
 
   pub asking : IsAsking words scenario set first quiet
-  asking = asks.1.0
+  asking = asks.1
 
   pub waits : NobodyWaits scenario first quiet
-  waits = asks.1.1
+  waits = asks.2
 
   cuts : AreOfCuts (world_at as_nodes scenario.groups quiet) (frames_after scenario quiet)
   cuts = cuts_law words scenario first quiet (frames_after scenario quiet) known.one known.logs rests.known rests.is frames

@@ -70,5 +70,5 @@ RequestsKeepCalm =
 -- While clients ask, no first member of a group that has no replica of it yet is sent anything of it.
 abbrev pub RequestsLeaveYoung : Type 0
 RequestsLeaveYoung =
-    (words : ℕ → ℕ → ℕ × ℕ) (scenario : Scenario) (first : Base) (far sent : ℕ) (journal quiet after : Rows) (base : Base) → IsCalmJournal words scenario journal → RestsAt words scenario first journal quiet → IsFront journal (quiet ++ after)
+    (words : ℕ → ℕ → ℕ × ℕ) (scenario : Scenario) (first : Base) (others : List Base) (far sent : ℕ) (journal quiet after : Rows) (base : Base) → IsCalmJournal words scenario journal → scenario.groups ≡ first ∷ others → RestsAt words scenario first journal quiet → IsFront journal (quiet ++ after)
     → IsKnownFront words scenario journal quiet far → IsRequested words scenario first far sent quiet after → Among base (groups_at as_nodes scenario.groups journal) → IsQuietWhileYoung words (births as_nodes scenario) (quiet ++ after) base
