@@ -1,3 +1,8 @@
+pub mod Above
+pub mod Accepting
+pub mod Asked
+pub mod Comers
+pub mod Turned
 pub mod Homes
 pub mod Saying
 pub mod Finds
