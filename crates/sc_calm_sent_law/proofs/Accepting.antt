@@ -1,5 +1,5 @@
 -- What a row leaves of the reports that a replica has accepted or got: it accepts what it is asked to accept alone, and a leader that gets no reports has none.
-use Rattle.std.proofs.Common.{◌≡◌, ℕ, ◌&&◌, not, nat_le, nat_lt, Bool, true, false, List, [], ◌∷◌, ◌++◌, length, Option, Some, None, refl, sym, ◌∙◌, ap, subst}
+use Rattle.std.proofs.Common.{◌≡◌, ℕ, ◌&&◌, not, nat_le, nat_lt, Bool, true, false, cond, List, [], ◌∷◌, ◌++◌, length, Option, Some, None, refl, sym, ◌∙◌, ap, subst}
 use Rattle.sc_base.specs.Among.{Each}
 use Rattle.sc_base.specs.Drawing.{Drawer}
 use Rattle.sc_base.specs.Same.{same_ballot}
@@ -21,10 +21,12 @@ use Rattle.sc_paxos_words.specs.declared.answers.PrepareAnswer.{PrepareAnswer}
 use Rattle.sc_paxos_words.specs.declared.answers.PrepareAnswer.TheVariants as Prepared
 use Rattle.sc_paxos_words.specs.Accepting.{accepted as accepted_by}
 use Rattle.sc_paxos_words.specs.Acceptors.{AcceptorState, reports_from, may_promise, may_accept, after_promise, after_accept}
+use Rattle.sc_paxos_words.specs.Ballots.{below}
 use Rattle.sc_paxos_words.specs.Leaders.{LeaderState, flight_at, promise_counted}
 use Rattle.sc_paxos_words.specs.Preparing.{prepared}
 use Rattle.sc_paxos_words.specs.Votes.{counted, vote_at, voters_after, kept_voters}
 use Rattle.sc_paxos_words.proofs.ListLemmas.{Each-filter}
+use Rattle.sc_node_table.specs.Election.{stopped, saw}
 use Rattle.sc_node_table.specs.Install.{named, install_to}
 use Rattle.sc_node_table.specs.Ordering.{ordered_row}
 use Rattle.sc_node_table.specs.Replica.{ReplicaState, Place, forgotten, floor_of, installed_replica}
@@ -214,6 +216,28 @@ module _ (P : Report Command → Type 0) where
     nack_stands : (ballot : Ballot) (r : ReplicaState) → GoesOn ballot r → T ballot → StandsAt r → StandsIn (nack_row ballot (r, []))
     unfolding nack_row
     nack_stands ballot r goes least k = saw_either StandsIn ballot r [] goes (k.0, least) k
+
+    -- .. for a ballot that is not later than the greatest that it saw
+    saw_none : (ballot : Ballot) (r : ReplicaState) → GoesOn ballot r → below r.top ballot ≡ false → saw ballot (r, []) ≡ (r, [])
+    unfolding saw
+    saw_none ballot r goes low =
+        ap (λ b. cond {A = Place} (r.running && below r.leader.ballot ballot) (stopped (Some ballot.node) (cond b (record r { top = ballot }) r, [])) (cond b (record r { top = ballot }) r, [])) low
+        ∙ ap (λ b. cond {A = Place} b (stopped (Some ballot.node) (r, [])) (r, [])) goes
+
+    pub asked_low : (from : ℕ) (group : Draw) (ballot : Ballot) (slot : ℕ) (command : Command) (r : ReplicaState) → GoesOn ballot r → below r.top ballot ≡ false → P (record { slot = slot; ballot = ballot; value = command }) → StandsAt r
+        → StandsIn (mailed from (Accept group ballot slot command) (r, [])).0
+    unfolding mailed accept_row
+    asked_low from group ballot slot command r goes low good k =
+        subst (λ p. StandsIn (took from (record { slot = slot; ballot = ballot; value = command }) p)) (sym (saw_none ballot r goes low)) (took_stands from (record { slot = slot; ballot = ballot; value = command }) r good k)
+
+    pub polled_low : (from : ℕ) (group : Draw) (ballot : Ballot) (from_slot : ℕ) (r : ReplicaState) → GoesOn ballot r → below r.top ballot ≡ false → StandsAt r → StandsIn (mailed from (Prepare group ballot from_slot) (r, [])).0
+    unfolding mailed prepare_row
+    polled_low from group ballot from_slot r goes low k =
+        subst (λ p. StandsIn (promised from ballot from_slot p)) (sym (saw_none ballot r goes low)) (promised_place StandsIn from ballot from_slot (r, []) (sent_stands from (r, []) k) (promise_stands from ballot from_slot r k))
+
+    pub nacked_low : (from : ℕ) (group : Draw) (ballot : Ballot) (r : ReplicaState) → GoesOn ballot r → below r.top ballot ≡ false → StandsAt r → StandsIn (mailed from (Nack group ballot) (r, [])).0
+    unfolding mailed nack_row
+    nacked_low from group ballot r goes low k = subst StandsIn (sym (saw_none ballot r goes low)) k
 
     -- mail that asks, or says that it is refused
     pub asked_stands : (from : ℕ) (group : Draw) (ballot : Ballot) (slot : ℕ) (command : Command) (r : ReplicaState) → GoesOn ballot r → T ballot → P (record { slot = slot; ballot = ballot; value = command }) → StandsAt r

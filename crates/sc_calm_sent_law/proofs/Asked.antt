@@ -102,10 +102,10 @@ module _ (words : ℕ → ℕ → ℕ × ℕ) (at : Sets) (over : Ends) (by : Te
   before : AreInTime (players words all) rows
   before = in_time_before (players words all) rows row timely
 
-  turn : IsTurn at by words all rows seat event base
+  pub turn : IsTurn at by words all rows seat event base
   turn = turn_of at over by words all base wb rows seat born event one so timely calm
 
-  kept_of : (r : ReplicaState) → view_at all rows name seat.who ≡ Some r → IsPlainlyKept seat.who r
+  pub kept_of : (r : ReplicaState) → view_at all rows name seat.who ≡ Some r → IsPlainlyKept seat.who r
   kept_of r view = idle words scenario rows name seat.who r before view
 
   known : (who : ℕ) → Each (IsKnown course) (marks_in (dated who))
@@ -117,29 +117,29 @@ module _ (words : ℕ → ℕ → ℕ × ℕ) (at : Sets) (over : Ends) (by : Te
   -- ---- a mail for its replica
 
   module _ (number : ℕ) (mail : Mail) (node : NodeState) (r : ReplicaState) (t : TurnsMail words all rows seat event base number mail node r) where
-    s : IsLedScene at over by words all rows seat node base course
+    pub s : IsLedScene at over by words all rows seat node base course
     s = record { log = one.log; seated = born; is = t.is; led = was }
 
-    named_is : name_of r ≡ name
+    pub named_is : name_of r ≡ name
     named_is = found_name name node.replicas r t.has.here
 
-    view : view_at all rows base.core.id seat.who ≡ Some r
+    pub view : view_at all rows base.core.id seat.who ≡ Some r
     view = t.row_.was
 
     -- its body, with the group's name
-    own_name : (g : Draw) → group_of_mail mail.body ≡ Some g → g ≡ base.core.id
+    pub own_name : (g : Draw) → group_of_mail mail.body ≡ Some g → g ≡ base.core.id
     own_name g e = some_is g name (sym e ∙ t.group)
 
-    marked : (mark : Mark) → mark_of base.core.id mail.from mail.body ≡ Some mark → taken_mark name (mails rows) event ≡ Some mark
+    pub marked : (mark : Mark) → mark_of base.core.id mail.from mail.body ≡ Some mark → taken_mark name (mails rows) event ≡ Some mark
     marked mark e = ap (taken_mark name (mails rows)) t.event_is ∙ (ap (mark_in name) t.takes.sent ∙ e)
 
     dated_is : (mark : Mark) → mark_of base.core.id mail.from mail.body ≡ Some mark → taken_dated base.core.id (mails rows) event ≡ Some (mark, from_slot_of mail.body)
     dated_is mark e = ap (taken_dated name (mails rows)) t.event_is ∙ (ap (dated_in name) t.takes.sent ∙ ap (option_map (λ m. (m, from_slot_of mail.body))) e)
 
-    most : IsAtLeast course.ballot r.acceptor.promised
+    pub most : IsAtLeast course.ballot r.acceptor.promised
     most = subst (λ q. IsAtLeast course.ballot (promise_in base q)) view (was.followed.follows.promised seat.who)
 
-    goes : (ballot : Ballot) → IsAtLeast course.ballot ballot → GoesOn ballot r
+    pub goes : (ballot : Ballot) → IsAtLeast course.ballot ballot → GoesOn ballot r
     goes ballot least = goes_on at words all rows seat node base course (scene at over by words all rows seat node base course s) r view ballot least
 
     -- ---- by a leader
@@ -332,11 +332,12 @@ module _ (words : ℕ → ℕ → ℕ × ℕ) (at : Sets) (over : Ends) (by : Te
           (subst (λ n. HasBelow n q) (sym (others_top seat.who taken k.tops who ne)) (k.accepted who q view), k.plain who q view))
     ]
 
-    pub asked_then : IsAskedOn words (births as_nodes scenario) (with_event rows seat event) base later
-    asked_then = record {
+    pub asked_then : ((who : ℕ) (q : ReplicaState) → view_at (births as_nodes scenario) (with_event rows seat event) base.core.id who ≡ Some q → IsAtLeast later.ballot q.top) → IsAskedOn words (births as_nodes scenario) (with_event rows seat event) base later
+    asked_then seen = record {
       tops = λ who. tops_then who;
       low = λ who. (let l = low_after now (progress_at all then_ base later) seat.who taken sent_dated dated dated_then dated_row k.tops k.low k.above known who in let up = bound_up later kind in omega (arith, l, up));
       above = sent_above now (progress_at all then_ base later) seat.who taken sent_dated dated dated_then dated_row k.tops k.low k.above known (λ who top most. asks_by later kind who top most);
       accepted = λ who q viewed. (rests_at who q viewed).0;
       plain = λ who q viewed. (rests_at who q viewed).1;
+      seen = seen;
     }

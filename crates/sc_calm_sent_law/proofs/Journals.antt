@@ -51,11 +51,12 @@ use Rattle.sc_calm_led_law.specs.Tellers.{tellers_at, AreFew, GroupsAreLed, Grou
 use Rattle.sc_calm_mail_law.specs.Idle.{JournalsKeepIdle}
 use Rattle.sc_calm_sent_law.specs.Above.{AreAbove, HasBelow, IsAskedOn}
 use Rattle.sc_calm_sent_law.specs.Homes.{IsAtHome}
-use Rattle.sc_calm_sent_law.specs.Journals.{IsSentOn, IsQuietWhileYoung, AreBornAsBegun, GroupsAreBornAsBegun, IsSentThrough, IsSentStep, GroupsBeginSent, NextRowsAreSent, LedJournalsAreSentSo}
+use Rattle.sc_calm_sent_law.specs.Journals.{IsSentOn, IsQuietWhileYoung, AreBornAsBegun, GroupsAreBornAsBegun, IsSentThrough, IsSentStep, GroupsBeginSent, NextRowsAreSent, SentReplicas, LedJournalsAreSentSo}
 use Rattle.sc_calm_sent_law.specs.Sent.{SaysWell, AreSaidWell}
 use Rattle.sc_calm_sent_law.proofs.Asked.{asked_then}
 use Rattle.sc_calm_sent_law.proofs.Finds.{next_mail_so}
 use Rattle.sc_calm_sent_law.proofs.Homes.{homes_are_kept}
+use Rattle.sc_calm_sent_law.proofs.Seen.{seen_then}
 use Rattle.sc_calm_sent_law.proofs.Spoken.{FindsNoneBy, row_says}
 
 -- ---- by a later ballot
@@ -110,7 +111,7 @@ module _ (words : ℕ → ℕ → ℕ × ℕ) (at : Sets) (over : Ends) (by : Te
   home_then later (RowElects r after ballot row_ off e same) h =
       subst HomeAfter (sym same) (homes_are_kept.elects at _ _ seat.who _ _ _ _ (rows_are words births rows row base course (elected_course course ballot) timely) e.elects was.followed.follows h)
 
-  rises : (later : Course) → IsGroupRow at over by births rows seat event base course later → (b : Ballot) → IsAtLeast course.ballot b → IsAtLeast later.ballot b
+  pub rises : (later : Course) → IsGroupRow at over by births rows seat event base course later → (b : Ballot) → IsAtLeast course.ballot b → IsAtLeast later.ballot b
   rises later (RowPasses same leaves) b least = subst (λ (c : Course). IsAtLeast c.ballot b) (sym same) least
   rises later (RowRests same r after row_ off still kind) b least = subst (λ (c : Course). IsAtLeast c.ballot b) (sym same) least
   rises later (RowTakes same r after mark row_ taken steps kind) b least = subst (λ (c : Course). IsAtLeast c.ballot b) (sym same) least
@@ -157,20 +158,32 @@ module _ (at : Sets) (births : List (Seat Player)) (base : Base) (course : Cours
   }
 
 -- at the births nothing is accepted, and nothing is under way
-born_asked : (words : ℕ → ℕ → ℕ × ℕ) (births : List (Seat Player)) (base : Base) (course : Course) → AreBornAsBegun births base → IsAskedOn words births [] base course
-born_asked words births base course born = record {
+born_asked : (words : ℕ → ℕ → ℕ × ℕ) (births : List (Seat Player)) (base : Base) (course : Course) → AreBornAsBegun births base → ((who : ℕ) → IsAtLeast course.ballot (promise_in base (view_at births [] base.core.id who))) → IsAskedOn words births [] base course
+born_asked words births base course born promised = record {
   tops = λ who. 0;
   low = λ who. omega arith;
   above = λ who. tt;
   accepted = λ who r view. (rests who r view).0;
   plain = λ who r view. (rests who r view).1;
+  seen = λ who r view. subst (IsAtLeast course.ballot) (sym (rests who r view).2) (subst (λ o. IsAtLeast course.ballot (promise_in base o)) view (promised who));
 }
   where
-    rests : (who : ℕ) (r : ReplicaState) → view_at births [] base.core.id who ≡ Some r → HasBelow 0 r × (r.leader.reports ≡ [])
+    rests : (who : ℕ) (r : ReplicaState) → view_at births [] base.core.id who ≡ Some r → HasBelow 0 r × (r.leader.reports ≡ []) × (r.top ≡ r.acceptor.promised)
     rests who r view = elim (born who) [
       | inl none ↦ (let bad : Some r ≡ None = sym view ∙ none in cc)
-      | inr some ↦ (let same : born_replica slots_ahead who base ≡ r = (let e : Some (born_replica slots_ahead who base) ≡ Some r = sym some.0 ∙ view in cc) in subst (λ (q : ReplicaState). HasBelow 0 q × (q.leader.reports ≡ [])) same (tt, refl))
+      | inr some ↦ (let same : born_replica slots_ahead who base ≡ r = (let e : Some (born_replica slots_ahead who base) ≡ Some r = sym some.0 ∙ view in cc) in subst (λ (q : ReplicaState). HasBelow 0 q × (q.leader.reports ≡ []) × (q.top ≡ q.acceptor.promised)) same (tt, refl, refl))
     ]
+
+-- ---- what follows of replicas
+
+pub sent_replicas : SentReplicas
+sent_replicas = record {
+  saw = λ at over by words births rows base t node r view. (
+    t.asked.seen node r view,
+    (let low = t.asked.low node in Each-weaker (λ (report : Report Command). report.slot < t.asked.tops node) (λ (report : Report Command). report.slot < t.course.bound) (λ report less. omega (arith, less, low)) r.acceptor.accepted (t.asked.accepted node r view)),
+  );
+  plain = λ at over by words births rows base t node r view. t.asked.plain node r view;
+}
 
 -- ---- what asks to promise finds nothing
 
@@ -235,7 +248,7 @@ module _ (bounds : ValidScenariosAreBounded) (idle : JournalsKeepIdle) (wb : Sce
           course = led.0;
           led = led.1;
           sent = record { homes = born_homes at all base led.0 words born one.first (one.begins 0 (omega arith)); says = tt };
-          asked = born_asked words all base led.0 born;
+          asked = born_asked words all base led.0 born led.1.followed.follows.promised;
           so = no_mail;
           one = one;
         }
@@ -267,7 +280,8 @@ module _ (bounds : ValidScenariosAreBounded) (idle : JournalsKeepIdle) (wb : Sce
             led = step.led;
             sent = sent_then words at over by all rows seat event base t.course timely_ t.led step.later step.row
                 (row_says words at over by scenario rows seat event base t.course (bounds scenario group.valid) idle (wb scenario) one so (finds_none words all rows seat event base t.course timely_ t.asked) timely_ born_ calm t.led t.sent) t.sent;
-            asked = asked_then words at over by scenario rows seat event base t.course idle (wb scenario) one so timely_ born_ calm t.led t.asked step.later step.row;
+            asked = asked_then words at over by scenario rows seat event base t.course idle (wb scenario) one so timely_ born_ calm t.led t.asked step.later step.row
+                (seen_then words at over by scenario rows seat event base t.course idle (wb scenario) one so timely_ born_ calm t.led t.sent t.asked step (rises words at over by all rows seat event base t.course timely_ t.led step.later step.row));
             so = so;
             one = one;
           };

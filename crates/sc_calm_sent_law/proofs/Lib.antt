@@ -7,6 +7,9 @@ pub mod Homes
 pub mod Saying
 pub mod Finds
 pub mod Turns
+pub mod Ballots
+pub mod Seeing
+pub mod Seen
 pub mod Spoken
 pub mod Journals
 pub mod Born

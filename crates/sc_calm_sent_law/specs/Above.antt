@@ -3,6 +3,7 @@ use Rattle.std.specs.Prelude.{◌≡◌, ℕ, suc, max, ◌<◌, ◌≤◌, List
 use Rattle.sc_base.specs.Among.{Each}
 use Rattle.sc_cmd.specs.declared.cores.Base.{Base}
 use Rattle.sc_actor.specs.declared.actors.Seat.{Seat}
+use Rattle.sc_paxos_words.specs.Ballots.{IsAtLeast}
 use Rattle.sc_node_table.specs.Replica.{ReplicaState}
 use Rattle.sc_sound.specs.Players.{Player}
 use Rattle.sc_calm_law.specs.Charts.{players}
@@ -39,10 +40,11 @@ AreAbove top (d ∷ dated) = IsAbove top d.0 d.1 × AreAbove (top_by top d.0) da
 abbrev pub HasBelow : ℕ → ReplicaState → Type 0
 HasBelow top r = Each (λ report. report.slot < top) r.acceptor.accepted
 
--- After some rows, in a course: no node has accepted or is asked to accept anything at a slot at which nothing was offered, and each is asked to promise from above all that it has accepted by then; and none has a report that binds it.
+-- After some rows, in a course: no node has accepted or is asked to accept anything at a slot at which nothing was offered, and each is asked to promise from above all that it has accepted by then; and none has a report that binds it, or saw a later ballot than the leader's.
 pub record IsAskedOn (words : ℕ → ℕ → ℕ × ℕ) (births : List (Seat Player)) (rows : Rows) (base : Base) (course : Course) : Type 0 where
   pub tops : ℕ → ℕ
   pub low : (node : ℕ) → tops node ≤ course.bound
   pub above : (node : ℕ) → AreAbove (tops node) (dated_at (players words births) rows base.core.id node)
   pub accepted : (node : ℕ) (r : ReplicaState) → view_at births rows base.core.id node ≡ Some r → HasBelow (tops node) r
   pub plain : (node : ℕ) (r : ReplicaState) → view_at births rows base.core.id node ≡ Some r → r.leader.reports ≡ []
+  pub seen : (node : ℕ) (r : ReplicaState) → view_at births rows base.core.id node ≡ Some r → IsAtLeast course.ballot r.top

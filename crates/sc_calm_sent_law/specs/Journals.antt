@@ -1,6 +1,6 @@
 -- That a group's mail is sent so through a calm journal, as its leader's course needs it.
-use Rattle.std.specs.Prelude.{◌≡◌, ℕ, true, List, [], ◌++◌, Some, None, ◌⊎◌}
-use Rattle.sc_base.specs.Among.{Among}
+use Rattle.std.specs.Prelude.{◌≡◌, ℕ, ◌<◌, true, List, [], ◌++◌, Some, None, ◌⊎◌}
+use Rattle.sc_base.specs.Among.{Among, Each}
 use Rattle.sc_cmd.specs.declared.cores.Base.{Base}
 use Rattle.sc_cmd.specs.declared.orders.OrderLine.{OrderLine}
 use Rattle.sc_member.specs.Roster.{is_member}
@@ -10,7 +10,8 @@ use Rattle.sc_actor.specs.Mail.{mails}
 use Rattle.sc_orderly_law.specs.Timely.{AreInTime}
 use Rattle.sc_scenario.specs.Valid.{IsBounded}
 use Rattle.sc_scenario.specs.declared.scenarios.Scenario.{Scenario}
-use Rattle.sc_node_table.specs.Replica.{born_replica}
+use Rattle.sc_paxos_words.specs.Ballots.{IsAtLeast}
+use Rattle.sc_node_table.specs.Replica.{ReplicaState, born_replica}
 use Rattle.sc_node_table.specs.Slots.{slots_ahead}
 use Rattle.sc_sound.specs.Players.{Player, births, as_nodes}
 use Rattle.sc_calm_law.specs.Charts.{players}
@@ -85,6 +86,13 @@ LedJournalsAreSentSo =
     (words : ℕ → ℕ → ℕ × ℕ) (scenario : Scenario) (journal : Rows) (base : Base) → IsGroupOf as_nodes words scenario journal base → AreInTime (players words (births as_nodes scenario)) journal → AreFew as_nodes scenario journal base
     → ((rows more : Rows) → journal ≡ rows ++ more → IsQuietWhileYoung words (births as_nodes scenario) rows base)
     → (rows more : Rows) → journal ≡ rows ++ more → IsSentThrough (logged_sets as_nodes base journal) (over_at as_nodes base journal) (tellers_at as_nodes scenario base journal) words (births as_nodes scenario) rows base
+
+-- Then no replica saw a later ballot than the leader's, has accepted anything at a slot at which nothing was offered, or has a report that binds it.
+pub record SentReplicas : Type 0 where
+  pub saw : (at : Sets) (over : Ends) (by : Tellers) (words : ℕ → ℕ → ℕ × ℕ) (births : List (Seat Player)) (rows : Rows) (base : Base) (t : IsSentThrough at over by words births rows base) (node : ℕ) (r : ReplicaState) → view_at births rows base.core.id node ≡ Some r
+      → IsAtLeast t.course.ballot r.top × Each (λ report. report.slot < t.course.bound) r.acceptor.accepted
+  pub plain : (at : Sets) (over : Ends) (by : Tellers) (words : ℕ → ℕ → ℕ × ℕ) (births : List (Seat Player)) (rows : Rows) (base : Base) → IsSentThrough at over by words births rows base → (node : ℕ) (r : ReplicaState) → view_at births rows base.core.id node ≡ Some r
+      → r.leader.reports ≡ []
 
 -- So each group of a lawful journal of a valid scenario is born: one of the scenario, and each other since no node has a replica of it then.
 abbrev pub GroupsAreBornAsBegun : Type 0

@@ -10,6 +10,7 @@ ghost use Rattle.sc_calm_sent_law.specs.Journals.{
   LedJournalsAreSentSo,
   NextMailIsSentSo,
   NextRowsAreSent,
+  SentReplicas,
 };
 
 use sc_calm_groups_law::{events_go_on, scenarios_are_well_born};
@@ -72,6 +73,12 @@ pub fn led_journals_are_sent_so()
     groups_begin_led();
     groups_are_born_as_begun();
 }
+
+/// No replica of such a group saw a later ballot than the leader's, has accepted anything at a slot
+/// at which nothing was offered, or has a report that binds it.
+pub fn sent_replicas()
+    ensures { SentReplicas }
+{}
 
 /// The replicas of a group at the births are as the group begins.
 pub fn groups_are_born_as_begun()
