@@ -1,8 +1,11 @@
 -- A group's mail is sent so through a journal, row by row.
-use Rattle.std.proofs.Common.{◌≡◌, ℕ, ◌≤◌, true, List, [], ◌∷◌, ◌++◌, inl, inr, refl, sym, ◌∙◌, ap, subst, append_assoc, append-nil, arith}
-use Rattle.std.proofs.lemmas.Bool.{cond-true, cond-false, true≢false}
+use Rattle.std.proofs.Common.{◌≡◌, ℕ, ◌<◌, ◌≤◌, nat_le, true, List, [], ◌∷◌, ◌++◌, Some, None, inl, inr, refl, sym, ◌∙◌, ap, subst, append_assoc, append-nil, arith}
+use Rattle.std.specs.Option.{option_map}
+use Rattle.std.proofs.lemmas.Bool.{cond-true, cond-false, lt-leb, true≢false}
+use Rattle.sc_base.specs.Among.{Each}
 use Rattle.sc_base.specs.declared.names.Ballot.{Ballot}
 use Rattle.sc_base.specs.declared.names.Draw.{Draw}
+use Rattle.sc_cmd.specs.declared.commands.Command.{Command}
 use Rattle.sc_cmd.specs.declared.cores.Base.{Base}
 use Rattle.sc_cmd.specs.declared.orders.OrderLine.{OrderLine}
 use Rattle.sc_mail.specs.declared.bodies.Mail.{Mail}
@@ -18,6 +21,10 @@ use Rattle.sc_actor.specs.System.{row_of}
 use Rattle.sc_orderly_law.specs.Orderly.{IsCalmEvent}
 use Rattle.sc_orderly_law.specs.Timely.{AreInTime}
 use Rattle.sc_orderly_law.proofs.InTime.{by_time, last_in_time}
+use Rattle.sc_node_table.specs.Replica.{ReplicaState, listed, born_replica}
+use Rattle.sc_node_table.specs.Slots.{slots_ahead}
+use Rattle.sc_paxos_words.specs.declared.reports.Report.{Report}
+use Rattle.sc_paxos_words.specs.Acceptors.{reports_from}
 use Rattle.sc_paxos_words.specs.Ballots.{IsAtLeast}
 use Rattle.sc_paxos_words.proofs.BallotLemmas.{at_least_below, at_least_from_below}
 use Rattle.sc_paxos_words.proofs.ListLemmas.{Each-append, Each-weaker}
@@ -26,9 +33,11 @@ use Rattle.sc_scenario.specs.declared.scenarios.Scenario.{Scenario}
 use Rattle.sc_sound.specs.Players.{Player, player_table, births, as_nodes}
 use Rattle.sc_calm_law.specs.Charts.{players}
 use Rattle.sc_calm_law.specs.Totals.{Rows}
-use Rattle.sc_following_law.specs.Following.{Course, Progress, Sets}
+use Rattle.sc_following_law.specs.Dated.{from_slot_of}
+use Rattle.sc_following_law.specs.Following.{Prepares, mark_of, Course, Progress, Sets}
 use Rattle.sc_following_law.specs.Hints.{Tellers}
-use Rattle.sc_calm_rows_law.specs.Groups.{marks_at, next_in, promise_in, progress_at}
+use Rattle.sc_following_law.proofs.Nodes.{same_mark}
+use Rattle.sc_calm_rows_law.specs.Groups.{view_at, marks_at, next_in, promise_in, progress_at}
 use Rattle.sc_calm_rows_law.specs.Steps.{led_course, elected_course}
 use Rattle.sc_calm_rows_law.specs.Turns.{IsSeat, with_event}
 use Rattle.sc_calm_rows_law.proofs.Marking.{rows_are}
@@ -36,15 +45,19 @@ use Rattle.sc_calm_logs_law.specs.Logged.{logged_sets, IsGroupOf}
 use Rattle.sc_calm_groups_law.specs.Kinds.{IsGroupRow, RowPasses, RowRests, RowTakes, RowMakes, RowLeads, RowElects, IsLedStep}
 use Rattle.sc_calm_groups_law.specs.Led.{Ends, IsWellLed}
 use Rattle.sc_calm_groups_law.specs.Through.{HasOneLog, IsSentSo, EventsGoOn, ScenariosAreWellBorn}
+use Rattle.sc_calm_groups_law.proofs.Dating.{dated_in, taken_dated, rows_dated}
 use Rattle.sc_calm_led_law.specs.Led.{over_at, LedLogsAreOne}
 use Rattle.sc_calm_led_law.specs.Tellers.{tellers_at, AreFew, GroupsAreLed, GroupsBeginLed}
 use Rattle.sc_calm_mail_law.specs.Idle.{JournalsKeepIdle}
+use Rattle.sc_calm_sent_law.specs.Above.{AreAbove, HasBelow, IsAskedOn}
 use Rattle.sc_calm_sent_law.specs.Homes.{IsAtHome}
-use Rattle.sc_calm_sent_law.specs.Journals.{IsSentOn, IsQuietWhileYoung, FindsNothing, AreBornAsBegun, GroupsAreBornAsBegun, IsSentThrough, LedJournalsAreSentSo}
+use Rattle.sc_calm_sent_law.specs.Journals.{IsSentOn, IsQuietWhileYoung, AreBornAsBegun, GroupsAreBornAsBegun, IsSentThrough, IsSentStep, GroupsBeginSent, NextRowsAreSent, SentReplicas, LedJournalsAreSentSo}
 use Rattle.sc_calm_sent_law.specs.Sent.{SaysWell, AreSaidWell}
+use Rattle.sc_calm_sent_law.proofs.Asked.{asked_then}
 use Rattle.sc_calm_sent_law.proofs.Finds.{next_mail_so}
 use Rattle.sc_calm_sent_law.proofs.Homes.{homes_are_kept}
-use Rattle.sc_calm_sent_law.proofs.Spoken.{row_says}
+use Rattle.sc_calm_sent_law.proofs.Seen.{seen_then}
+use Rattle.sc_calm_sent_law.proofs.Spoken.{FindsNoneBy, row_says}
 
 -- ---- by a later ballot
 
@@ -98,7 +111,7 @@ module _ (words : ℕ → ℕ → ℕ × ℕ) (at : Sets) (over : Ends) (by : Te
   home_then later (RowElects r after ballot row_ off e same) h =
       subst HomeAfter (sym same) (homes_are_kept.elects at _ _ seat.who _ _ _ _ (rows_are words births rows row base course (elected_course course ballot) timely) e.elects was.followed.follows h)
 
-  rises : (later : Course) → IsGroupRow at over by births rows seat event base course later → (b : Ballot) → IsAtLeast course.ballot b → IsAtLeast later.ballot b
+  pub rises : (later : Course) → IsGroupRow at over by births rows seat event base course later → (b : Ballot) → IsAtLeast course.ballot b → IsAtLeast later.ballot b
   rises later (RowPasses same leaves) b least = subst (λ (c : Course). IsAtLeast c.ballot b) (sym same) least
   rises later (RowRests same r after row_ off still kind) b least = subst (λ (c : Course). IsAtLeast c.ballot b) (sym same) least
   rises later (RowTakes same r after mark row_ taken steps kind) b least = subst (λ (c : Course). IsAtLeast c.ballot b) (sym same) least
@@ -144,6 +157,52 @@ module _ (at : Sets) (births : List (Seat Player)) (base : Base) (course : Cours
     );
   }
 
+-- at the births nothing is accepted, and nothing is under way
+born_asked : (words : ℕ → ℕ → ℕ × ℕ) (births : List (Seat Player)) (base : Base) (course : Course) → AreBornAsBegun births base → ((who : ℕ) → IsAtLeast course.ballot (promise_in base (view_at births [] base.core.id who))) → IsAskedOn words births [] base course
+born_asked words births base course born promised = record {
+  tops = λ who. 0;
+  low = λ who. omega arith;
+  above = λ who. tt;
+  accepted = λ who r view. (rests who r view).0;
+  plain = λ who r view. (rests who r view).1;
+  seen = λ who r view. subst (IsAtLeast course.ballot) (sym (rests who r view).2) (subst (λ o. IsAtLeast course.ballot (promise_in base o)) view (promised who));
+}
+  where
+    rests : (who : ℕ) (r : ReplicaState) → view_at births [] base.core.id who ≡ Some r → HasBelow 0 r × (r.leader.reports ≡ []) × (r.top ≡ r.acceptor.promised)
+    rests who r view = elim (born who) [
+      | inl none ↦ (let bad : Some r ≡ None = sym view ∙ none in cc)
+      | inr some ↦ (let same : born_replica slots_ahead who base ≡ r = (let e : Some (born_replica slots_ahead who base) ≡ Some r = sym some.0 ∙ view in cc) in subst (λ (q : ReplicaState). HasBelow 0 q × (q.leader.reports ≡ []) × (q.top ≡ q.acceptor.promised)) same (tt, refl, refl))
+    ]
+
+-- ---- what follows of replicas
+
+pub sent_replicas : SentReplicas
+sent_replicas = record {
+  saw = λ at over by words births rows base t node r view. (
+    t.asked.seen node r view,
+    (let low = t.asked.low node in Each-weaker (λ (report : Report Command). report.slot < t.asked.tops node) (λ (report : Report Command). report.slot < t.course.bound) (λ report less. omega (arith, less, low)) r.acceptor.accepted (t.asked.accepted node r view)),
+  );
+  plain = λ at over by words births rows base t node r view. t.asked.plain node r view;
+}
+
+-- ---- what asks to promise finds nothing
+
+none_from : (top from : ℕ) (reports : List (Report Command)) → top ≤ from → Each (λ (report : Report Command). report.slot < top) reports → reports_from from reports ≡ []
+none_from top from [] low each = refl
+none_from top from (report ∷ reports) low each =
+    let less = each.0 in
+    cond-false (nat_le from report.slot) (report ∷ reports_from from reports) (reports_from from reports) (lt-leb from report.slot (omega (arith, low, less))) ∙ none_from top from reports low each.1
+
+finds_none : (words : ℕ → ℕ → ℕ × ℕ) (births : List (Seat Player)) (rows : Rows) (seat : Seat Player) (event : Event OrderLine) (base : Base) (course : Course) → AreInTime (players words births) (with_event rows seat event) → IsAskedOn words births rows base course
+    → FindsNoneBy births rows seat event base
+finds_none words births rows seat event base course timely k number mail ballot from_slot r is_event sent_at body view =
+    let row = rows_dated words births rows (row_of player_table seat rows event) base course course timely in
+    let marked : mark_of base.core.id mail.from mail.body ≡ Some (Prepares ballot) = ap (mark_of base.core.id mail.from) body ∙ same_mark base.core.id (Prepares ballot) in
+    let taken : taken_dated base.core.id (mails rows) event ≡ Some (Prepares ballot, from_slot) =
+    ap (taken_dated base.core.id (mails rows)) is_event ∙ (ap (dated_in base.core.id) sent_at ∙ (ap (option_map (λ mark. (mark, from_slot_of mail.body))) marked ∙ ap (λ b. Some (Prepares ballot, from_slot_of b)) body)) in
+    let asked = subst (AreAbove (k.tops seat.who)) (row.takes ∙ ap (λ o. listed o ++ row.left) taken) (k.above seat.who) in
+    none_from (k.tops seat.who) from_slot r.acceptor.accepted asked.0 (k.accepted seat.who r view)
+
 -- ---- through a journal
 
 none_behind : (before : Rows) (row : Row Mail OrderLine) (more : Rows) → [] ≡ (before ++ row ∷ []) ++ more → ⊥
@@ -151,8 +210,7 @@ none_behind [] row more e = cc
 none_behind (x ∷ before) row more e = cc
 
 module _ (bounds : ValidScenariosAreBounded) (idle : JournalsKeepIdle) (wb : ScenariosAreWellBorn) (groups_led : GroupsAreLed) (logs : LedLogsAreOne) (go_on : EventsGoOn) (begins : GroupsBeginLed) (births_are : GroupsAreBornAsBegun) where
-  module _ (words : ℕ → ℕ → ℕ × ℕ) (scenario : Scenario) (journal : Rows) (base : Base) (group : IsGroupOf as_nodes words scenario journal base) (timely : AreInTime (players words (births as_nodes scenario)) journal) (few : AreFew as_nodes scenario journal base)
-      (quiet : (rows more : Rows) → journal ≡ rows ++ more → IsQuietWhileYoung words (births as_nodes scenario) rows base) (nothing : FindsNothing (births as_nodes scenario) journal base) where
+  module _ (words : ℕ → ℕ → ℕ × ℕ) (scenario : Scenario) (journal : Rows) (base : Base) (group : IsGroupOf as_nodes words scenario journal base) (timely : AreInTime (players words (births as_nodes scenario)) journal) (few : AreFew as_nodes scenario journal base) where
     abbrev all : List (Seat Player)
     all = births as_nodes scenario
 
@@ -168,9 +226,6 @@ module _ (bounds : ValidScenariosAreBounded) (idle : JournalsKeepIdle) (wb : Sce
     abbrev Through : Rows → Type 0
     Through rows = IsSentThrough at over by words all rows base
 
-    abbrev Begin : Rows → Type 0
-    Begin rows = (more : Rows) → journal ≡ rows ++ more → Through rows
-
     one_log : (rows more : Rows) → journal ≡ rows ++ more → IsSentSo all rows base → HasOneLog at over by all rows base
     one_log rows more is so = logs as_nodes words by scenario journal rows more base group is (groups_led words scenario journal rows more base group timely few is so).1
 
@@ -184,41 +239,74 @@ module _ (bounds : ValidScenariosAreBounded) (idle : JournalsKeepIdle) (wb : Sce
       nacks = λ rows seat number mail promised r d. absurd (none_behind rows _ d.row.more d.row.is);
     }
 
-    first_rows : Begin []
-    first_rows more is =
-        let one = one_log [] more is no_mail in
+    first_rows : Through []
+    first_rows =
+        let one = one_log [] journal refl no_mail in
         let led = begins words by scenario journal base group in
-        record { course = led.0; led = led.1; sent = record { homes = born_homes at all base led.0 words (births_are words scenario journal base group) one.first (one.begins 0 (omega arith)); says = tt }; so = no_mail; one = one }
-
-    next_row : (rows : Rows) (seat : Seat Player) (event : Event OrderLine) (more : Rows) → journal ≡ with_event rows seat event ++ more → IsSeat (births as_nodes scenario) seat → IsCalmEvent (players words (births as_nodes scenario)) rows seat.who event
-        → AreInTime (players words (births as_nodes scenario)) (with_event rows seat event) → Through rows → Through (with_event rows seat event)
-    next_row rows seat event more is born_ calm timely_ t =
-        let then_ : Rows = with_event rows seat event in
-        let so = next_mail_so words at over by scenario rows seat event base t.course (bounds scenario group.valid) t.one.log timely_ t.led t.sent (quiet rows (row_of player_table seat rows event ∷ more) (is ∙ append_assoc rows (row_of player_table seat rows event ∷ []) more)) t.so in
-        let one = one_log then_ more is so in
-        let step : IsLedStep at over by words all rows seat event base t.course = go_on at over by words all then_ base (wb scenario) one so rows seat event t.course (record { more = []; is = sym (append-nil then_) }) born_ calm timely_ t.led in
-        let finds : FindsNothing all then_ base = λ before who number mail ballot from_slot r d.
-        nothing before who number mail ballot from_slot r (record { row = record { more = d.row.more ++ more; is = is ∙ (ap (λ l. l ++ more) d.row.is ∙ append_assoc (with_event before who _) d.row.more more) }; sent = d.sent }) in
+        let born = births_are words scenario journal base group in
         record {
-          course = step.later;
-          led = step.led;
-          sent = sent_then words at over by all rows seat event base t.course timely_ t.led step.later step.row
-              (row_says words at over by scenario rows seat event base t.course (bounds scenario group.valid) idle (wb scenario) one so finds timely_ born_ calm t.led t.sent) t.sent;
-          so = so;
+          course = led.0;
+          led = led.1;
+          sent = record { homes = born_homes at all base led.0 words born one.first (one.begins 0 (omega arith)); says = tt };
+          asked = born_asked words all base led.0 born led.1.followed.follows.promised;
+          so = no_mail;
           one = one;
         }
-
-    after_row : (rows : Rows) (row : Row Mail OrderLine) → AreInTime (players words (births as_nodes scenario)) (rows ++ row ∷ []) → Begin rows → Begin (rows ++ row ∷ [])
-    after_row rows row in_time was more is =
-        let calm = (last_in_time (players words all) rows row in_time).0 in
-        subst (λ (r : Row Mail OrderLine). Through (rows ++ r ∷ [])) (sym calm.row_is)
-        (next_row rows calm.seat calm.event more (is ∙ ap (λ (r : Row Mail OrderLine). (rows ++ r ∷ []) ++ more) calm.row_is) calm.born calm.calm
-        (subst (λ (r : Row Mail OrderLine). AreInTime (players words all) (rows ++ r ∷ [])) calm.row_is in_time) (was (row ∷ more) (is ∙ append_assoc rows (row ∷ []) more)))
 
     before_in_time : (rows more : Rows) → journal ≡ rows ++ more → AreInTime (players words (births as_nodes scenario)) rows
     before_in_time rows more is = λ before row after e. timely before row (after ++ more) (is ∙ (ap (λ rs. rs ++ more) e ∙ append_assoc before (row ∷ after) more))
 
+    -- an event whose row comes in time
+    calm_of : (rows : Rows) (seat : Seat Player) (event : Event OrderLine) → AreInTime (players words (births as_nodes scenario)) (with_event rows seat event) → IsCalmEvent (players words (births as_nodes scenario)) rows seat.who event
+    calm_of rows seat event in_time =
+        let calm = (last_in_time (players words all) rows (row_of player_table seat rows event) in_time).0 in
+        let who : seat.who ≡ calm.seat.who = ap (λ (r : Row Mail OrderLine). r.who) calm.row_is in
+        let same : event ≡ calm.event = ap (λ (r : Row Mail OrderLine). r.event) calm.row_is in
+        subst (λ w. IsCalmEvent (players words all) rows w event) (sym who) (subst (λ e. IsCalmEvent (players words all) rows calm.seat.who e) (sym same) calm.calm)
+
+    next_row : (rows more : Rows) (seat : Seat Player) (event : Event OrderLine) → journal ≡ with_event rows seat event ++ more → IsSeat (births as_nodes scenario) seat → (t : Through rows) → IsQuietWhileYoung words (births as_nodes scenario) rows base
+        → IsSentStep at over by words (births as_nodes scenario) rows seat event base t.course
+    next_row rows more seat event is born_ t quiet =
+        let then_ : Rows = with_event rows seat event in
+        let timely_ : AreInTime (players words all) then_ = before_in_time then_ more is in
+        let calm = calm_of rows seat event timely_ in
+        let so = next_mail_so words at over by scenario rows seat event base t.course (bounds scenario group.valid) t.one.log timely_ t.led t.sent quiet t.so in
+        let one = one_log then_ more is so in
+        let step : IsLedStep at over by words all rows seat event base t.course = go_on at over by words all then_ base (wb scenario) one so rows seat event t.course (record { more = []; is = sym (append-nil then_) }) born_ calm timely_ t.led in
+        record {
+          step = step;
+          through = record {
+            course = step.later;
+            led = step.led;
+            sent = sent_then words at over by all rows seat event base t.course timely_ t.led step.later step.row
+                (row_says words at over by scenario rows seat event base t.course (bounds scenario group.valid) idle (wb scenario) one so (finds_none words all rows seat event base t.course timely_ t.asked) timely_ born_ calm t.led t.sent) t.sent;
+            asked = asked_then words at over by scenario rows seat event base t.course idle (wb scenario) one so timely_ born_ calm t.led t.asked step.later step.row
+                (seen_then words at over by scenario rows seat event base t.course idle (wb scenario) one so timely_ born_ calm t.led t.sent t.asked step (rises words at over by all rows seat event base t.course timely_ t.led step.later step.row));
+            so = so;
+            one = one;
+          };
+          same = refl;
+        }
+
+    module _ (quiet : (rows more : Rows) → journal ≡ rows ++ more → IsQuietWhileYoung words (births as_nodes scenario) rows base) where
+      abbrev Begin : Rows → Type 0
+      Begin rows = (more : Rows) → journal ≡ rows ++ more → Through rows
+
+      after_row : (rows : Rows) (row : Row Mail OrderLine) → AreInTime (players words (births as_nodes scenario)) (rows ++ row ∷ []) → Begin rows → Begin (rows ++ row ∷ [])
+      after_row rows row in_time was more is =
+          let calm = (last_in_time (players words all) rows row in_time).0 in
+          let before : journal ≡ rows ++ (row ∷ more) = is ∙ append_assoc rows (row ∷ []) more in
+          subst (λ (r : Row Mail OrderLine). Through (rows ++ r ∷ [])) (sym calm.row_is)
+          (next_row rows more calm.seat calm.event (is ∙ ap (λ (r : Row Mail OrderLine). (rows ++ r ∷ []) ++ more) calm.row_is) calm.born (was (row ∷ more) before) (quiet rows (row ∷ more) before)).through
+
+      all_rows : (rows more : Rows) → journal ≡ rows ++ more → Through rows
+      all_rows rows more is = by_time (players words (births as_nodes scenario)) Begin (λ more e. first_rows) after_row rows (before_in_time rows more is) more is
+
+  pub begin_sent : GroupsBeginSent
+  begin_sent words scenario journal base group timely few = first_rows words scenario journal base group timely few
+
+  pub rows_sent : NextRowsAreSent
+  rows_sent words scenario journal base group timely few rows more seat event is born t quiet = next_row words scenario journal base group timely few rows more seat event is born t quiet
+
   pub journals_sent_so : LedJournalsAreSentSo
-  journals_sent_so words scenario journal base group timely few quiet nothing rows more is =
-      by_time (players words (births as_nodes scenario)) (Begin words scenario journal base group timely few quiet nothing) (first_rows words scenario journal base group timely few quiet nothing) (after_row words scenario journal base group timely few quiet nothing) rows
-      (before_in_time words scenario journal base group timely few quiet nothing rows more is) more is
+  journals_sent_so words scenario journal base group timely few quiet rows more is = all_rows words scenario journal base group timely few quiet rows more is

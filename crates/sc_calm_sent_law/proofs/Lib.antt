@@ -1,7 +1,15 @@
+pub mod Above
+pub mod Accepting
+pub mod Asked
+pub mod Comers
+pub mod Turned
 pub mod Homes
 pub mod Saying
 pub mod Finds
 pub mod Turns
+pub mod Ballots
+pub mod Seeing
+pub mod Seen
 pub mod Spoken
 pub mod Journals
 pub mod Born

@@ -4,6 +4,7 @@ use Rattle.std.specs.Option.{option_map}
 use Rattle.std.proofs.lemmas.Bool.{cases_Bool}
 use Rattle.sc_base.specs.Among.{Each}
 use Rattle.sc_base.specs.Same.{same_draw}
+use Rattle.sc_base.specs.declared.names.Ballot.{Ballot}
 use Rattle.sc_base.specs.declared.names.Draw.{Draw}
 use Rattle.sc_base.proofs.NameLemmas.{draw_is, same_name}
 use Rattle.sc_cmd.specs.declared.cores.Base.{Base}
@@ -22,6 +23,7 @@ use Rattle.sc_actor.specs.System.{row_of}
 use Rattle.sc_orderly_law.specs.Orderly.{IsCalmEvent}
 use Rattle.sc_orderly_law.specs.Timely.{AreInTime}
 use Rattle.sc_orderly_law.proofs.InTime.{in_time_before}
+use Rattle.sc_paxos_words.specs.Acceptors.{reports_from}
 use Rattle.sc_paxos_words.specs.Ballots.{IsAtLeast}
 use Rattle.sc_paxos_words.proofs.ListLemmas.{Each-among}
 use Rattle.sc_scenario.specs.Valid.{IsBounded}
@@ -54,17 +56,23 @@ use Rattle.sc_calm_groups_law.proofs.Mails.{scene}
 use Rattle.sc_calm_groups_law.proofs.Dating.{dated_in, taken_dated, rows_dated}
 use Rattle.sc_calm_mail_law.specs.Idle.{IsPlainlyKept, JournalsKeepIdle}
 use Rattle.sc_calm_mail_law.proofs.Posting.{mail_comes}
-use Rattle.sc_calm_sent_law.specs.Journals.{IsSentOn, FindsNothing}
+use Rattle.sc_calm_sent_law.specs.Journals.{IsSentOn}
 use Rattle.sc_calm_sent_law.specs.Sent.{SaysWell, AreSaidWell}
 use Rattle.sc_calm_sent_law.proofs.Saying.{Fits, mail_says, order_says, prepare_says}
 use Rattle.sc_calm_sent_law.proofs.Turns.{IsLate, node_says, node_orders, client_says}
+
+-- a mail of this event that asks the replica of who acts to promise a ballot finds nothing that it accepted from the slot on from which it asks
+abbrev pub FindsNoneBy : List (Seat Player) → Rows → Seat Player → Event OrderLine → Base → Type 0
+FindsNoneBy births rows seat event base =
+    (number : ℕ) (mail : Mail) (ballot : Ballot) (from_slot : ℕ) (r : ReplicaState) → event ≡ Deliver number → numbered (mails rows) number ≡ Some mail → mail.body ≡ Prepare base.core.id ballot from_slot
+    → view_at births rows base.core.id seat.who ≡ Some r → reports_from from_slot r.acceptor.accepted ≡ []
 
 plays_of : (who : ℕ) (player : Player) → IsWellPlayer who player → Plays who player
 plays_of who (Node node) k = (k.0, subst (λ m. Each (IsWellKept m) node.replicas) k.0 k.1)
 plays_of who (Client client) k = tt
 
 module _ (words : ℕ → ℕ → ℕ × ℕ) (at : Sets) (over : Ends) (by : Tellers) (scenario : Scenario) (rows : Rows) (seat : Seat Player) (event : Event OrderLine) (base : Base) (course : Course) (bounded : IsBounded scenario) (idle : JournalsKeepIdle) (wb : AreWellBorn (births as_nodes scenario))
-    (one : HasOneLog at over by (births as_nodes scenario) (with_event rows seat event) base) (so : IsSentSo (births as_nodes scenario) (with_event rows seat event) base) (nothing : FindsNothing (births as_nodes scenario) (with_event rows seat event) base)
+    (one : HasOneLog at over by (births as_nodes scenario) (with_event rows seat event) base) (so : IsSentSo (births as_nodes scenario) (with_event rows seat event) base) (nothing : FindsNoneBy (births as_nodes scenario) rows seat event base)
     (timely : AreInTime (players words (births as_nodes scenario)) (with_event rows seat event)) (born : IsSeat (births as_nodes scenario) seat) (calm : IsCalmEvent (players words (births as_nodes scenario)) rows seat.who event)
     (was : IsWellLed at over by words (births as_nodes scenario) rows base course) (sent : IsSentOn at words (births as_nodes scenario) rows base course) where
   abbrev all : List (Seat Player)
@@ -145,7 +153,7 @@ module _ (words : ℕ → ℕ → ℕ × ℕ) (at : Sets) (over : Ends) (by : Te
             let taken : taken_dated name (mails rows) (Deliver number) ≡ Some (Prepares ballot, from_slot) = ap (dated_in name) sent_at ∙ (ap (option_map (λ mark. (mark, from_slot_of mail.body))) marked ∙ ap (λ b. Some (Prepares ballot, from_slot_of b)) body) in
             let low = prepares_are_known.above (progress_at all rows base course) (dated_at (players words all) rows name) seat.who ballot from_slot dated.left r was.low (dated.takes ∙ ap (λ o. listed o ++ dated.left) taken) (sym (ap (next_in base seat.who) (view_of name (Some r) here))) has.well.2 in
             subst (λ b. Well (mailed mail.from b (r, [])).0.1) (sym (body ∙ ap (λ n. Prepare n ballot from_slot) (sym named_is)))
-            (prepare_says base.core.id course.ballot mail.from ballot from_slot r goes low (nothing rows seat number mail ballot from_slot r d body (view_of name (Some r) here)) most)
+            (prepare_says base.core.id course.ballot mail.from ballot from_slot r goes low (nothing number mail ballot from_slot r is_event sent_at body (view_of name (Some r) here)) most)
         by_body (Accept g ballot slot command) e =
             let body : mail.body ≡ Accept name ballot slot command = e ∙ ap (λ n. Accept n ballot slot command) (some_is g name (sym (ap group_of_mail e) ∙ group)) in
             let f = fitting (Asks ballot slot) (ap (mark_of name mail.from) body ∙ same_mark name (Asks ballot slot)) in

@@ -1,3 +1,4 @@
+pub mod Above
 pub mod Homes
 pub mod Sent
 pub mod Journals

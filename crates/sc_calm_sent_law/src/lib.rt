@@ -6,8 +6,11 @@ ghost use Rattle.sc_calm_sent_law.specs.Homes.{HomesAreKept};
 ghost use Rattle.sc_calm_sent_law.specs.Journals.{
   FirstGroupsAreNeverYoung,
   GroupsAreBornAsBegun,
+  GroupsBeginSent,
   LedJournalsAreSentSo,
   NextMailIsSentSo,
+  NextRowsAreSent,
+  SentReplicas,
 };
 
 use sc_calm_groups_law::{events_go_on, scenarios_are_well_born};
@@ -27,9 +30,37 @@ pub fn next_mail_is_sent_so()
     ensures { NextMailIsSentSo }
 {}
 
-/// So a group's mail is sent so through a journal whose rows come in time, and the group is well
-/// led with one log, where no first member is sent anything before it has its replica, and what
-/// asks to promise finds nothing accepted.
+/// Each group of the journal is well led at the births, with one log, and its mail is sent so.
+pub fn groups_begin_sent()
+    ensures { GroupsBeginSent }
+{
+    valid_scenarios_are_bounded();
+    journals_keep_idle();
+    scenarios_are_well_born();
+    groups_are_led();
+    led_logs_are_one();
+    events_go_on();
+    groups_begin_led();
+    groups_are_born_as_begun();
+}
+
+/// So it is after one row more of a journal whose rows come in time, in the course that comes of
+/// its row, where no first member is sent anything before it has its replica.
+pub fn next_rows_are_sent()
+    ensures { NextRowsAreSent }
+{
+    valid_scenarios_are_bounded();
+    journals_keep_idle();
+    scenarios_are_well_born();
+    groups_are_led();
+    led_logs_are_one();
+    events_go_on();
+    groups_begin_led();
+    groups_are_born_as_begun();
+}
+
+/// So a group's mail is sent so through such a journal, and the group is well led with one log,
+/// where no first member is sent anything before it has its replica.
 pub fn led_journals_are_sent_so()
     ensures { LedJournalsAreSentSo }
 {
@@ -42,6 +73,12 @@ pub fn led_journals_are_sent_so()
     groups_begin_led();
     groups_are_born_as_begun();
 }
+
+/// No replica of such a group saw a later ballot than the leader's, has accepted anything at a slot
+/// at which nothing was offered, or has a report that binds it.
+pub fn sent_replicas()
+    ensures { SentReplicas }
+{}
 
 /// The replicas of a group at the births are as the group begins.
 pub fn groups_are_born_as_begun()

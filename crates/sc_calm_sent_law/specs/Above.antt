@@ -1,0 +1,50 @@
+-- From which slot on each node is asked to promise a ballot: from above all that it has accepted by then.
+use Rattle.std.specs.Prelude.{◌≡◌, ℕ, suc, max, ◌<◌, ◌≤◌, List, [], ◌∷◌, Some}
+use Rattle.sc_base.specs.Among.{Each}
+use Rattle.sc_cmd.specs.declared.cores.Base.{Base}
+use Rattle.sc_actor.specs.declared.actors.Seat.{Seat}
+use Rattle.sc_paxos_words.specs.Ballots.{IsAtLeast}
+use Rattle.sc_node_table.specs.Replica.{ReplicaState}
+use Rattle.sc_sound.specs.Players.{Player}
+use Rattle.sc_calm_law.specs.Charts.{players}
+use Rattle.sc_calm_law.specs.Totals.{Rows}
+use Rattle.sc_following_law.specs.Dated.{Dated}
+use Rattle.sc_following_law.specs.Following.{Mark, Asks, Votes, Tells, Installs, Prepares, Promises, Course}
+use Rattle.sc_calm_rows_law.specs.Groups.{view_at}
+use Rattle.sc_calm_groups_law.specs.Led.{dated_at}
+
+-- one that has accepted nothing from a slot on is asked to promise from no slot below that
+abbrev pub IsAbove : ℕ → Mark → ℕ → Type 0
+IsAbove top (Prepares ballot) from = top ≤ from
+IsAbove top (Asks ballot slot) from = Unit {0}
+IsAbove top (Votes node ballot slot) from = Unit {0}
+IsAbove top (Tells slot) from = Unit {0}
+IsAbove top (Installs slot) from = Unit {0}
+IsAbove top (Promises node ballot) from = Unit {0}
+
+-- the slot from which on it has accepted nothing after it took a mail
+abbrev pub top_by : ℕ → Mark → ℕ
+top_by top (Asks ballot slot) = max top (suc slot)
+top_by top (Prepares ballot) = top
+top_by top (Votes node ballot slot) = top
+top_by top (Tells slot) = top
+top_by top (Installs slot) = top
+top_by top (Promises node ballot) = top
+
+-- .. by each of these, one after another
+abbrev pub AreAbove : ℕ → List Dated → Type 0
+AreAbove top [] = Unit {0}
+AreAbove top (d ∷ dated) = IsAbove top d.0 d.1 × AreAbove (top_by top d.0) dated
+
+-- a replica has accepted nothing from a slot on
+abbrev pub HasBelow : ℕ → ReplicaState → Type 0
+HasBelow top r = Each (λ report. report.slot < top) r.acceptor.accepted
+
+-- After some rows, in a course: no node has accepted or is asked to accept anything at a slot at which nothing was offered, and each is asked to promise from above all that it has accepted by then; and none has a report that binds it, or saw a later ballot than the leader's.
+pub record IsAskedOn (words : ℕ → ℕ → ℕ × ℕ) (births : List (Seat Player)) (rows : Rows) (base : Base) (course : Course) : Type 0 where
+  pub tops : ℕ → ℕ
+  pub low : (node : ℕ) → tops node ≤ course.bound
+  pub above : (node : ℕ) → AreAbove (tops node) (dated_at (players words births) rows base.core.id node)
+  pub accepted : (node : ℕ) (r : ReplicaState) → view_at births rows base.core.id node ≡ Some r → HasBelow (tops node) r
+  pub plain : (node : ℕ) (r : ReplicaState) → view_at births rows base.core.id node ≡ Some r → r.leader.reports ≡ []
+  pub seen : (node : ℕ) (r : ReplicaState) → view_at births rows base.core.id node ≡ Some r → IsAtLeast course.ballot r.top
