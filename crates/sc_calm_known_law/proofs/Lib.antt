@@ -1,0 +1,4 @@
+pub mod Linked
+pub mod LinkWorlds
+pub mod LinkEntries
+pub mod LinkFronts
