@@ -2,3 +2,4 @@ pub mod Linked
 pub mod LinkWorlds
 pub mod LinkEntries
 pub mod LinkFronts
+pub mod Offered

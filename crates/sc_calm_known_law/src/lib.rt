@@ -3,7 +3,9 @@
 #![tactic(auto)]
 
 ghost use Rattle.sc_calm_known_law.specs.Links.{LinksWereMembers};
+ghost use Rattle.sc_calm_known_law.specs.Offered.{GroupsAreAskedThrough};
 
+use sc_calm_groups_law::{events_go_on, rows_keep_taught};
 use sc_names_law::{names_have_one_owner, orders_are_allowed};
 use sc_scenario::valid_scenarios_are_bounded;
 use sc_whole_law::valid_scenarios_begin_well;
@@ -17,4 +19,12 @@ pub fn links_were_members()
     valid_scenarios_begin_well();
     orders_are_allowed();
     names_have_one_owner();
+}
+
+/// No mail ever asks for anything of a group beyond the bound of the course in which it is well led.
+pub fn groups_are_asked_through()
+    ensures { GroupsAreAskedThrough }
+{
+    events_go_on();
+    rows_keep_taught();
 }
