@@ -3,3 +3,7 @@ pub mod LinkWorlds
 pub mod LinkEntries
 pub mod LinkFronts
 pub mod Offered
+pub mod Arcs
+pub mod Chosen
+pub mod Fronts
+pub mod Groups

@@ -1,2 +1,4 @@
 pub mod Links
 pub mod Offered
+pub mod Arcs
+pub mod Fronts

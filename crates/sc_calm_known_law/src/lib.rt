@@ -2,13 +2,16 @@
 //! laws, no logic.
 #![tactic(auto)]
 
+ghost use Rattle.sc_calm_known_law.specs.Arcs.{FreeGroupsHaveArcs};
+ghost use Rattle.sc_calm_known_law.specs.Fronts.{FrontsAreFound, QuietFrontsHaveGroups, QuietLogsAreExecuted};
 ghost use Rattle.sc_calm_known_law.specs.Links.{LinksWereMembers};
 ghost use Rattle.sc_calm_known_law.specs.Offered.{GroupsAreAskedThrough};
 
-use sc_calm_groups_law::{events_go_on, rows_keep_taught};
+use sc_calm_groups_law::{events_go_on, rows_keep_taught, scenarios_are_well_born};
+use sc_calm_led_law::groups_begin_taught;
 use sc_names_law::{names_have_one_owner, orders_are_allowed};
 use sc_scenario::valid_scenarios_are_bounded;
-use sc_whole_law::valid_scenarios_begin_well;
+use sc_whole_law::{valid_journals_are_sound, valid_scenarios_begin_well};
 
 /// After a lawful journal in which no group is bound, the nodes that links and routes name were
 /// members of the groups that these name.
@@ -27,4 +30,46 @@ pub fn groups_are_asked_through()
 {
     events_go_on();
     rows_keep_taught();
+}
+
+/// A group that stands, and is bound in no transaction by its log, has an arc of the ring.
+pub fn free_groups_have_arcs()
+    ensures { FreeGroupsHaveArcs }
+{
+    valid_scenarios_are_bounded();
+    valid_scenarios_begin_well();
+    orders_are_allowed();
+    names_have_one_owner();
+}
+
+/// The groups of a front of a lawful journal are groups of the journal, and each replica is of one of
+/// them.
+pub fn fronts_are_found()
+    ensures { FrontsAreFound }
+{
+    valid_scenarios_are_bounded();
+    valid_scenarios_begin_well();
+    orders_are_allowed();
+    names_have_one_owner();
+    valid_journals_are_sound();
+}
+
+/// Each group that has a replica in a quiet front is a quiet group then, and was asked for nothing
+/// beyond its course.
+pub fn quiet_fronts_have_groups()
+    ensures { QuietFrontsHaveGroups }
+{
+    scenarios_are_well_born();
+    groups_begin_taught();
+    groups_are_asked_through();
+}
+
+/// And all that was decided is executed.
+pub fn quiet_logs_are_executed()
+    ensures { QuietLogsAreExecuted }
+{
+    scenarios_are_well_born();
+    groups_begin_taught();
+    groups_are_asked_through();
+    fronts_are_found();
 }
