@@ -7,3 +7,4 @@ pub mod Arcs
 pub mod Chosen
 pub mod Fronts
 pub mod Groups
+pub mod Known

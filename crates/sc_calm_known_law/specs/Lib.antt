@@ -2,3 +2,4 @@ pub mod Links
 pub mod Offered
 pub mod Arcs
 pub mod Fronts
+pub mod Known

@@ -4,6 +4,7 @@
 
 ghost use Rattle.sc_calm_known_law.specs.Arcs.{FreeGroupsHaveArcs};
 ghost use Rattle.sc_calm_known_law.specs.Fronts.{FrontsAreFound, QuietFrontsHaveGroups, QuietLogsAreExecuted};
+ghost use Rattle.sc_calm_known_law.specs.Known.{FrontsGoneAgree, QuietCoursesEnd};
 ghost use Rattle.sc_calm_known_law.specs.Links.{LinksWereMembers};
 ghost use Rattle.sc_calm_known_law.specs.Offered.{GroupsAreAskedThrough};
 
@@ -71,5 +72,21 @@ pub fn quiet_logs_are_executed()
     scenarios_are_well_born();
     groups_begin_taught();
     groups_are_asked_through();
+    fronts_are_found();
+}
+
+/// Replicas of one group that are gone know the same route in a quiet front.
+pub fn fronts_gone_agree()
+    ensures { FrontsGoneAgree }
+{
+    quiet_logs_are_executed();
+    fronts_are_found();
+}
+
+/// The course of a group ends with its log then.
+pub fn quiet_courses_end()
+    ensures { QuietCoursesEnd }
+{
+    quiet_logs_are_executed();
     fronts_are_found();
 }
