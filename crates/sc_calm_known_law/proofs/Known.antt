@@ -56,7 +56,7 @@ module _ (executed : QuietLogsAreExecuted) (finds : FrontsAreFound) (words : ℕ
 
   module _ (base : Base) (a : Among base (groups_at as_nodes scenario.groups front)) where
     -- no replica is further than its log
-    most : (node : ℕ) (r : ReplicaState) → see base.core.id node ≡ Some r → next r ≤ length (decided_log as_nodes base front) + 1
+    pub most : (node : ℕ) (r : ReplicaState) → see base.core.id node ≡ Some r → next r ≤ length (decided_log as_nodes base front) + 1
     most node r e = (let run = run_of base a node r e in let within = run.within in let next_is = run.next_is in omega (arith, within, next_is))
 
     -- one that is as far has the log's state

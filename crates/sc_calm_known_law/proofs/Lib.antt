@@ -8,3 +8,4 @@ pub mod Chosen
 pub mod Fronts
 pub mod Groups
 pub mod Known
+pub mod Reaching

@@ -4,7 +4,13 @@
 
 ghost use Rattle.sc_calm_known_law.specs.Arcs.{FreeGroupsHaveArcs};
 ghost use Rattle.sc_calm_known_law.specs.Fronts.{FrontsAreFound, QuietFrontsHaveGroups, QuietLogsAreExecuted};
-ghost use Rattle.sc_calm_known_law.specs.Known.{FrontsGoneAgree, QuietCoursesEnd};
+ghost use Rattle.sc_calm_known_law.specs.Known.{
+  FrontsAreKnown,
+  FrontsAreReachable,
+  FrontsAreTakenIn,
+  FrontsGoneAgree,
+  QuietCoursesEnd,
+};
 ghost use Rattle.sc_calm_known_law.specs.Links.{LinksWereMembers};
 ghost use Rattle.sc_calm_known_law.specs.Offered.{GroupsAreAskedThrough};
 
@@ -89,4 +95,31 @@ pub fn quiet_courses_end()
 {
     quiet_logs_are_executed();
     fronts_are_found();
+}
+
+/// The groups of a quiet front are known, where each has a replica and none is bound.
+pub fn fronts_are_known()
+    ensures { FrontsAreKnown }
+{
+    quiet_logs_are_executed();
+    fronts_are_found();
+    free_groups_have_arcs();
+}
+
+/// Then links and routes name nodes that have replicas.
+pub fn fronts_are_reachable()
+    ensures { FrontsAreReachable }
+{
+    quiet_logs_are_executed();
+    fronts_are_found();
+    links_were_members();
+}
+
+/// So the nodes of the group that a group went into have a replica of that.
+pub fn fronts_are_taken_in()
+    ensures { FrontsAreTakenIn }
+{
+    quiet_logs_are_executed();
+    fronts_are_found();
+    links_were_members();
 }
