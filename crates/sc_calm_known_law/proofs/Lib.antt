@@ -9,3 +9,4 @@ pub mod Fronts
 pub mod Groups
 pub mod Known
 pub mod Reaching
+pub mod Linking

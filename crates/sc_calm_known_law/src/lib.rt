@@ -6,6 +6,7 @@ ghost use Rattle.sc_calm_known_law.specs.Arcs.{FreeGroupsHaveArcs};
 ghost use Rattle.sc_calm_known_law.specs.Fronts.{FrontsAreFound, QuietFrontsHaveGroups, QuietLogsAreExecuted};
 ghost use Rattle.sc_calm_known_law.specs.Known.{
   FrontsAreKnown,
+  FrontsAreLinked,
   FrontsAreReachable,
   FrontsAreTakenIn,
   FrontsGoneAgree,
@@ -18,7 +19,7 @@ use sc_calm_groups_law::{events_go_on, rows_keep_taught, scenarios_are_well_born
 use sc_calm_led_law::groups_begin_taught;
 use sc_names_law::{names_have_one_owner, orders_are_allowed};
 use sc_scenario::valid_scenarios_are_bounded;
-use sc_whole_law::{valid_journals_are_sound, valid_scenarios_begin_well};
+use sc_whole_law::{valid_entries_are_logs, valid_journals_are_sound, valid_scenarios_begin_well};
 
 /// After a lawful journal in which no group is bound, the nodes that links and routes name were
 /// members of the groups that these name.
@@ -122,4 +123,16 @@ pub fn fronts_are_taken_in()
     quiet_logs_are_executed();
     fronts_are_found();
     links_were_members();
+}
+
+/// And the link of a group that stands is as a quiet journal asks it.
+pub fn fronts_are_linked()
+    ensures { FrontsAreLinked }
+{
+    quiet_logs_are_executed();
+    fronts_are_found();
+    free_groups_have_arcs();
+    links_were_members();
+    valid_journals_are_sound();
+    valid_entries_are_logs();
 }
