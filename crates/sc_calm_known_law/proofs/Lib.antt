@@ -10,3 +10,4 @@ pub mod Groups
 pub mod Known
 pub mod Reaching
 pub mod Linking
+pub mod Still

@@ -11,6 +11,7 @@ ghost use Rattle.sc_calm_known_law.specs.Known.{
   FrontsAreTakenIn,
   FrontsGoneAgree,
   QuietCoursesEnd,
+  StillFrontsAreFree,
 };
 ghost use Rattle.sc_calm_known_law.specs.Links.{LinksWereMembers};
 ghost use Rattle.sc_calm_known_law.specs.Offered.{GroupsAreAskedThrough};
@@ -135,4 +136,12 @@ pub fn fronts_are_linked()
     links_were_members();
     valid_journals_are_sound();
     valid_entries_are_logs();
+}
+
+/// Where nothing of an order is left, no group is bound by its log.
+pub fn still_fronts_are_free()
+    ensures { StillFrontsAreFree }
+{
+    quiet_logs_are_executed();
+    fronts_are_found();
 }
