@@ -1,0 +1,13 @@
+pub mod Linked
+pub mod LinkWorlds
+pub mod LinkEntries
+pub mod LinkFronts
+pub mod Offered
+pub mod Arcs
+pub mod Chosen
+pub mod Fronts
+pub mod Groups
+pub mod Known
+pub mod Reaching
+pub mod Linking
+pub mod Still

@@ -1,0 +1,5 @@
+pub mod Links
+pub mod Offered
+pub mod Arcs
+pub mod Fronts
+pub mod Known

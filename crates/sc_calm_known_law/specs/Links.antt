@@ -1,0 +1,41 @@
+-- That the nodes which links and routes name were members of the groups that these name.
+use Rattle.std.specs.Prelude.{◌≡◌, ℕ, ◌≤◌, true, List, length, take, Some}
+use Rattle.sc_base.specs.Among.{Among}
+use Rattle.sc_base.specs.declared.names.Draw.{Draw}
+use Rattle.sc_cmd.specs.declared.cores.Base.{Base}
+use Rattle.sc_cmd.specs.declared.cores.Lock.TheVariants.{Free}
+use Rattle.sc_cmd.specs.declared.links.Route.{Route}
+use Rattle.sc_machine_table.specs.Group.{group_of}
+use Rattle.sc_machine_table.specs.Logs.{state_after}
+use Rattle.sc_member.specs.Roster.{is_member}
+use Rattle.sc_scenario.specs.Valid.{IsValid}
+use Rattle.sc_scenario.specs.declared.scenarios.Scenario.{Scenario}
+use Rattle.sc_sound.specs.GroupsOf.{groups_at}
+use Rattle.sc_sound.specs.Logs.{decided_log, decided_state}
+use Rattle.sc_sound.specs.Players.{as_nodes, Lawful}
+use Rattle.sc_log_law.specs.Descent.{Rows}
+
+-- a node was a member of the group with a name, after some first entries of its log
+pub record WasMember (scenario : Scenario) (rows : Rows) (name : Draw) (node : ℕ) : Type 0 where
+  pub base : Base
+  pub among : Among base (groups_at as_nodes scenario.groups rows)
+  pub named : base.core.id ≡ name
+  pub after : ℕ
+  pub within : after ≤ length (decided_log as_nodes base rows)
+  pub member : is_member (state_after (group_of base) (take after (decided_log as_nodes base rows))).core.members node ≡ true
+
+-- these are some nodes, and each of them was
+pub record WereMembers (scenario : Scenario) (rows : Rows) (name : Draw) (nodes : List ℕ) : Type 0 where
+  pub some : 1 ≤ length nodes
+  pub each : (node : ℕ) → is_member nodes node ≡ true → WasMember scenario rows name node
+
+-- no group is bound in a transaction, by its log
+abbrev pub AreAllFree : Scenario → Rows → Type 0
+AreAllFree scenario rows = (base : Base) → Among base (groups_at as_nodes scenario.groups rows) → (decided_state as_nodes base rows).core.lock ≡ Free
+
+-- After a lawful journal of a valid scenario in which none is bound, the link of each group, and the route by which it went, name such nodes.
+pub record LinksWereMembers : Type 0 where
+  pub links : (words : ℕ → ℕ → ℕ × ℕ) (scenario : Scenario) (rows : Rows) (base : Base) → IsValid scenario → Lawful as_nodes words scenario rows → AreAllFree scenario rows → Among base (groups_at as_nodes scenario.groups rows)
+      → WereMembers scenario rows (decided_state as_nodes base rows).core.succ.group (decided_state as_nodes base rows).core.succ.members
+  pub routes : (words : ℕ → ℕ → ℕ × ℕ) (scenario : Scenario) (rows : Rows) (base : Base) (into : Route) → IsValid scenario → Lawful as_nodes words scenario rows → AreAllFree scenario rows → Among base (groups_at as_nodes scenario.groups rows)
+      → (decided_state as_nodes base rows).core.gone ≡ Some into → WereMembers scenario rows into.group into.members

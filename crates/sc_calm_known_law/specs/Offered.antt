@@ -1,0 +1,56 @@
+-- That nothing was asked for at a slot beyond what a group's leader offered.
+use Rattle.std.specs.Prelude.{◌≡◌, ℕ, ◌<◌, List, []}
+use Rattle.sc_base.specs.Among.{Each}
+use Rattle.sc_base.specs.declared.names.Draw.{Draw}
+use Rattle.sc_cmd.specs.declared.cores.Base.{Base}
+use Rattle.sc_mail.specs.declared.bodies.Mail.{Mail}
+use Rattle.sc_mail.specs.declared.bodies.MailBody.{MailBody}
+use Rattle.sc_mail.specs.declared.bodies.MailBody.TheVariants.{Request, Answer, Prepare, Promise, Accept, Accepted, Nack, Learn, Ask, Install, TxPrepare, TxVote, TxOutcome, TxElsewhere, TxWatch, TxWatched, Told}
+use Rattle.sc_actor.specs.declared.actors.Seat.{Seat}
+use Rattle.sc_actor.specs.Mail.{mails}
+use Rattle.sc_orderly_law.specs.Timely.{AreInTime}
+use Rattle.sc_sound.specs.Players.{Player}
+use Rattle.sc_calm_law.specs.Charts.{players}
+use Rattle.sc_calm_law.specs.Totals.{Rows}
+use Rattle.sc_following_law.specs.Following.{Course, Sets}
+use Rattle.sc_following_law.specs.Hints.{Tellers}
+use Rattle.sc_calm_groups_law.specs.Led.{Ends, IsWellLed}
+use Rattle.sc_calm_groups_law.specs.Taught.{AreTaughtAt, IsTaughtOn}
+use Rattle.sc_calm_groups_law.specs.Through.{AreWellBorn, HasOneLog, IsSentSo}
+
+-- what a mail asks to accept of the group with this name is below a slot
+abbrev pub AsksBelow : Draw → ℕ → MailBody → Type 0
+AsksBelow name bound (Accept group ballot slot command) = group ≡ name → slot < bound
+AsksBelow name bound (Request group client seq op) = Unit {0}
+AsksBelow name bound (Answer group seq answer) = Unit {0}
+AsksBelow name bound (Prepare group ballot from_slot) = Unit {0}
+AsksBelow name bound (Promise group ballot reports) = Unit {0}
+AsksBelow name bound (Accepted group ballot slot) = Unit {0}
+AsksBelow name bound (Nack group promised) = Unit {0}
+AsksBelow name bound (Learn group slot command) = Unit {0}
+AsksBelow name bound (Ask group from_slot) = Unit {0}
+AsksBelow name bound (Install group slot base sets) = Unit {0}
+AsksBelow name bound (TxPrepare tx offer) = Unit {0}
+AsksBelow name bound (TxVote tx coord part vote) = Unit {0}
+AsksBelow name bound (TxOutcome tx part outcome) = Unit {0}
+AsksBelow name bound (TxElsewhere tx coord hint) = Unit {0}
+AsksBelow name bound (TxWatch tx watch) = Unit {0}
+AsksBelow name bound (TxWatched tx coord part vote) = Unit {0}
+AsksBelow name bound (Told order result) = Unit {0}
+
+-- each of these mails does
+abbrev pub AreAskedBelow : Draw → ℕ → List Mail → Type 0
+AreAskedBelow name bound sent = Each (λ mail. AsksBelow name bound mail.body) sent
+
+-- After some rows a group is well led and its members learn all entries, in a course beyond whose bound no mail ever asked for anything.
+pub record IsAskedOn (at : Sets) (over : Ends) (by : Tellers) (words : ℕ → ℕ → ℕ × ℕ) (births : List (Seat Player)) (rows : Rows) (base : Base) : Type 0 where
+  pub course : Course
+  pub led : IsWellLed at over by words births rows base course
+  pub taught : AreTaughtAt at words births rows base course
+  pub asked : AreAskedBelow base.core.id course.bound (mails rows)
+
+-- So it is after a journal whose rows come in time, and in which the group's log is one and its mail is sent so, if it is at first.
+abbrev pub GroupsAreAskedThrough : Type 0
+GroupsAreAskedThrough =
+    (at : Sets) (over : Ends) (by : Tellers) (words : ℕ → ℕ → ℕ × ℕ) (births : List (Seat Player)) (journal : Rows) (base : Base) → AreWellBorn births → HasOneLog at over by births journal base → IsSentSo births journal base
+    → AreInTime (players words births) journal → IsTaughtOn at over by words births [] base → IsAskedOn at over by words births journal base

@@ -1,0 +1,147 @@
+//! What a quiet front of a calm journal says of its groups, links, routes and notes. Definitions and
+//! laws, no logic.
+#![tactic(auto)]
+
+ghost use Rattle.sc_calm_known_law.specs.Arcs.{FreeGroupsHaveArcs};
+ghost use Rattle.sc_calm_known_law.specs.Fronts.{FrontsAreFound, QuietFrontsHaveGroups, QuietLogsAreExecuted};
+ghost use Rattle.sc_calm_known_law.specs.Known.{
+  FrontsAreKnown,
+  FrontsAreLinked,
+  FrontsAreReachable,
+  FrontsAreTakenIn,
+  FrontsGoneAgree,
+  QuietCoursesEnd,
+  StillFrontsAreFree,
+};
+ghost use Rattle.sc_calm_known_law.specs.Links.{LinksWereMembers};
+ghost use Rattle.sc_calm_known_law.specs.Offered.{GroupsAreAskedThrough};
+
+use sc_calm_groups_law::{events_go_on, rows_keep_taught, scenarios_are_well_born};
+use sc_calm_led_law::groups_begin_taught;
+use sc_names_law::{names_have_one_owner, orders_are_allowed};
+use sc_scenario::valid_scenarios_are_bounded;
+use sc_whole_law::{valid_entries_are_logs, valid_journals_are_sound, valid_scenarios_begin_well};
+
+/// After a lawful journal in which no group is bound, the nodes that links and routes name were
+/// members of the groups that these name.
+pub fn links_were_members()
+    ensures { LinksWereMembers }
+{
+    valid_scenarios_are_bounded();
+    valid_scenarios_begin_well();
+    orders_are_allowed();
+    names_have_one_owner();
+}
+
+/// No mail ever asks for anything of a group beyond the bound of the course in which it is well led.
+pub fn groups_are_asked_through()
+    ensures { GroupsAreAskedThrough }
+{
+    events_go_on();
+    rows_keep_taught();
+}
+
+/// A group that stands, and is bound in no transaction by its log, has an arc of the ring.
+pub fn free_groups_have_arcs()
+    ensures { FreeGroupsHaveArcs }
+{
+    valid_scenarios_are_bounded();
+    valid_scenarios_begin_well();
+    orders_are_allowed();
+    names_have_one_owner();
+}
+
+/// The groups of a front of a lawful journal are groups of the journal, and each replica is of one of
+/// them.
+pub fn fronts_are_found()
+    ensures { FrontsAreFound }
+{
+    valid_scenarios_are_bounded();
+    valid_scenarios_begin_well();
+    orders_are_allowed();
+    names_have_one_owner();
+    valid_journals_are_sound();
+}
+
+/// Each group that has a replica in a quiet front is a quiet group then, and was asked for nothing
+/// beyond its course.
+pub fn quiet_fronts_have_groups()
+    ensures { QuietFrontsHaveGroups }
+{
+    scenarios_are_well_born();
+    groups_begin_taught();
+    groups_are_asked_through();
+}
+
+/// And all that was decided is executed.
+pub fn quiet_logs_are_executed()
+    ensures { QuietLogsAreExecuted }
+{
+    scenarios_are_well_born();
+    groups_begin_taught();
+    groups_are_asked_through();
+    fronts_are_found();
+}
+
+/// Replicas of one group that are gone know the same route in a quiet front.
+pub fn fronts_gone_agree()
+    ensures { FrontsGoneAgree }
+{
+    quiet_logs_are_executed();
+    fronts_are_found();
+}
+
+/// The course of a group ends with its log then.
+pub fn quiet_courses_end()
+    ensures { QuietCoursesEnd }
+{
+    quiet_logs_are_executed();
+    fronts_are_found();
+}
+
+/// The groups of a quiet front are known, where each has a replica and none is bound.
+pub fn fronts_are_known()
+    ensures { FrontsAreKnown }
+{
+    quiet_logs_are_executed();
+    fronts_are_found();
+    free_groups_have_arcs();
+}
+
+/// Then links and routes name nodes that have replicas.
+pub fn fronts_are_reachable()
+    ensures { FrontsAreReachable }
+{
+    quiet_logs_are_executed();
+    fronts_are_found();
+    links_were_members();
+}
+
+/// So the nodes of the group that a group went into have a replica of that.
+pub fn fronts_are_taken_in()
+    ensures { FrontsAreTakenIn }
+{
+    quiet_logs_are_executed();
+    fronts_are_found();
+    links_were_members();
+}
+
+/// And the link of a group that stands is as a quiet journal asks it.
+pub fn fronts_are_linked()
+    ensures { FrontsAreLinked }
+{
+    quiet_logs_are_executed();
+    fronts_are_found();
+    free_groups_have_arcs();
+    links_were_members();
+    valid_journals_are_sound();
+    valid_entries_are_logs();
+}
+
+/// Where nothing of an order is left, no group is bound by its log.
+pub fn still_fronts_are_free()
+    ensures { StillFrontsAreFree }
+{
+    quiet_logs_are_executed();
+    fronts_are_found();
+}
