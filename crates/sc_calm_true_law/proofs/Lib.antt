@@ -1,0 +1,5 @@
+pub mod Doers
+pub mod Late
+pub mod Opened
+pub mod Stepping
+pub mod Told
