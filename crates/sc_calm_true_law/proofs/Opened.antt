@@ -198,17 +198,11 @@ pub record HasHeard (group : Group) (asked : Draw) (part : Draw) (made : Group) 
   pub asked_is : asked ≡ heard.frozen.succ.group
   pub part_is : part ≡ group.core.succ.group
 
-module _ (group : Group) (tx1 asked1 tx2 asked part : Draw) (host : ℕ) (was : bond_of group.core ≡ Asking tx1 asked1 First) where
+module _ (group : Group) (tx2 asked part : Draw) (host : ℕ) (unheard : bond_of group.core ≡ Asking tx2 asked (Next part host) → ⊥) where
   abbrev part_of : Turn → Draw
   part_of (Next p h) = p
-  part_of First = asked1
-  part_of Lone = asked1
-
-  unheard : First ≡ Next part host → ⊥
-  unheard e = cc
-
-  not_yet : (core : Core) → bond_of core ≡ bond_of group.core → bond_of core ≡ Asking tx2 asked (Next part host) → ⊥
-  not_yet core same e = unheard (ap turn_in (sym (same ∙ was) ∙ e))
+  part_of First = part
+  part_of Lone = part
 
   abbrev Hears : Command → Group × Effect → Type 0
   Hears c made = (by : ℕ) (tx : Draw) → work_by c ≡ Some (Records tx false true by) → bond_of made.0.core ≡ Asking tx2 asked (Next part host) → HasHeard group asked part made.0
@@ -218,8 +212,8 @@ module _ (group : Group) (tx1 asked1 tx2 asked part : Draw) (host : ℕ) (was : 
 
   pub heard_by : (c : Command) → Hears c (applied group c)
   heard_by c = comes group Hears (record {
-    same = λ d effect dull by tx w e. absurd (not_yet group.core refl e);
-    served = λ client seq op after effect is by tx w e. absurd (not_yet after.core (ap bond_of is) e);
+    same = λ d effect dull by tx w e. absurd (unheard e);
+    served = λ client seq op after effect is by tx w e. absurd (unheard (sym (ap bond_of is) ∙ e));
     joined = λ node order by tx w e. cc;
     left = λ node order by tx w e. cc;
     parted = λ at child order r by tx w e. cc;
@@ -240,3 +234,31 @@ module _ (group : Group) (tx1 asked1 tx2 asked part : Draw) (host : ℕ) (was : 
     ended = λ d t ends free2 after outcome r by tx w e. absurd (ends_free (decided_group after t outcome).core refl e);
     finished = λ t binds after outcome r by tx w e. cc;
   }) c
+
+-- ---- a coordinator
+
+-- by the first entry nobody is heard
+not_first : (core : Core) (body : Body) (part : Draw) (host : ℕ) → Next part host ≡ turn_of core body None → ⊥
+not_first core At.Merge part host e = cc
+not_first core (At.Repart at) part host e = cc
+not_first core (At.Migrate node) part host e = cc
+not_first core (At.Split at child) part host e = cc
+
+-- a group that was free has begun a transaction, and then heard its participant
+pub record HasBoth (group : Group) (tx asked part : Draw) (made : Group) : Type 0 where
+  pub middle : Group
+  pub first : Draw
+  pub turn : Turn
+  pub opened : IsOpened group tx first turn middle
+  pub heard : HasHeard middle asked part made
+
+pub both_by : (group : Group) → group.core.lock ≡ Free → (tx tx2 asked part : Draw) (host by : ℕ) (c d : Command) → work_by c ≡ Some (Opens tx) → BeginsSo c → work_by d ≡ Some (Records tx false true by)
+    → bond_of (applied (applied group c).0 d).0.core ≡ Asking tx2 asked (Next part host) → HasBoth group tx asked part (applied (applied group c).0 d).0
+both_by group free tx tx2 asked part host by c d w so v e =
+    let middle : Group = (applied group c).0 in
+    let none : bond_of middle.core ≡ Asking tx2 asked (Next part host) → ⊥ = λ b. (let o = opened_by group free tx tx2 asked (Next part host) c w so b in not_first group.core o.body part host o.turn_is) in
+    let h = heard_by middle tx2 asked part host none d by tx v e in
+    let turn = turn_of middle.core At.Merge h.got in
+    let first = Rattle.sc_node_table.specs.Questions.asked_link middle.core At.Merge h.got in
+    let bond : bond_of middle.core ≡ Asking h.tx first.group turn = ap (λ l. bond_in l middle.core) h.lock in
+    record { middle = middle; first = first.group; turn = turn; opened = opened_by group free tx h.tx first.group turn c w so bond; heard = h }

@@ -1,3 +1,4 @@
 pub mod Deeds
 pub mod New
 pub mod Told
+pub mod Under
