@@ -1,5 +1,5 @@
 -- What holds while an order is under way since a quiet front of a calm journal.
-use Rattle.std.specs.Prelude.{◌≡◌, ℕ, true, Some, None, ◌⊎◌, ⊥}
+use Rattle.std.specs.Prelude.{◌≡◌, ℕ, List, true, Some, None, ◌⊎◌}
 use Rattle.sc_base.specs.Among.{Among, Each}
 use Rattle.sc_base.specs.declared.names.Draw.{Draw}
 use Rattle.sc_cmd.specs.declared.cores.Base.{Base}
