@@ -2,3 +2,4 @@ pub mod Deeds
 pub mod New
 pub mod Told
 pub mod Under
+pub mod Unsettled
