@@ -1,0 +1,10 @@
+pub mod Doers
+pub mod Late
+pub mod Names
+pub mod Opened
+pub mod Parties
+pub mod Pending
+pub mod Quiet
+pub mod Stepping
+pub mod Told
+pub mod Unsettled

@@ -1,0 +1,76 @@
+-- Which names replicas have after some rows, and that a name that is new is none of them.
+use Rattle.std.proofs.Common.{◌≡◌, ℕ, ◌≤◌, ◌<◌, zero, suc, eqb, Bool, true, false, List, [], ◌∷◌, ◌++◌, Option, Some, None, find, option_map, length, inl, inr, refl, sym, ◌∙◌, ap, subst}
+use Rattle.std.proofs.lemmas.Bool.{cases_Bool}
+use Rattle.sc_base.specs.Among.{Among, Each}
+use Rattle.sc_base.specs.Same.{same_draw}
+use Rattle.sc_base.specs.declared.names.Draw.{Draw}
+use Rattle.sc_base.proofs.NameLemmas.{draw_is}
+use Rattle.sc_actor.specs.declared.actors.Seat.{Seat}
+use Rattle.sc_actor.specs.Replay.{value}
+use Rattle.sc_cmd.specs.declared.cores.Base.{Base}
+use Rattle.sc_cmd.specs.declared.cores.Core.{Core}
+use Rattle.sc_cmd.specs.declared.votes.Outcome.{Outcome}
+use Rattle.sc_cmd.specs.declared.votes.Past.{Past}
+use Rattle.sc_mail.specs.declared.roles.Role.TheVariants.{Node, Client}
+use Rattle.sc_node_table.specs.Node.{NodeState, replica_of}
+use Rattle.sc_node_table.specs.Replica.{ReplicaState, name_of}
+use Rattle.sc_node_table.specs.Transactions.{noted_outcome, noted_vote}
+use Rattle.sc_paxos_words.proofs.ListLemmas.{Each-among, Each-append, Each-weaker, find_found, find_nothing}
+use Rattle.sc_scenario.specs.Groups.{base_at, bases_up_to}
+use Rattle.sc_scenario.specs.Valid.{IsBounded}
+use Rattle.sc_scenario.specs.declared.drafts.GroupLine.{GroupLine}
+use Rattle.sc_scenario.specs.declared.scenarios.Scenario.{Scenario}
+use Rattle.sc_sound.specs.Players.{Lawful, Player, as_nodes, births, player_table}
+use Rattle.sc_names_law.specs.Fresh.{AllNames, BeginsUndrawn, IsUsed, NamesAreDrawn}
+use Rattle.sc_names_law.specs.Names.{CoreNames, HeldNames, NodeNames, OutcomeNames, PastNames, PlayerNames, ReplicaNames}
+use Rattle.sc_calm_law.specs.Totals.{Rows}
+use Rattle.sc_calm_rows_law.specs.Groups.{replica_in, view_at}
+use Rattle.sc_calm_true_law.specs.New.{IsUnused}
+
+-- ---- the groups of a scenario
+
+undrawn_to : (lines : List GroupLine) (n : ℕ) → Each BeginsUndrawn (bases_up_to lines n)
+undrawn_to lines zero = tt
+undrawn_to lines (suc n) =
+    Each-append BeginsUndrawn (bases_up_to lines n) (base_at lines n ∷ []) (undrawn_to lines n)
+    (record { id = refl; succ = refl; pred = refl; free = refl; decided = refl; voted = refl; born = refl; here = refl }, tt)
+
+pub undrawn : (scenario : Scenario) → IsBounded scenario → Each BeginsUndrawn scenario.groups
+undrawn scenario bounded = subst (Each BeginsUndrawn) (sym bounded.groups) (undrawn_to bounded.starts (length bounded.starts))
+
+-- ---- replicas
+
+module _ (K : Draw → Type 0) (name : Draw) (rows : Rows) (r : ReplicaState) where
+  in_player : (player : Player) → PlayerNames K player → replica_of name (Rattle.sc_calm_rows_law.specs.Groups.replicas_of player) ≡ Some r → ReplicaNames K r
+  in_player (Node node) k e = Each-among (ReplicaNames K) node.replicas r k (find_found (λ (s : ReplicaState). same_draw (name_of s) name) node.replicas r e).0
+  in_player (Client client) k e = cc
+
+  in_seat : (seats : List (Seat Player)) → ((seat : Seat Player) → Among seat seats → PlayerNames K (value player_table seat rows)) → (who : ℕ) (o : Option (Seat Player)) → find (λ (seat : Seat Player). eqb seat.who who) seats ≡ o → replica_in name rows o ≡ Some r
+      → ReplicaNames K r
+  in_seat seats all who None e has = cc
+  in_seat seats all who (Some seat) e has = in_player (value player_table seat rows) (all seat (find_found (λ (s : Seat Player). eqb s.who who) seats seat e).0) has
+
+-- each replica names what is in use
+pub used_in : NamesAreDrawn → (words : ℕ → ℕ → ℕ × ℕ) (scenario : Scenario) (rows : Rows) → IsBounded scenario → Lawful as_nodes words scenario rows → (name : Draw) (who : ℕ) (r : ReplicaState) → view_at (births as_nodes scenario) rows name who ≡ Some r
+    → CoreNames (IsUsed as_nodes scenario rows) r.group.core
+used_in drawn words scenario rows bounded lawful name who r has =
+    let all = (drawn as_nodes words scenario (undrawn scenario bounded) rows lawful).0 in
+    (in_seat (IsUsed as_nodes scenario rows) name rows r (births as_nodes scenario) all.players who (find (λ (seat : Seat Player). eqb seat.who who) (births as_nodes scenario)) refl has).core
+
+-- ---- a name that is new
+
+module _ (K : Draw → Type 0) (tx : Draw) (new : K tx → ⊥) where
+  not_it : (name : Draw) → K name → same_draw name tx ≡ false
+  not_it name k = elim (cases_Bool (same_draw name tx)) [ inl t ↦ absurd (new (subst K (draw_is name tx t) k)) | inr f ↦ f ]
+
+  pub unvoted : (core : Core) → CoreNames K core → noted_vote core tx ≡ None
+  unvoted core k =
+      ap (option_map (λ (noted : Draw × Past). noted.1))
+      (find_nothing (λ (noted : Draw × Past). same_draw noted.0 tx) core.voted
+      (Each-weaker (λ (v : Draw × Past). K v.0 × PastNames K v.1) (λ (v : Draw × Past). same_draw v.0 tx ≡ false) (λ v kv. not_it v.0 kv.0) core.voted k.voted))
+
+  pub undecided : (core : Core) → CoreNames K core → noted_outcome core tx ≡ None
+  undecided core k =
+      ap (option_map (λ (noted : Draw × Outcome). noted.1))
+      (find_nothing (λ (noted : Draw × Outcome). same_draw noted.0 tx) core.decided
+      (Each-weaker (λ (d : Draw × Outcome). K d.0 × OutcomeNames K d.1) (λ (d : Draw × Outcome). same_draw d.0 tx ≡ false) (λ d kd. not_it d.0 kd.0) core.decided k.decided))

@@ -1,0 +1,5 @@
+pub mod Deeds
+pub mod New
+pub mod Told
+pub mod Under
+pub mod Unsettled

@@ -1,0 +1,40 @@
+-- That an order's transaction has a name that was nowhere in the quiet before it.
+use Rattle.std.specs.Prelude.{List, [], ◌∷◌, Option, Some, None}
+use Rattle.sc_base.specs.Among.{Each}
+use Rattle.sc_base.specs.declared.names.Draw.{Draw}
+use Rattle.sc_node_table.specs.Replica.{listed}
+use Rattle.sc_names_law.specs.Fresh.{IsUsed}
+use Rattle.sc_scenario.specs.declared.scenarios.Scenario.{Scenario}
+use Rattle.sc_sound.specs.Players.{as_nodes}
+use Rattle.sc_calm_law.specs.Totals.{Rows}
+use Rattle.sc_calm_orders_law.specs.Scenes.{Work, Changes, Opens, Answers, Records, GivesUp, Ends}
+use Rattle.sc_calm_orders_law.specs.Stages.{Stage, Still, Ordered, Asks, SentOn, Weighs, Replied, Recorded, Closes, ClosesBoth}
+
+-- the transaction that an order may begin
+abbrev pub opened_by : Work → Option Draw
+opened_by (Opens tx) = Some tx
+opened_by Changes = None
+opened_by (Answers tx coord watch by) = None
+opened_by (Records tx watch agreed by) = None
+opened_by (GivesUp tx) = None
+opened_by (Ends tx) = None
+
+-- the transaction of a stage, if it has one
+abbrev pub tx_of : Stage → Option Draw
+tx_of Still = None
+tx_of (Ordered group chief work) = opened_by work
+tx_of (Asks deal to) = Some deal.tx
+tx_of (SentOn deal) = Some deal.tx
+tx_of (Weighs deal host) = Some deal.tx
+tx_of (Replied deal agreed host) = Some deal.tx
+tx_of (Recorded deal agreed host) = Some deal.tx
+tx_of (Closes tx party) = Some tx
+tx_of (ClosesBoth tx one two) = Some tx
+
+-- a name is not in use after these rows: it is none of the scenario, and none that was drawn in them
+abbrev pub IsUnused : Scenario → Rows → Draw → Type 0
+IsUnused scenario rows name = IsUsed as_nodes scenario rows name → ⊥
+
+-- the transaction of a stage has a name that was not in use in the quiet
+abbrev pub IsOfNew : Scenario → Rows → Stage → Type 0
+IsOfNew scenario quiet stage = Each (IsUnused scenario quiet) (listed (tx_of stage))

@@ -1,0 +1,63 @@
+-- What is allowed in the logs of groups by all that a journal tells, and what of that the lock of a replica's group says.
+use Rattle.std.specs.Prelude.{◌≡◌, ℕ, ◌≤◌, true, length, Option, Some}
+use Rattle.sc_base.specs.Among.{Each}
+use Rattle.sc_base.specs.declared.names.Draw.{Draw}
+use Rattle.sc_actor.specs.declared.actors.Seat.{Seat}
+use Rattle.sc_cmd.specs.declared.bodies.Body.{Body}
+use Rattle.sc_cmd.specs.declared.bodies.Body.TheVariants as At
+use Rattle.sc_cmd.specs.declared.bodies.Offer.{Offer}
+use Rattle.sc_cmd.specs.declared.bodies.Watch.{Watch}
+use Rattle.sc_cmd.specs.declared.commands.Command.{Command}
+use Rattle.sc_cmd.specs.declared.commands.Command.TheVariants.{Prepared, RecordVote, Watched}
+use Rattle.sc_cmd.specs.declared.cores.Base.{Base}
+use Rattle.sc_cmd.specs.declared.cores.Lock.TheVariants.{Coordinating, Promised, Watching}
+use Rattle.sc_cmd.specs.declared.votes.Frozen.{Frozen}
+use Rattle.sc_cmd.specs.declared.votes.Heard.{Heard}
+use Rattle.sc_cmd.specs.declared.votes.Vote.TheVariants as Vows
+use Rattle.sc_member.specs.Union.{united}
+use Rattle.sc_machine_table.specs.Group.{Group}
+use Rattle.sc_machine_table.specs.Plans.{can_split, frozen_of}
+use Rattle.sc_node_table.specs.Node.{NodeState}
+use Rattle.sc_node_table.specs.Replica.{ReplicaState}
+use Rattle.sc_paxos_words.specs.declared.flights.Flight.{Flight}
+use Rattle.sc_scenario.specs.declared.scenarios.Scenario.{Scenario}
+use Rattle.sc_sound.specs.Players.{Player, as_nodes}
+use Rattle.sc_ring_law.specs.Allowed.{Sources, IsAllowed}
+use Rattle.sc_ring_law.specs.Stories.{offer_for, unsigned, unsigned_watch, watch_for}
+use Rattle.sc_names_law.specs.Owners.{owner_in}
+use Rattle.sc_whole_law.specs.Begins.{section_op}
+use Rattle.sc_whole_law.specs.Parameters.{stories_at}
+use Rattle.sc_calm_law.specs.Totals.{Rows}
+use Rattle.sc_calm_logs_law.specs.Logged.{HasReplica, IsGroupOf}
+
+-- whose each name of a journal is, and what clients ask
+abbrev pub sources_of : Scenario → Rows → Sources
+sources_of scenario journal = record { owner = owner_in as_nodes scenario journal; request = section_op scenario }
+
+-- a command is allowed in the log of a group by what the logs of a journal tell
+abbrev pub IsAllowedBy : Scenario → Rows → Draw → Command → Type 0
+IsAllowedBy scenario journal name command = IsAllowed (sources_of scenario journal) (stories_at as_nodes scenario.groups journal) name command
+
+-- What the lock of a group says: who coordinates may be answered, and has heard what was voted, by a merge alone, and can be split if it is to be; who has promised was asked to, and may be heard; and who watches was asked to.
+pub record LockTells (scenario : Scenario) (journal : Rows) (name : Draw) (group : Group) : Type 0 where
+  pub offers : (tx : Draw) (body : Body) (order : ℕ) (heard : Option Heard) → group.core.lock ≡ Coordinating tx body order heard
+      → (offer : Offer) → offer_for group.core body ≡ Some (unsigned offer) → IsAllowedBy scenario journal offer.part (Prepared tx offer)
+  pub asks : (tx : Draw) (body : Body) (order : ℕ) (heard : Option Heard) → group.core.lock ≡ Coordinating tx body order heard
+      → (watch : Watch) → watch_for group.core body heard ≡ Some (unsigned_watch watch) → IsAllowedBy scenario journal watch.part (Watched tx watch)
+  pub heard : (tx : Draw) (body : Body) (order : ℕ) (heard : Heard) → group.core.lock ≡ Coordinating tx body order (Some heard) → (body ≡ At.Merge) × IsAllowedBy scenario journal name (RecordVote tx (Vows.Yes heard.frozen) 0)
+  pub splits : (tx : Draw) (at : ℕ) (child : Draw) (order : ℕ) (heard : Option Heard) → group.core.lock ≡ Coordinating tx (At.Split at child) order heard → can_split group.core at ≡ true
+  pub promises : (tx : Draw) (offer : Offer) → group.core.lock ≡ Promised tx offer → IsAllowedBy scenario journal name (Prepared tx offer) × IsAllowedBy scenario journal name (RecordVote tx (Vows.Yes (frozen_of group)) 0)
+  pub watches : (tx : Draw) (watch : Watch) → group.core.lock ≡ Watching tx watch → IsAllowedBy scenario journal name (Watched tx watch)
+
+-- So it is of each replica of a group after first rows of the journal; what it has in flight is allowed there; and of one transaction the participant is not the watcher, and both groups of a merge fit together.
+pub record ReplicasTell : Type 0 where
+  pub locks : (words : ℕ → ℕ → ℕ × ℕ) (scenario : Scenario) (journal : Rows) (base : Base) → IsGroupOf as_nodes words scenario journal base
+      → (rows : Rows) (seat : Seat Player) (node : NodeState) (r : ReplicaState) → HasReplica as_nodes scenario journal base rows seat node r → LockTells scenario journal base.core.id r.group
+  pub flights : (words : ℕ → ℕ → ℕ × ℕ) (scenario : Scenario) (journal : Rows) (base : Base) → IsGroupOf as_nodes words scenario journal base
+      → (rows : Rows) (seat : Seat Player) (node : NodeState) (r : ReplicaState) → HasReplica as_nodes scenario journal base rows seat node r
+      → Each (λ (flight : Flight Command). IsAllowedBy scenario journal base.core.id flight.value) r.leader.flights
+  pub apart : (words : ℕ → ℕ → ℕ × ℕ) (scenario : Scenario) (journal : Rows) (base : Base) → IsGroupOf as_nodes words scenario journal base
+      → (tx one other : Draw) (offer : Offer) (watch : Watch) → IsAllowedBy scenario journal one (Prepared tx offer) → IsAllowedBy scenario journal other (Watched tx watch) → one ≡ other → ⊥
+  pub fits : (words : ℕ → ℕ → ℕ × ℕ) (scenario : Scenario) (journal : Rows) (base : Base) → IsGroupOf as_nodes words scenario journal base
+      → (tx one other : Draw) (offer : Offer) (frozen : Frozen) (by : ℕ) → offer.body ≡ At.Merge → IsAllowedBy scenario journal one (Prepared tx offer) → IsAllowedBy scenario journal other (RecordVote tx (Vows.Yes frozen) by)
+      → length (united offer.members frozen.members) ≤ 9

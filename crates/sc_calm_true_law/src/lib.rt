@@ -1,0 +1,31 @@
+//! What the commands and the mail of one order are at the group that takes them, since the quiet
+//! before it. Definitions and laws, no logic.
+#![tactic(auto)]
+
+ghost use Rattle.sc_calm_true_law.specs.Told.{ReplicasTell};
+ghost use Rattle.sc_calm_true_law.specs.Unsettled.{MailComesUnsettled};
+
+use sc_names_law::{drawn_names_are_new, names_have_one_owner, orders_are_allowed};
+use sc_scenario::valid_scenarios_are_bounded;
+use sc_whole_law::valid_scenarios_begin_well;
+
+/// What the lock of each replica's group says was told, and what a replica has in flight is allowed
+/// in its group's log, by what all logs of the journal tell.
+pub fn replicas_tell()
+    ensures { ReplicasTell }
+{
+    valid_scenarios_are_bounded();
+    valid_scenarios_begin_well();
+    orders_are_allowed();
+    names_have_one_owner();
+}
+
+/// A question that is under way since a quiet journal finds that no vote stands on it, since its
+/// transaction's name is new and the group that is asked is as it was; and a vote finds that no
+/// outcome is noted at its coordinator.
+pub fn mail_comes_unsettled()
+    ensures { MailComesUnsettled }
+{
+    valid_scenarios_are_bounded();
+    drawn_names_are_new();
+}
