@@ -83,10 +83,10 @@ none_behind [] x back e = cc
 none_behind (y ∷ front) x back e = cc
 
 -- first rows of a journal in time are in time
-front_timely : (words : ℕ → ℕ → ℕ × ℕ) (scenario : Scenario) (journal rows : Rows) → IsCalmJournal words scenario journal → IsFront journal rows → AreInTime (players words (births as_nodes scenario)) rows
+pub front_timely : (words : ℕ → ℕ → ℕ × ℕ) (scenario : Scenario) (journal rows : Rows) → IsCalmJournal words scenario journal → IsFront journal rows → AreInTime (players words (births as_nodes scenario)) rows
 front_timely words scenario journal rows calm front before row after e = calm.timely before row (after ++ front.more) (front.is ∙ (ap (λ l. l ++ front.more) e ∙ append_assoc before (row ∷ after) front.more))
 
-front_short : (words : ℕ → ℕ → ℕ × ℕ) (scenario : Scenario) (journal rows : Rows) → IsCalmJournal words scenario journal → IsFront journal rows → length rows ≤ 2 ^ 28
+pub front_short : (words : ℕ → ℕ → ℕ × ℕ) (scenario : Scenario) (journal rows : Rows) → IsCalmJournal words scenario journal → IsFront journal rows → length rows ≤ 2 ^ 28
 front_short words scenario journal rows calm front = (let long = ap length front.is in let sum = length-append rows front.more in let short = calm.short in omega (arith, long, sum, short))
 
 -- what a setting with other ways counts as

@@ -1,0 +1,53 @@
+-- Mail that has no mark for any group is nothing to requests.
+use Rattle.std.proofs.Common.{◌≡◌, ℕ, cond, true, false, Bool, List, [], ◌∷◌, ◌++◌, Option, Some, None, refl, sym, ◌∙◌, ap}
+use Rattle.sc_base.specs.Among.{Each}
+use Rattle.sc_base.specs.Same.{same_draw}
+use Rattle.sc_base.specs.declared.names.Draw.{Draw}
+use Rattle.sc_mail.specs.declared.bodies.Mail.{Mail}
+use Rattle.sc_mail.specs.declared.bodies.MailBody.{MailBody}
+use Rattle.sc_mail.specs.declared.bodies.MailBody.TheVariants.{Request, Answer, Prepare, Promise, Accept, Accepted, Nack, Learn, Ask, Install, TxPrepare, TxVote, TxOutcome, TxElsewhere, TxWatch, TxWatched, Told}
+use Rattle.sc_node_table.specs.Replica.{listed}
+use Rattle.sc_following_law.specs.Following.{Mark, marks_of, mark_of}
+use Rattle.sc_budget_law.specs.Between.{Mark as AskMark, Other, mark, mark_of as ask_mark}
+
+no_some : {X : Type 0} {x : X} {b : Bool} → b ≡ true → cond b (Some x) None ≡ None → ⊥
+no_some {X} {x} {b} t e = (let bad : Some x ≡ None = sym (ap (λ y. cond y (Some x) None) t) ∙ e in cc)
+
+-- a name that is not the one of a mark
+module _ (b : Bool) (m : Mark) (a : AskMark) where
+  not_asked : cond b (Some m) None ≡ None → cond b a Other ≡ Other
+  not_asked e = by b refl
+    where
+      by : (c : Bool) → b ≡ c → cond b a Other ≡ Other
+      by true t = absurd (no_some t e)
+      by false f = ap (λ x. cond x a Other) f
+
+other : (name : Draw) (from : ℕ) (body : MailBody) → mark_of name from body ≡ None → ask_mark name from body ≡ Other
+other name from (Accept group ballot slot command) e = not_asked (same_draw group name) _ _ e
+other name from (Accepted group ballot slot) e = not_asked (same_draw group name) _ _ e
+other name from (Learn group slot command) e = not_asked (same_draw group name) _ _ e
+other name from (Request group client seq op) e = refl
+other name from (Answer group seq answer) e = refl
+other name from (Prepare group ballot from_slot) e = refl
+other name from (Promise group ballot reports) e = refl
+other name from (Nack group promised) e = refl
+other name from (Ask group from_slot) e = refl
+other name from (Install group slot base sets) e = refl
+other name from (TxPrepare tx offer) e = refl
+other name from (TxVote tx coord part vote) e = refl
+other name from (TxOutcome tx part outcome) e = refl
+other name from (TxElsewhere tx coord hint) e = refl
+other name from (TxWatch tx watch) e = refl
+other name from (TxWatched tx coord part vote) e = refl
+other name from (Told order result) e = refl
+
+none_first : (o : Option Mark) (marks : List Mark) → listed o ++ marks ≡ [] → (o ≡ None) × (marks ≡ [])
+none_first None marks e = (refl, e)
+none_first (Some m) marks e = cc
+
+pub desk_marks : (mails : List Mail) → ((name : Draw) → marks_of name mails ≡ []) → Each (λ mail. (name : Draw) → mark name mail ≡ Other) mails
+desk_marks [] none = tt
+desk_marks (mail ∷ mails) none = (
+  λ name. other name mail.from mail.body (none_first (mark_of name mail.from mail.body) (marks_of name mails) (none name)).0,
+  desk_marks mails (λ name. (none_first (mark_of name mail.from mail.body) (marks_of name mails) (none name)).1),
+)

@@ -1,0 +1,4 @@
+pub mod Desk
+pub mod Ending
+pub mod Nodes
+pub mod Viewing

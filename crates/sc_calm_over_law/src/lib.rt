@@ -1,0 +1,38 @@
+//! That a quiet front of a calm journal rests. Definitions and laws, no logic.
+#![tactic(auto)]
+
+ghost use Rattle.sc_calm_over_law.specs.Ending.{QuietFrontsRest};
+
+use sc_calm_groups_law::{nodes_are_born_topped, nodes_keep_tops, quiet_groups_are_led};
+use sc_calm_known_law::{
+    fronts_are_found, fronts_are_known, fronts_are_linked, fronts_are_reachable, fronts_are_taken_in,
+    quiet_fronts_have_groups, quiet_logs_are_executed, still_fronts_are_free,
+};
+use sc_calm_rests_law::{
+    quiet_groups_are_gone, quiet_groups_stand, quiet_replicas_are_kept, quiet_replicas_rest,
+};
+use sc_calm_sent_law::sent_replicas;
+use sc_scenario::valid_scenarios_are_bounded;
+
+/// A quiet front of a calm journal rests, by what is known of its replicas, clients and notes.
+pub fn quiet_fronts_rest()
+    ensures { QuietFrontsRest }
+{
+    valid_scenarios_are_bounded();
+    fronts_are_found();
+    quiet_fronts_have_groups();
+    quiet_logs_are_executed();
+    fronts_are_known();
+    fronts_are_reachable();
+    fronts_are_taken_in();
+    fronts_are_linked();
+    still_fronts_are_free();
+    quiet_groups_stand();
+    quiet_groups_are_gone();
+    quiet_replicas_rest();
+    quiet_replicas_are_kept();
+    quiet_groups_are_led();
+    nodes_keep_tops();
+    nodes_are_born_topped();
+    sent_replicas();
+}
