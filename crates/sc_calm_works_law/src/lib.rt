@@ -1,0 +1,19 @@
+//! What stands at groups while an order is under way. Definitions and laws, no logic.
+#![tactic(auto)]
+
+ghost use Rattle.sc_calm_works_law.specs.Works.{DeliveriesKeepWork, OrdersBeginWork, WorkStandsAlone};
+
+use sc_calm_groups_law::scenarios_are_well_born;
+
+/// While an order is under way, what stands at groups stays what the order may make of them, by
+/// each delivery: no call, no filler, no request and no answer.
+pub fn deliveries_keep_work()
+    ensures { DeliveriesKeepWork }
+{
+    scenarios_are_well_born();
+}
+
+/// So nothing but work is in flight or ready at a replica.
+pub fn work_stands_alone()
+    ensures { WorkStandsAlone }
+{}
