@@ -1,4 +1,5 @@
 pub mod Doers
+pub mod Going
 pub mod Late
 pub mod Names
 pub mod Opened

@@ -1,4 +1,5 @@
 pub mod Deeds
+pub mod Going
 pub mod New
 pub mod Told
 pub mod Under
