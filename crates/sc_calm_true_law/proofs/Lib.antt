@@ -8,4 +8,5 @@ pub mod Pending
 pub mod Quiet
 pub mod Stepping
 pub mod Told
+pub mod Took
 pub mod Unsettled
