@@ -1,7 +1,9 @@
+pub mod Beginning
 pub mod Doers
 pub mod Going
 pub mod Late
 pub mod Names
+pub mod Numbers
 pub mod Opened
 pub mod Parties
 pub mod Pending

@@ -1,3 +1,4 @@
+pub mod Beginning
 pub mod Deeds
 pub mod Going
 pub mod New

@@ -2,11 +2,12 @@
 //! before it. Definitions and laws, no logic.
 #![tactic(auto)]
 
+ghost use Rattle.sc_calm_true_law.specs.Beginning.{TrueOrdersBegin};
 ghost use Rattle.sc_calm_true_law.specs.Going.{AskedGroupsStood, TrueOrdersGoOn};
 ghost use Rattle.sc_calm_true_law.specs.Told.{ReplicasTell};
 ghost use Rattle.sc_calm_true_law.specs.Unsettled.{MailComesUnsettled};
 
-use sc_names_law::{drawn_names_are_new, names_have_one_owner, orders_are_allowed};
+use sc_names_law::{counters_part_names, drawn_names_are_new, names_have_one_owner, orders_are_allowed};
 use sc_scenario::valid_scenarios_are_bounded;
 use sc_whole_law::valid_scenarios_begin_well;
 
@@ -46,4 +47,16 @@ pub fn true_orders_go_on()
     ensures { TrueOrdersGoOn }
 {
     replicas_tell();
+}
+
+/// What is known of an order since a quiet journal is so from when it is told: the name that its
+/// node draws was not in use, and its leader has executed nothing.
+pub fn true_orders_begin()
+    ensures { TrueOrdersBegin }
+{
+    valid_scenarios_are_bounded();
+    valid_scenarios_begin_well();
+    orders_are_allowed();
+    names_have_one_owner();
+    counters_part_names();
 }
