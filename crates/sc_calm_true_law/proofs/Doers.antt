@@ -65,7 +65,7 @@ same_one : (one other : Work) → one ∷ [] ≡ other ∷ [] → one ≡ other
 same_one one other e = cc
 
 module _ (words : ℕ → ℕ → ℕ × ℕ) (births : List (Seat Player)) (quiet rows : Rows) (seat : Seat Player) (number : ℕ) (born : IsSeat births seat) (timely : AreInTime (players words births) (with_event rows seat (Deliver number)))
-    (finds : FindsOrder words births rows seat (Deliver number)) (begin_so : FlightsBeginSo births rows) (before : Stage) (stands : IsAt before (scene_at births rows)) where
+    (finds : FindsOrder words births rows seat (Deliver number)) (begin_so : FlightsBeginSo births quiet rows) (before : Stage) (stands : IsAt before (scene_at births rows)) where
   abbrev now : Scene
   now = scene_at births rows
 
@@ -112,7 +112,7 @@ module _ (words : ℕ → ℕ → ℕ × ℕ) (births : List (Seat Player)) (qui
         ]
         by (Executed flight other among had is gone made) =
             let same : other ≡ work = same_one other work (sym had ∙ (was_work ∙ one)) in
-            let so : BeginsSo flight.value = Each-among (λ (f : Flight Command). BeginsSo f.value) d.now.leader.flights flight (begin_so it.group it.host d.now d.is (lead_runs_so births rows it.group it.host d.now led d.is)) among in
+            let so : BeginsSo flight.value = Each-among (λ (f : Flight Command). BeginsSo f.value) d.now.leader.flights flight (begin_so it.group it.host d.now (it.host, d.first, d.was) d.is (lead_runs_so births rows it.group it.host d.now led d.is)) among in
             record {
               first = d.first;
               was = d.was;
@@ -149,11 +149,11 @@ module _ (words : ℕ → ℕ → ℕ × ℕ) (births : List (Seat Player)) (qui
   abbrev works_on : (name : Draw) (work : Work) → (after.at name).work ≡ work ∷ [] → ((now.at name).work ≡ []) ⊎ ((after.at name).work ≡ [] → ⊥)
   works_on name work e = inr (one_not_none work (after.at name).work e)
 
-  abbrev Kept : Stage → Stage → Type 0
+  abbrev pub Kept : Stage → Stage → Type 0
   Kept stage later = IsAt stage now → IsAt later after → Each Was (doers_of stage) → Each Has (doers_of later)
 
   -- a stage that stays
-  stays : (stage : Stage) → Kept stage stage
+  pub stays : (stage : Stage) → Kept stage stage
   stays Still a b d = tt
   stays (Ordered group chief work) a b d = (keeps (doer group chief []) d.0 a.leads.0 b.leads.0 (works_on group work (ap (λ (h : Here). h.work) b.parties.0.0)), tt)
   stays (Asks deal host) a b d = (

@@ -1,10 +1,14 @@
+pub mod Beginning
 pub mod Doers
+pub mod Going
 pub mod Late
 pub mod Names
+pub mod Numbers
 pub mod Opened
 pub mod Parties
 pub mod Pending
 pub mod Quiet
 pub mod Stepping
 pub mod Told
+pub mod Took
 pub mod Unsettled

@@ -1,7 +1,7 @@
 -- What a journal tells of its replicas' locks, and of what they have in flight.
 use Rattle.std.proofs.Common.{◌≡◌, ℕ, ◌≤◌, List, [], ◌++◌, drop, length, Some, refl, sym, ◌∙◌, ap, subst}
 use Rattle.std.proofs.lemmas.Option.{same_Some}
-use Rattle.sc_base.specs.Among.{Each}
+use Rattle.sc_base.specs.Among.{Among, Each}
 use Rattle.sc_base.specs.declared.names.Draw.{Draw}
 use Rattle.sc_actor.specs.declared.actors.Seat.{Seat}
 use Rattle.sc_cmd.specs.declared.bodies.Body.TheVariants as At
@@ -21,11 +21,11 @@ use Rattle.sc_node_table.specs.Replica.{ReplicaState}
 use Rattle.sc_paxos_words.specs.declared.flights.Flight.{Flight}
 use Rattle.sc_paxos_words.proofs.ListLemmas.{Each-among, Each-weaker}
 use Rattle.sc_paxos_law.specs.Chosen.{IsLog}
-use Rattle.sc_scenario.specs.Valid.{ValidScenariosAreBounded}
+use Rattle.sc_scenario.specs.Valid.{IsValid, ValidScenariosAreBounded}
 use Rattle.sc_scenario.specs.declared.scenarios.Scenario.{Scenario}
 use Rattle.sc_sound.specs.GroupsOf.{entries_at, groups_at}
 use Rattle.sc_sound.specs.Logs.{decided_log}
-use Rattle.sc_sound.specs.Players.{Player, as_nodes, route_of}
+use Rattle.sc_sound.specs.Players.{Lawful, Player, as_nodes, route_of}
 use Rattle.sc_ring_law.specs.Allowed.{Sources, IsAllowed}
 use Rattle.sc_ring_law.specs.Stories.{Story, unsigned, unsigned_watch}
 use Rattle.sc_log_law.specs.Allows.{AllowsAsItStands, GroupAllows}
@@ -52,10 +52,23 @@ use Rattle.sc_whole_law.proofs.Turning.{Holds}
 use Rattle.sc_calm_law.specs.Totals.{Rows}
 use Rattle.sc_calm_logs_law.specs.Logged.{HasReplica, IsGroupOf}
 use Rattle.sc_calm_logs_law.proofs.Along.{IsAlong}
-use Rattle.sc_calm_logs_law.proofs.Journals.{along, flying, found, fronts, part, roster, whole}
+use Rattle.sc_calm_logs_law.proofs.Journals.{along, flying, found, fronts, part, stay, whole}
 use Rattle.sc_calm_true_law.specs.Told.{IsAllowedBy, LockTells, ReplicasTell, sources_of}
 
 module _ (bounded : ValidScenariosAreBounded) (begin : ValidScenariosBeginWell) (allowed : TakenOrdersAreAllowed) (wishes : TakenWishesAreAllowed) (positions : WishesAreAtPositions) (free : OtherNamesAreFree) where
+  -- a group of first rows is one of the journal
+  stays_named : (words : ℕ → ℕ → ℕ × ℕ) (scenario : Scenario) (journal rows more : Rows) (base : Base) → IsValid scenario → Lawful as_nodes words scenario journal → journal ≡ rows ++ more → Among base (groups_at as_nodes scenario.groups rows)
+      → IsGroupOf as_nodes words scenario journal base
+  stays_named words scenario journal rows more base valid lawful is among =
+      let ready = begin (owner_in as_nodes scenario journal) (free as_nodes scenario journal) as_nodes refl scenario valid in
+      record {
+        open_slots = refl;
+        valid = valid;
+        lawful = lawful;
+        stands = subst (λ xs. Among base (groups_at as_nodes scenario.groups xs)) (sym is)
+            ((stay (sources_of scenario journal) as_nodes words scenario (route_of ready.first) ready.well journal (orders_allowed as_nodes words scenario (bounded scenario valid) allowed wishes positions journal lawful) lawful rows more is).groups base among);
+      }
+
   module _ (words : ℕ → ℕ → ℕ × ℕ) (scenario : Scenario) (journal : Rows) (base : Base) (group : IsGroupOf as_nodes words scenario journal base) where
     abbrev sources : Sources
     sources = sources_of scenario journal
@@ -161,6 +174,7 @@ module _ (bounded : ValidScenariosAreBounded) (begin : ValidScenariosBeginWell) 
 
   pub replicas_tell : ReplicasTell
   replicas_tell = record {
+    groups = stays_named;
     locks = λ words scenario journal base group rows seat node r has. locks_so words scenario journal base group rows seat node r has;
     flights = λ words scenario journal base group rows seat node r has. flights_so words scenario journal base group rows seat node r has;
     apart = λ words scenario journal base group tx one other offer watch o w e. apart_by words scenario journal base group tx one other offer watch o w e;

@@ -16,6 +16,7 @@ use Rattle.sc_calm_orders_law.specs.Parts.{work_by, works}
 use Rattle.sc_calm_orders_law.specs.Scenes.{Turn, First, Lone, Next, Work, Opens, Answers, Records}
 use Rattle.sc_calm_orders_law.specs.Stages.{Party, Stage, Still, Ordered, Asks, SentOn, Weighs, Replied, Recorded, Closes, ClosesBoth}
 use Rattle.sc_calm_rows_law.specs.Groups.{view_at}
+use Rattle.sc_calm_scenes_law.specs.Fresh.{IsThere}
 
 -- What a leader executed of an order: it opened a transaction, it heard its participant, it promised as a participant, or it voted.
 pub data Deed : Type 0 where
@@ -39,9 +40,10 @@ BeginsSo (Finish tx outcome) = Unit {0}
 BeginsSo (Watched tx watch) = Unit {0}
 BeginsSo (RecordWatch tx vote by) = Unit {0}
 
--- so does each that is in flight at a replica that runs
-abbrev pub FlightsBeginSo : List (Seat Player) → Rows → Type 0
-FlightsBeginSo births rows = (name : Draw) (node : ℕ) (r : ReplicaState) → view_at births rows name node ≡ Some r → r.running ≡ true → Each (λ (flight : Flight Command). BeginsSo flight.value) r.leader.flights
+-- so does each that is in flight at a replica that runs, of a group that was there in the quiet
+abbrev pub FlightsBeginSo : List (Seat Player) → Rows → Rows → Type 0
+FlightsBeginSo births quiet rows =
+    (name : Draw) (node : ℕ) (r : ReplicaState) → IsThere births quiet name → view_at births rows name node ≡ Some r → r.running ≡ true → Each (λ (flight : Flight Command). BeginsSo flight.value) r.leader.flights
 
 -- a command is one
 abbrev pub IsDeed : Deed → Command → Type 0

@@ -1,4 +1,6 @@
+pub mod Beginning
 pub mod Deeds
+pub mod Going
 pub mod New
 pub mod Told
 pub mod Under

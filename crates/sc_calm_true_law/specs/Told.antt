@@ -1,6 +1,6 @@
 -- What is allowed in the logs of groups by all that a journal tells, and what of that the lock of a replica's group says.
-use Rattle.std.specs.Prelude.{◌≡◌, ℕ, ◌≤◌, true, length, Option, Some}
-use Rattle.sc_base.specs.Among.{Each}
+use Rattle.std.specs.Prelude.{◌≡◌, ℕ, ◌≤◌, true, ◌++◌, length, Option, Some}
+use Rattle.sc_base.specs.Among.{Among, Each}
 use Rattle.sc_base.specs.declared.names.Draw.{Draw}
 use Rattle.sc_actor.specs.declared.actors.Seat.{Seat}
 use Rattle.sc_cmd.specs.declared.bodies.Body.{Body}
@@ -21,7 +21,9 @@ use Rattle.sc_node_table.specs.Node.{NodeState}
 use Rattle.sc_node_table.specs.Replica.{ReplicaState}
 use Rattle.sc_paxos_words.specs.declared.flights.Flight.{Flight}
 use Rattle.sc_scenario.specs.declared.scenarios.Scenario.{Scenario}
-use Rattle.sc_sound.specs.Players.{Player, as_nodes}
+use Rattle.sc_scenario.specs.Valid.{IsValid}
+use Rattle.sc_sound.specs.GroupsOf.{groups_at}
+use Rattle.sc_sound.specs.Players.{Lawful, Player, as_nodes}
 use Rattle.sc_ring_law.specs.Allowed.{Sources, IsAllowed}
 use Rattle.sc_ring_law.specs.Stories.{offer_for, unsigned, unsigned_watch, watch_for}
 use Rattle.sc_names_law.specs.Owners.{owner_in}
@@ -49,8 +51,10 @@ pub record LockTells (scenario : Scenario) (journal : Rows) (name : Draw) (group
   pub promises : (tx : Draw) (offer : Offer) → group.core.lock ≡ Promised tx offer → IsAllowedBy scenario journal name (Prepared tx offer) × IsAllowedBy scenario journal name (RecordVote tx (Vows.Yes (frozen_of group)) 0)
   pub watches : (tx : Draw) (watch : Watch) → group.core.lock ≡ Watching tx watch → IsAllowedBy scenario journal name (Watched tx watch)
 
--- So it is of each replica of a group after first rows of the journal; what it has in flight is allowed there; and of one transaction the participant is not the watcher, and both groups of a merge fit together.
+-- A group of first rows of a lawful journal of a valid scenario is one of the journal. So it is of each replica of a group after first rows of the journal; what it has in flight is allowed there; and of one transaction the participant is not the watcher, and both groups of a merge fit together.
 pub record ReplicasTell : Type 0 where
+  pub groups : (words : ℕ → ℕ → ℕ × ℕ) (scenario : Scenario) (journal rows more : Rows) (base : Base) → IsValid scenario → Lawful as_nodes words scenario journal → journal ≡ rows ++ more
+      → Among base (groups_at as_nodes scenario.groups rows) → IsGroupOf as_nodes words scenario journal base
   pub locks : (words : ℕ → ℕ → ℕ × ℕ) (scenario : Scenario) (journal : Rows) (base : Base) → IsGroupOf as_nodes words scenario journal base
       → (rows : Rows) (seat : Seat Player) (node : NodeState) (r : ReplicaState) → HasReplica as_nodes scenario journal base rows seat node r → LockTells scenario journal base.core.id r.group
   pub flights : (words : ℕ → ℕ → ℕ × ℕ) (scenario : Scenario) (journal : Rows) (base : Base) → IsGroupOf as_nodes words scenario journal base

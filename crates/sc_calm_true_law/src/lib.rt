@@ -2,10 +2,12 @@
 //! before it. Definitions and laws, no logic.
 #![tactic(auto)]
 
+ghost use Rattle.sc_calm_true_law.specs.Beginning.{TrueOrdersBegin};
+ghost use Rattle.sc_calm_true_law.specs.Going.{AskedGroupsStood, TrueOrdersGoOn};
 ghost use Rattle.sc_calm_true_law.specs.Told.{ReplicasTell};
 ghost use Rattle.sc_calm_true_law.specs.Unsettled.{MailComesUnsettled};
 
-use sc_names_law::{drawn_names_are_new, names_have_one_owner, orders_are_allowed};
+use sc_names_law::{counters_part_names, drawn_names_are_new, names_have_one_owner, orders_are_allowed};
 use sc_scenario::valid_scenarios_are_bounded;
 use sc_whole_law::valid_scenarios_begin_well;
 
@@ -28,4 +30,33 @@ pub fn mail_comes_unsettled()
 {
     valid_scenarios_are_bounded();
     drawn_names_are_new();
+}
+
+/// Whom an order asks after a delivery stood in the quiet before it: the successor that its
+/// coordinator had then, and next that of the participant, as the participant handed it over.
+pub fn asked_groups_stood()
+    ensures { AskedGroupsStood }
+{
+    replicas_tell();
+}
+
+/// What is known of an order since a quiet journal is so after one more delivery: the name of its
+/// transaction was not in use then, its leaders have executed what the stage says, and the group
+/// that is asked stood then.
+pub fn true_orders_go_on()
+    ensures { TrueOrdersGoOn }
+{
+    replicas_tell();
+}
+
+/// What is known of an order since a quiet journal is so from when it is told: the name that its
+/// node draws was not in use, and its leader has executed nothing.
+pub fn true_orders_begin()
+    ensures { TrueOrdersBegin }
+{
+    valid_scenarios_are_bounded();
+    valid_scenarios_begin_well();
+    orders_are_allowed();
+    names_have_one_owner();
+    counters_part_names();
 }
