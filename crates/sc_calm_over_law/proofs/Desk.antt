@@ -10,8 +10,8 @@ use Rattle.sc_node_table.specs.Replica.{listed}
 use Rattle.sc_following_law.specs.Following.{Mark, marks_of, mark_of}
 use Rattle.sc_budget_law.specs.Between.{Mark as AskMark, Other, mark, mark_of as ask_mark}
 
-no_some : {X : Type 0} {x : X} {b : Bool} → b ≡ true → cond b (Some x) None ≡ None → ⊥
-no_some {X} {x} {b} t e = (let bad : Some x ≡ None = sym (ap (λ y. cond y (Some x) None) t) ∙ e in cc)
+no_some : {X : Type 0} (x : X) (b : Bool) → b ≡ true → cond b (Some x) None ≡ None → ⊥
+no_some x b t e = (let bad : Some x ≡ None = sym (ap (λ y. cond y (Some x) None) t) ∙ e in cc)
 
 -- a name that is not the one of a mark
 module _ (b : Bool) (m : Mark) (a : AskMark) where
@@ -19,7 +19,7 @@ module _ (b : Bool) (m : Mark) (a : AskMark) where
   not_asked e = by b refl
     where
       by : (c : Bool) → b ≡ c → cond b a Other ≡ Other
-      by true t = absurd (no_some t e)
+      by true t = absurd (no_some m b t e)
       by false f = ap (λ x. cond x a Other) f
 
 other : (name : Draw) (from : ℕ) (body : MailBody) → mark_of name from body ≡ None → ask_mark name from body ≡ Other
