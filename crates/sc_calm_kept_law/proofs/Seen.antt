@@ -38,7 +38,7 @@ from_map f (x ∷ xs) y (inl e) = (x, inl refl, e)
 from_map f (x ∷ xs) y (inr more) = (let r = from_map f xs y more in (r.0, inr r.1, r.2))
 
 -- one of some that are named once is found by its name
-found_once : (rs : List ReplicaState) (r : ReplicaState) → AreNamedOnce rs → Among r rs → replica_of (name_of r) rs ≡ Some r
+pub found_once : (rs : List ReplicaState) (r : ReplicaState) → AreNamedOnce rs → Among r rs → replica_of (name_of r) rs ≡ Some r
 found_once [] r once a = absurd a
 found_once (x ∷ rs) r once (inl e) = ap (λ b. cond b (Some x) (replica_of (name_of r) rs)) (same_name (name_of x) (name_of r) (ap name_of e)) ∙ ap Some e
 found_once (x ∷ rs) r once (inr more) = elim (cases_Bool (same_draw (name_of x) (name_of r))) [
@@ -72,7 +72,7 @@ module _ (named : LawfulReplicasAreNamedOnce) (words : ℕ → ℕ → ℕ × �
 pub nodes_numbered : ValidScenariosAreBounded → (scenario : Scenario) → IsValid scenario → (me : ℕ) → 1 ≤ me → me ≤ scenario.nodes → is_node me ≡ true
 nodes_numbered all_bounded scenario valid me low high = (let most = (all_bounded scenario valid).nodes.1 in and_from (leb 1 me) (leb me most_nodes) (le-leb 1 me low) (le-leb me most_nodes (omega (arith, high, most))))
 
-split_among : {X : Type 0} (xs ys : List X) (x : X) → Among x (xs ++ ys) → Among x xs ⊎ Among x ys
+pub split_among : {X : Type 0} (xs ys : List X) (x : X) → Among x (xs ++ ys) → Among x xs ⊎ Among x ys
 split_among [] ys x a = inr a
 split_among (z ∷ xs) ys x (inl e) = inl (inl e)
 split_among (z ∷ xs) ys x (inr a) = elim (split_among xs ys x a) [ inl l ↦ inl (inr l) | inr r ↦ inr r ]

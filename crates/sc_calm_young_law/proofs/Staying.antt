@@ -155,7 +155,7 @@ module _ (words : ℕ → ℕ → ℕ × ℕ) (births : List (Seat Player)) (qui
       (λ party there is. none_some (sym (nowhere there.0) ∙ (ap (λ n. view_at births quiet n there.0) is ∙ there.2))) (parties_of later) u.parties
 
   -- so the row sends it nothing
-  sends_none : (name : Draw) → IsNowhere births quiet name → AreUntouched words births quiet (with_event rows seat event) later → Each (IsErrandFor name) (row_of player_table seat rows event).sent
+  pub sends_none : (name : Draw) → IsNowhere births quiet name → AreUntouched words births quiet (with_event rows seat event) later → Each (IsErrandFor name) (row_of player_table seat rows event).sent
       → Each (IsNoneFor name) (row_of player_table seat rows event).sent
   sends_none name nowhere u silent = silent_none name row.sent (behind (errands_for name (left_by words births rows event)) (errands_for name row.sent) all) silent
     where

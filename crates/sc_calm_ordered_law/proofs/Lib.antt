@@ -1,0 +1,4 @@
+pub mod Known
+pub mod Sending
+pub mod Placing
+pub mod Going

@@ -1,0 +1,49 @@
+//! All that holds while an order is under way since a quiet front of a calm journal. Definitions
+//! and laws, no logic.
+#![tactic(auto)]
+
+ghost use Rattle.sc_calm_ordered_law.specs.Ordered.{DeliveriesKeepOrdered};
+
+use sc_calm_found_law::{newest_stay, orders_rows_find, well_led_lead_alone};
+use sc_calm_kept_law::{order_rows_find_calm, views_agree};
+use sc_calm_known_law::fronts_are_found;
+use sc_calm_led_law::replicas_run_logs;
+use sc_calm_logs_law::{slots_have_rosters, views_are_replicas};
+use sc_calm_mail_law::{mail_may_come, replicas_last, slots_are_left};
+use sc_calm_requests_law::lawful_replicas_are_named_once;
+use sc_calm_scenes_law::fresh_groups_stay;
+use sc_calm_sent_law::{next_rows_are_sent, sent_replicas};
+use sc_calm_true_law::{asked_groups_stood, mail_comes_unsettled, true_orders_go_on};
+use sc_calm_works_law::{deliveries_keep_work, work_stands_alone};
+use sc_calm_young_law::young_groups_stay;
+use sc_scenario::valid_scenarios_are_bounded;
+
+/// Each delivery while an order is under way keeps all that holds then, and finds what keeps the
+/// journal calm.
+pub fn deliveries_keep_ordered()
+    ensures { DeliveriesKeepOrdered }
+{
+    valid_scenarios_are_bounded();
+    slots_are_left();
+    replicas_run_logs();
+    views_are_replicas();
+    slots_have_rosters();
+    replicas_last();
+    next_rows_are_sent();
+    newest_stay();
+    fronts_are_found();
+    views_agree();
+    well_led_lead_alone();
+    sent_replicas();
+    orders_rows_find();
+    fresh_groups_stay();
+    young_groups_stay();
+    mail_comes_unsettled();
+    asked_groups_stood();
+    true_orders_go_on();
+    deliveries_keep_work();
+    work_stands_alone();
+    order_rows_find_calm();
+    mail_may_come();
+    lawful_replicas_are_named_once();
+}
