@@ -44,7 +44,7 @@ use Rattle.sc_calm_scenes_law.specs.Taken.{IsTaking}
 use Rattle.sc_calm_found_law.specs.Beside.{IsUnsettled}
 use Rattle.sc_calm_found_law.specs.Guided.{IsGuided, IsNamedGuide, NewestStay, WellLedLeadAlone}
 use Rattle.sc_calm_found_law.specs.Rows.{IsOrdersRow, OrdersRowsFind}
-use Rattle.sc_calm_sent_law.specs.Journals.{NextRowsAreSent, SentReplicas}
+use Rattle.sc_calm_sent_law.specs.Journals.{IsQuietWhileYoung, NextRowsAreSent, SentReplicas}
 use Rattle.sc_calm_finds_law.specs.Meeting.{IsNoRequest, IsPlainAt}
 use Rattle.sc_calm_charts_law.specs.Charting.{chart_at, all_replicas}
 use Rattle.sc_calm_charts_law.specs.Fronts.{quiet_front}
@@ -131,20 +131,23 @@ module _ (all_bounded : ValidScenariosAreBounded) (few_law : SlotsAreLeft) (logs
   abbrev under : IsUnder words scenario first journal quiet rows
   under = o.under
 
+  young : (base : Base) → Among base (groups_at as_nodes scenario.groups journal) → IsQuietWhileYoung words all rows base
+  young = at_row.young_quiet last_law words scenario first journal quiet rows o.behind seat number home o.rows_are under on
+
   guide_of : (name : Draw) → IsNamedGroup scenario journal name → IsNamedGuide words all rows seat (Deliver number) name
-  guide_of = at_row.guide_of few_law logs_law views_law rosters_law last_law next_law newest_law found_law words scenario first journal quiet rows o.behind seat number calm home o.rows_are under on
+  guide_of = at_row.guide_of few_law logs_law views_law rosters_law next_law newest_law found_law words scenario journal rows seat (Deliver number) calm home on.front on.seated on.timely under.sent under.reached young
 
   before : AreInTime s rows
-  before = at_row.before few_law logs_law views_law rosters_law last_law next_law newest_law found_law words scenario first journal quiet rows o.behind seat number calm home o.rows_are under on
+  before = at_row.before few_law logs_law views_law rosters_law next_law newest_law found_law words scenario journal rows seat (Deliver number) calm home on.front on.seated on.timely under.sent under.reached young
 
   named : (name : Draw) → IsThere all rows name → IsNamedGroup scenario journal name
-  named = at_row.named few_law logs_law views_law rosters_law last_law next_law newest_law found_law words scenario first journal quiet rows o.behind seat number calm home o.rows_are under on
+  named = at_row.named few_law logs_law views_law rosters_law next_law newest_law found_law words scenario journal rows seat (Deliver number) calm home on.front on.seated on.timely under.sent under.reached young
 
   named_quiet : (name : Draw) → IsThere all quiet name → IsNamedGroup scenario journal name
   named_quiet = named_there found_law words scenario journal quiet calm home under.rests.front
 
   abbrev sent_after : AreSent words scenario journal then
-  sent_after = at_row.sent_after few_law logs_law views_law rosters_law last_law next_law newest_law found_law words scenario first journal quiet rows o.behind seat number calm home o.rows_are under on
+  sent_after = at_row.sent_after few_law logs_law views_law rosters_law next_law newest_law found_law words scenario journal rows seat (Deliver number) calm home on.front on.seated on.timely under.sent under.reached young
 
   seen : AreSeen scenario quiet
   seen name node = agree_law.nodes scenario quiet name node (all_bounded scenario calm.valid) (home.homes quiet under.rests.front)
@@ -152,13 +155,13 @@ module _ (all_bounded : ValidScenariosAreBounded) (few_law : SlotsAreLeft) (logs
   -- a mail that is delivered is of a group of the journal, which has a replica
   mail_known : (mail : Mail) → numbered (mails rows) number ≡ Some mail → IsOfJournal scenario journal mail × ((name : Draw) → group_of_mail mail.body ≡ Some name → IsThere all rows name)
   mail_known mail at =
-      let d = at_row.delivered few_law logs_law views_law rosters_law last_law next_law newest_law found_law words scenario first journal quiet rows o.behind seat number calm home o.rows_are under on in
+      let d = at_row.delivered last_law words scenario first journal quiet rows o.behind seat number home o.rows_are under on in
       let both : Some d.mail ≡ Some mail = sym d.sent ∙ at in
       let same : d.mail ≡ mail = cc in
       let is = is_born-from s seat.who seat on.seated in
       let first_known = (subst (Each (IsOfJournal scenario journal)) d.first (o.known seat.who is)).0 in
       let known = subst (IsOfJournal scenario journal) same first_known in
-      (known, λ name of. elim (at_row.there_now few_law logs_law views_law rosters_law last_law next_law newest_law found_law words scenario first journal quiet rows o.behind seat number calm home o.rows_are under on name (known name of)) [
+      (known, λ name of. elim (at_row.there_now last_law words scenario first journal quiet rows o.behind seat number home o.rows_are under on name (known name of)) [
         | inl there ↦ there
         | inr none ↦ absurd (subst (λ (m : Mail). group_of_mail m.body ≡ Some name → ⊥) same (subst (Each (λ (m : Mail). group_of_mail m.body ≡ Some name → ⊥)) d.first (none seat.who is)).0 of)
       ])
@@ -226,7 +229,7 @@ module _ (all_bounded : ValidScenariosAreBounded) (few_law : SlotsAreLeft) (logs
     rests = under.rests;
     front = on.front;
     sent = sent_after;
-    reached = λ base among. at_row.reached_after few_law logs_law views_law rosters_law last_law next_law newest_law found_law words scenario first journal quiet rows o.behind seat number calm home o.rows_are under on base among (young_after base among);
+    reached = λ base among. at_row.reached_after few_law logs_law views_law rosters_law next_law newest_law found_law words scenario journal rows seat (Deliver number) calm home on.front on.seated on.timely under.sent under.reached young base among (λ nowhere. young_after base among (at_row.never_there last_law words scenario first journal quiet rows o.behind seat number home o.rows_are under on base.core.id nowhere));
     stage = next_stage.0;
     untouched = next_stage.1;
     young = young_after;
@@ -243,7 +246,9 @@ module _ (all_bounded : ValidScenariosAreBounded) (few_law : SlotsAreLeft) (logs
     rows_are = ap (λ l. l ++ row ∷ []) o.rows_are ∙ append_assoc quiet o.behind (row ∷ []);
     under = under_after;
     true_since = true_after;
+    line = o.line;
     task = o.task;
+    is_task = o.is_task;
     work = work_law.keeps words scenario rows seat number o.task (record { seated = on.seated; timely = on.timely; finds = finds; groups = λ name node r e. guide_of name (named name (node, r, e)) }) o.work;
     known = known_after words scenario journal quiet rows seat number next_stage.0 on.seated on.timely unanswered named_quiet next_stage.1 o.known;
   }
@@ -253,7 +258,7 @@ module _ (all_bounded : ValidScenariosAreBounded) (few_law : SlotsAreLeft) (logs
   -- a replica that a player has is one of a group of the journal
   alone : AllLeadAlone all rows
   alone r a runs =
-      let front = at_row.here few_law logs_law views_law rosters_law last_law next_law newest_law found_law words scenario first journal quiet rows o.behind seat number calm home o.rows_are under on in
+      let front = at_row.here few_law logs_law views_law rosters_law next_law newest_law found_law words scenario journal rows seat (Deliver number) calm home on.front on.seated on.timely under.sent under.reached young in
       let homes = home.homes rows front in
       let p = place_of all_bounded once_law agree_law words scenario rows calm.valid (found_law words scenario journal rows calm.valid calm.lawful front homes).lawful homes r a in
       (p.0, lead_at p.0 r p.1 runs)

@@ -1,4 +1,4 @@
--- The groups of a calm journal at a row that delivers a mail while an order is under way: each is guided at it, and well led after it.
+-- The groups of a calm journal at a row: each is guided at it, and well led after it.
 use Rattle.std.proofs.Common.{◌≡◌, ℕ, ◌+◌, ◌≤◌, eqb, cond, Bool, true, false, List, [], ◌∷◌, ◌++◌, length, Option, Some, None, ◌⊎◌, inl, inr, refl, sym, ◌∙◌, ap, subst, arith, append_assoc, length-append}
 use Rattle.std.specs.List.{list_any}
 use Rattle.std.proofs.lemmas.Bool.{cases_Bool, cond-false, or_left, eq-eqb}
@@ -14,6 +14,7 @@ use Rattle.sc_mail.specs.declared.bodies.MailBody.{MailBody}
 use Rattle.sc_mail.specs.declared.bodies.MailBody.TheVariants.{Request, Answer, Prepare, Promise, Accept, Accepted, Nack, Learn, Ask, Install, TxPrepare, TxVote, TxOutcome, TxElsewhere, TxWatch, TxWatched, Told}
 use Rattle.sc_member.specs.Roster.{is_member}
 use Rattle.sc_actor.specs.declared.actors.Seat.{Seat}
+use Rattle.sc_actor.specs.declared.rows.Event.{Event}
 use Rattle.sc_actor.specs.declared.rows.Event.TheVariants.{Deliver}
 use Rattle.sc_actor.specs.declared.rows.Row.{Row}
 use Rattle.sc_actor.specs.System.{System, row_of}
@@ -137,130 +138,143 @@ module _ (found_law : FrontsAreFound) (words : ℕ → ℕ → ℕ × ℕ) (scen
 
 -- ---- a row
 
-module _ (few_law : SlotsAreLeft) (logs_law : ReplicasRunLogs) (views_law : ViewsAreReplicas) (rosters_law : SlotsHaveRosters) (last_law : ReplicasLast) (next_law : NextRowsAreSent) (newest_law : NewestStay) (found_law : FrontsAreFound)
-    (words : ℕ → ℕ → ℕ × ℕ) (scenario : Scenario) (first : Base) (journal quiet rows after : Rows) (seat : Seat Player) (number : ℕ) (calm : IsCalmJournal words scenario journal) (home : IsHomelyJournal words scenario journal)
-    (rows_are : rows ≡ quiet ++ after) (under : IsUnder words scenario first journal quiet rows) (on : GoesOnBy words scenario journal rows seat number) where
+module _ (few_law : SlotsAreLeft) (logs_law : ReplicasRunLogs) (views_law : ViewsAreReplicas) (rosters_law : SlotsHaveRosters) (next_law : NextRowsAreSent) (newest_law : NewestStay) (found_law : FrontsAreFound)
+    (words : ℕ → ℕ → ℕ × ℕ) (scenario : Scenario) (journal rows : Rows) (seat : Seat Player) (event : Event OrderLine) (calm : IsCalmJournal words scenario journal) (home : IsHomelyJournal words scenario journal)
+    (front : IsFront journal (with_event rows seat event)) (seated : IsSeat (births as_nodes scenario) seat) (timely : AreInTime (players words (births as_nodes scenario)) (with_event rows seat event)) (sent : AreSent words scenario journal rows)
+    (reached_so : (base : Base) (among : Among base (groups_at as_nodes scenario.groups journal)) → IsReachedSo (births as_nodes scenario) rows base (sent base among).course)
+    (young : (base : Base) → Among base (groups_at as_nodes scenario.groups journal) → IsQuietWhileYoung words (births as_nodes scenario) rows base) where
   abbrev s : System Player Mail OrderLine
   s = players words (births as_nodes scenario)
 
   abbrev row : Row Mail OrderLine
-  row = row_of player_table seat rows (Deliver number)
+  row = row_of player_table seat rows event
 
   pub before : AreInTime s rows
-  before = in_time_before s rows row on.timely
+  before = in_time_before s rows row timely
 
-  pub split : journal ≡ rows ++ (row ∷ on.front.more)
-  split = on.front.is ∙ append_assoc rows (row ∷ []) on.front.more
+  pub split : journal ≡ rows ++ (row ∷ front.more)
+  split = front.is ∙ append_assoc rows (row ∷ []) front.more
 
   pub group : (base : Base) → Among base (groups_at as_nodes scenario.groups journal) → IsGroupOf as_nodes words scenario journal base
   group base among = record { open_slots = refl; valid = calm.valid; lawful = calm.lawful; stands = among }
 
   pub few : (base : Base) → AreFew as_nodes scenario journal base
-  few base front more who r e view =
-      let timely : AreInTime s front = λ b row_ a same. calm.timely b row_ (a ++ more) (e ∙ (ap (λ l. l ++ more) same ∙ append_assoc b (row_ ∷ a) more)) in
+  few base first more who r e view =
+      let timely_ : AreInTime s first = λ b row_ a same. calm.timely b row_ (a ++ more) (e ∙ (ap (λ l. l ++ more) same ∙ append_assoc b (row_ ∷ a) more)) in
       let long = ap length e in
-      let sum = length-append front more in
+      let sum = length-append first more in
       let short = calm.short in
-      let left = few_law words scenario front base.core.id who r timely (omega (arith, long, sum, short)) view in
+      let left = few_law words scenario first base.core.id who r timely_ (omega (arith, long, sum, short)) view in
       let low = left.0 in
       (omega (arith, low), left.1)
 
-  -- who has a replica in the quiet has one later
-  grows : (name : Draw) (who : ℕ) (r : ReplicaState) → view_at (births as_nodes scenario) quiet name who ≡ Some r → IsLater r (view_at (births as_nodes scenario) rows name who)
-  grows name who r e = subst (λ l. IsLater r (view_at (births as_nodes scenario) l name who)) (sym rows_are) (last_law words scenario quiet after name who r (subst (AreInTime s) rows_are before) e)
-
-  -- a first member without replica is sent nothing
-  pub young_quiet : (base : Base) → Among base (groups_at as_nodes scenario.groups journal) → IsQuietWhileYoung words (births as_nodes scenario) rows base
-  young_quiet base among who member none = elim (there_or (births as_nodes scenario) quiet base.core.id) [
-    | inl there ↦ (
-        let has = under.rests.members base among there who member in
-        let later = grows base.core.id who has.0 has.1 in
-        absurd (none-some later.0 (sym none ∙ later.1)))
-    | inr nowhere ↦ no_marks_of base.core.id (rest s rows who) ((under.young base among nowhere).unsent who (home.born base among who member))
-  ]
-
   pub steps : (base : Base) (among : Among base (groups_at as_nodes scenario.groups journal))
-      → IsSentStep (logged_sets as_nodes base journal) (over_at as_nodes base journal) (tellers_at as_nodes scenario base journal) words (births as_nodes scenario) rows seat (Deliver number) base (under.sent base among).course
-  steps base among = next_law words scenario journal base (group base among) calm.timely (few base) rows on.front.more seat (Deliver number) on.front.is on.seated (under.sent base among) (young_quiet base among)
+      → IsSentStep (logged_sets as_nodes base journal) (over_at as_nodes base journal) (tellers_at as_nodes scenario base journal) words (births as_nodes scenario) rows seat event base (sent base among).course
+  steps base among = next_law words scenario journal base (group base among) calm.timely (few base) rows front.more seat event front.is seated (sent base among) (young base among)
 
-  abbrev pub sent_after : AreSent words scenario journal (with_event rows seat (Deliver number))
+  abbrev pub sent_after : AreSent words scenario journal (with_event rows seat event)
   sent_after base among = (steps base among).through
 
   -- replicas are bound as the log has it
   abbrev bonds : Base → ℕ → Bond
   bonds base n = bond_of (state_at as_nodes base journal n).core
 
-  bound_by : (base : Base) → Among base (groups_at as_nodes scenario.groups journal) → (front more : Rows) → journal ≡ front ++ more → AreBoundBy (bonds base) (births as_nodes scenario) front base.core.id
-  bound_by base among front more e node r view =
-      let v = views_law as_nodes words scenario journal base (group base among) front more e node r view in
-      let run = logs_law as_nodes words scenario journal base (group base among) front v.0 v.1 r v.2 in
+  bound_by : (base : Base) → Among base (groups_at as_nodes scenario.groups journal) → (first more : Rows) → journal ≡ first ++ more → AreBoundBy (bonds base) (births as_nodes scenario) first base.core.id
+  bound_by base among first more e node r view =
+      let v = views_law as_nodes words scenario journal base (group base among) first more e node r view in
+      let run = logs_law as_nodes words scenario journal base (group base among) first v.0 v.1 r v.2 in
       ap (λ g. bond_of g.core) run.1
 
-  pub guided : (base : Base) → Among base (groups_at as_nodes scenario.groups journal) → IsGuided words (births as_nodes scenario) rows seat (Deliver number) base
+  pub guided : (base : Base) → Among base (groups_at as_nodes scenario.groups journal) → IsGuided words (births as_nodes scenario) rows seat event base
   guided base among = record {
     at = logged_sets as_nodes base journal;
     over = over_at as_nodes base journal;
     by = tellers_at as_nodes scenario base journal;
-    course = (under.sent base among).course;
-    led = (under.sent base among).led;
+    course = (sent base among).course;
+    led = (sent base among).led;
     step = (steps base among).step;
     log = (steps base among).through.one;
     sends = (steps base among).through.so;
     bonds = bonds base;
-    was_bound = bound_by base among rows (row ∷ on.front.more) split;
-    is_bound = bound_by base among (with_event rows seat (Deliver number)) on.front.more on.front.is;
-    reached = under.reached base among;
+    was_bound = bound_by base among rows (row ∷ front.more) split;
+    is_bound = bound_by base among (with_event rows seat event) front.more front.is;
+    reached = reached_so base among;
   }
 
   pub here : IsFront journal rows
-  here = record { more = row ∷ on.front.more; is = split }
+  here = record { more = row ∷ front.more; is = split }
 
   pub named : (name : Draw) → IsThere (births as_nodes scenario) rows name → IsNamedGroup scenario journal name
   named = named_there found_law words scenario journal rows calm home here
 
-  pub guide_of : (name : Draw) → IsNamedGroup scenario journal name → IsNamedGuide words (births as_nodes scenario) rows seat (Deliver number) name
+  pub guide_of : (name : Draw) → IsNamedGroup scenario journal name → IsNamedGuide words (births as_nodes scenario) rows seat event name
   guide_of name g = record { base = g.0; named = g.2; guided = guided g.0 g.1 }
 
-  -- a group of the journal has a replica then, or no mail of it is under way
-  pub there_now : (name : Draw) → IsNamedGroup scenario journal name
-      → IsThere (births as_nodes scenario) rows name ⊎ ((who : ℕ) → is_born s who ≡ true → Each (λ mail. group_of_mail mail.body ≡ Some name → ⊥) (rest s rows who))
-  there_now name g = elim (there_or (births as_nodes scenario) quiet name) [
-    | inl there ↦ inl (let later = grows name there.0 there.1 there.2 in (there.0, later.0, later.1))
-    | inr nowhere ↦ inr (λ who is.
-        subst (λ n. Each (λ (mail : Mail). group_of_mail mail.body ≡ Some n → ⊥) (rest s rows who)) g.2 ((under.young g.0 g.1 (subst (IsNowhere (births as_nodes scenario) quiet) (sym g.2) nowhere)).unsent who is))
-  ]
-
-  pub delivered : TakesFirst s rows seat.who number
-  delivered = takes_first s rows seat.who number (in_time_tidy s rows before) (is_born-from s seat.who seat on.seated) (calm_is words (births as_nodes scenario) rows seat (Deliver number) (last_in_time s rows row on.timely).0)
-
-  -- ---- the newest state
-
+  -- the newest state is reached after the row, where no mail is under way of a group that has no replica before it
   module _ (base : Base) (among : Among base (groups_at as_nodes scenario.groups journal)) where
-    abbrev all : List (Seat Player)
-    all = births as_nodes scenario
-
-    abbrev then : Rows
-    then = with_event rows seat (Deliver number)
-
-    abbrev through : IsSentThrough (logged_sets as_nodes base journal) (over_at as_nodes base journal) (tellers_at as_nodes scenario base journal) words (births as_nodes scenario) then base
+    abbrev through : IsSentThrough (logged_sets as_nodes base journal) (over_at as_nodes base journal) (tellers_at as_nodes scenario base journal) words (births as_nodes scenario) (with_event rows seat event) base
     through = (steps base among).through
 
-    was_there : IsThere all rows base.core.id → IsReachedSo all then base through.course
+    was_there : IsThere (births as_nodes scenario) rows base.core.id → IsReachedSo (births as_nodes scenario) (with_event rows seat event) base through.course
     unfolding guided
-    was_there there there_then = subst (IsReached all then base) (sym (steps base among).same) (newest_law.reached words all rows seat (Deliver number) base (guided base among) there on.timely)
+    was_there there there_then =
+        subst (IsReached (births as_nodes scenario) (with_event rows seat event) base) (sym (steps base among).same) (newest_law.reached words (births as_nodes scenario) rows seat event base (guided base among) there timely)
 
-    no_mail : IsYoungAt words all then base → (who : ℕ) → marks_at s then base.core.id who ≡ []
-    no_mail y who = elim (cases_Bool (is_born s who)) [
-      | inl t ↦ no_marks_of base.core.id (rest s then who) (y.unsent who t)
-      | inr f ↦ home.strangers then on.front base.core.id who f
-    ]
-
-    pub reached_after : ((IsNowhere all quiet base.core.id) → IsYoungAt words all then base) → IsReachedSo all then base through.course
-    reached_after young there_then = elim (there_or all rows base.core.id) [
+    pub reached_after : (IsNowhere (births as_nodes scenario) rows base.core.id → IsYoungAt words (births as_nodes scenario) (with_event rows seat event) base)
+        → IsReachedSo (births as_nodes scenario) (with_event rows seat event) base through.course
+    reached_after is_young there_then = elim (there_or (births as_nodes scenario) rows base.core.id) [
       | inl there ↦ was_there there there_then
-      | inr nowhere ↦ reached_even rosters_law logs_law views_law words scenario journal then on.front.more base (group base among) on.front.is through (no_mail (young (λ who. never who (view_at all quiet base.core.id who) refl nowhere))) there_then
+      | inr nowhere ↦ reached_even rosters_law logs_law views_law words scenario journal (with_event rows seat event) front.more base (group base among) front.is through (no_mail (is_young nowhere)) there_then
     ]
       where
-        never : (who : ℕ) (o : Option ReplicaState) → view_at all quiet base.core.id who ≡ o → IsNowhere all rows base.core.id → view_at all quiet base.core.id who ≡ None
-        never who None e nowhere = e
-        never who (Some r) e nowhere = (let later = grows base.core.id who r e in absurd (none-some later.0 (sym (nowhere who) ∙ later.1)))
+        no_mail : IsYoungAt words (births as_nodes scenario) (with_event rows seat event) base → (who : ℕ) → marks_at s (with_event rows seat event) base.core.id who ≡ []
+        no_mail y who = elim (cases_Bool (is_born s who)) [
+          | inl t ↦ no_marks_of base.core.id (rest s (with_event rows seat event) who) (y.unsent who t)
+          | inr f ↦ home.strangers (with_event rows seat event) front base.core.id who f
+        ]
+
+-- ---- a delivery
+
+module _ (last_law : ReplicasLast) (words : ℕ → ℕ → ℕ × ℕ) (scenario : Scenario) (first : Base) (journal quiet rows after : Rows) (seat : Seat Player) (number : ℕ) (home : IsHomelyJournal words scenario journal)
+    (rows_are : rows ≡ quiet ++ after) (under : IsUnder words scenario first journal quiet rows) (on : GoesOnBy words scenario journal rows seat number) where
+  abbrev all : List (Seat Player)
+  all = births as_nodes scenario
+
+  abbrev sys : System Player Mail OrderLine
+  sys = players words (births as_nodes scenario)
+
+  timely_before : AreInTime sys rows
+  timely_before = in_time_before sys rows (row_of player_table seat rows (Deliver number)) on.timely
+
+  -- who has a replica in the quiet has one later
+  grows : (name : Draw) (who : ℕ) (r : ReplicaState) → view_at all quiet name who ≡ Some r → IsLater r (view_at all rows name who)
+  grows name who r e = subst (λ l. IsLater r (view_at all l name who)) (sym rows_are) (last_law words scenario quiet after name who r (subst (AreInTime sys) rows_are timely_before) e)
+
+  -- a first member without replica is sent nothing
+  pub young_quiet : (base : Base) → Among base (groups_at as_nodes scenario.groups journal) → IsQuietWhileYoung words all rows base
+  young_quiet base among who member none = elim (there_or all quiet base.core.id) [
+    | inl there ↦ (
+        let has = under.rests.members base among there who member in
+        let later = grows base.core.id who has.0 has.1 in
+        absurd (none-some later.0 (sym none ∙ later.1)))
+    | inr nowhere ↦ no_marks_of base.core.id (rest sys rows who) ((under.young base among nowhere).unsent who (home.born base among who member))
+  ]
+
+  -- a group of the journal has a replica then, or no mail of it is under way
+  pub there_now : (name : Draw) → IsNamedGroup scenario journal name → IsThere all rows name ⊎ ((who : ℕ) → is_born sys who ≡ true → Each (λ mail. group_of_mail mail.body ≡ Some name → ⊥) (rest sys rows who))
+  there_now name g = elim (there_or all quiet name) [
+    | inl there ↦ inl (let later = grows name there.0 there.1 there.2 in (there.0, later.0, later.1))
+    | inr nowhere ↦ inr (λ who is.
+        subst (λ n. Each (λ (mail : Mail). group_of_mail mail.body ≡ Some n → ⊥) (rest sys rows who)) g.2 ((under.young g.0 g.1 (subst (IsNowhere all quiet) (sym g.2) nowhere)).unsent who is))
+  ]
+
+  -- what is nowhere then was nowhere in the quiet
+  pub never_there : (name : Draw) → IsNowhere all rows name → IsNowhere all quiet name
+  never_there name nowhere who = by (view_at all quiet name who) refl
+    where
+      by : (o : Option ReplicaState) → view_at all quiet name who ≡ o → view_at all quiet name who ≡ None
+      by None e = e
+      by (Some r) e = (let later = grows name who r e in absurd (none-some later.0 (sym (nowhere who) ∙ later.1)))
+
+  pub delivered : TakesFirst sys rows seat.who number
+  delivered = takes_first sys rows seat.who number (in_time_tidy sys rows timely_before) (is_born-from sys seat.who seat on.seated) (calm_is words all rows seat (Deliver number) (last_in_time sys rows (row_of player_table seat rows (Deliver number)) on.timely).0)

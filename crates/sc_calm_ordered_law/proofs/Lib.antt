@@ -2,3 +2,4 @@ pub mod Known
 pub mod Sending
 pub mod Placing
 pub mod Going
+pub mod Beginning

@@ -1,31 +1,37 @@
 -- What is sent by a delivery while an order is under way is of groups of the journal.
-use Rattle.std.proofs.Common.{◌≡◌, ◌⊎◌, ℕ, Bool, true, false, eqb, List, [], ◌∷◌, ◌++◌, drop, Option, Some, None, inl, inr, refl, sym, ◌∙◌, ap, subst}
+use Rattle.std.proofs.Common.{◌≡◌, ◌⊎◌, ℕ, zero, suc, Bool, true, false, eqb, List, [], ◌∷◌, ◌++◌, drop, Option, Some, None, inl, inr, refl, sym, ◌∙◌, ap, subst}
 use Rattle.std.specs.Option.{option_map}
 use Rattle.std.specs.List.{filter}
 use Rattle.std.proofs.lemmas.Bool.{cases_Bool, cond-true, cond-false}
+use Rattle.std.proofs.lemmas.Option.{none-some}
 use Rattle.sc_base.specs.Among.{Among, Each}
 use Rattle.sc_base.specs.declared.names.Draw.{Draw}
 use Rattle.sc_base.specs.Same.{same_draw}
 use Rattle.sc_base.proofs.NameLemmas.{draw_is, same_name}
 use Rattle.sc_cmd.specs.declared.orders.OrderLine.{OrderLine}
+use Rattle.sc_cmd.specs.declared.orders.OrderRefusal.TheVariants.{NotLeader}
+use Rattle.sc_cmd.specs.declared.orders.ToldResult.TheVariants.{Refused}
 use Rattle.sc_mail.specs.declared.bodies.Mail.{Mail}
 use Rattle.sc_mail.specs.declared.roles.Role.TheVariants.{Node, Client}
 use Rattle.sc_actor.specs.declared.actors.Seat.{Seat}
-use Rattle.sc_actor.specs.declared.rows.Event.TheVariants.{Deliver}
-use Rattle.sc_actor.specs.declared.rows.Input.TheVariants.{Got}
+use Rattle.sc_actor.specs.declared.rows.Event.TheVariants.{Deliver, Told}
+use Rattle.sc_actor.specs.declared.rows.Input.TheVariants.{Got, Told as ToldInput}
 use Rattle.sc_actor.specs.declared.rows.Row.{Row}
 use Rattle.sc_actor.specs.Mail.{mails, numbered}
 use Rattle.sc_actor.specs.Replay.{value}
 use Rattle.sc_actor.specs.System.{System, row_of}
+use Rattle.sc_actor.specs.Walk.{is_quiet}
 use Rattle.sc_orderly_law.specs.Orderly.{IsCalmRow, IsTidy, is_born, rest, mail_for, taken}
 use Rattle.sc_orderly_law.specs.Timely.{AreInTime}
 use Rattle.sc_orderly_law.proofs.InTime.{in_time_before, in_time_tidy, last_in_time}
-use Rattle.sc_orderly_law.proofs.Resting.{TakesFirst, is_born-from, takes_first, rest-calm}
+use Rattle.sc_orderly_law.proofs.Resting.{TakesFirst, is_born-from, takes_first, rest-calm, quiet-empty}
 use Rattle.sc_paxos_words.proofs.ListLemmas.{Each-among, Each-append, Each-from}
 use Rattle.sc_names_law.proofs.Lists.{Each-drop}
 use Rattle.sc_scenario.specs.declared.scenarios.Scenario.{Scenario}
-use Rattle.sc_node_table.specs.Node.{NodeState, replica_of, with_replica, with_children, group_of_mail, may_come, unknown, taken_by, routed, on_mail}
+use Rattle.sc_node_table.specs.Node.{NodeState, replica_of, with_replica, with_children, group_of_mail, may_come, unknown, taken_by, routed, on_mail, group_of_order, ordered_of}
 use Rattle.sc_node_table.specs.Replica.{ReplicaState, Executed, name_of}
+use Rattle.sc_node_table.specs.Mails.{told_desk}
+use Rattle.sc_node_table.specs.Ordering.{ordered_row}
 use Rattle.sc_node_table.specs.Rows.{mailed}
 use Rattle.sc_law_lemmas.proofs.Ways.{either_way}
 use Rattle.sc_sound.specs.Players.{Player, player_table, births, as_nodes}
@@ -34,8 +40,9 @@ use Rattle.sc_calm_law.specs.Charts.{players}
 use Rattle.sc_calm_law.specs.Totals.{Rows}
 use Rattle.sc_calm_orders_law.specs.Stages.{Stage}
 use Rattle.sc_calm_rows_law.specs.Turns.{IsSeat, with_event}
-use Rattle.sc_calm_rows_law.proofs.Mailing.{mailed_keeps}
+use Rattle.sc_calm_rows_law.proofs.Mailing.{mailed_keeps, order_keeps}
 use Rattle.sc_calm_rows_law.proofs.Turning.{found_name}
+use Rattle.sc_calm_rows_law.proofs.Viewing.{view_was}
 use Rattle.sc_calm_scenes_law.specs.Fresh.{IsThere, IsNowhere, IsErrandFor, AreUntouched}
 use Rattle.sc_calm_scenes_law.proofs.Fresh.{client_leaves, got_nothing, quiet_errands, unknown_apart}
 use Rattle.sc_calm_scenes_law.proofs.Taking.{all_sent}
@@ -152,3 +159,58 @@ module _ (words : ℕ → ℕ → ℕ × ℕ) (scenario : Scenario) (journal qui
       subst (Each (IsOfJournal scenario journal)) (sym (rest-calm sys rows row who (in_time_tidy sys rows before) (last_in_time sys rows row timely).0))
       (Each-append (IsOfJournal scenario journal) (drop (taken who row) (rest sys rows who)) (mail_for sys who row.sent) (Each-drop (IsOfJournal scenario journal) (taken who row) (rest sys rows who) (known who is))
       (each_filter (IsOfJournal scenario journal) (λ (m : Mail). eqb (sys.receiver m) who) row.sent (Each-from (IsOfJournal scenario journal) row.sent sent_known)))
+
+-- ---- an order
+
+module _ (words : ℕ → ℕ → ℕ × ℕ) (scenario : Scenario) (journal quiet : Rows) (seat : Seat Player) (line : OrderLine) (stage : Stage) (born : IsSeat (births as_nodes scenario) seat) (timely : AreInTime (players words (births as_nodes scenario)) (with_event quiet seat (Told line)))
+    (calm : is_quiet (players words (births as_nodes scenario)) quiet ≡ true) (named : (name : Draw) → IsThere (births as_nodes scenario) quiet name → IsNamedGroup scenario journal name) (u : AreUntouched words (births as_nodes scenario) quiet (with_event quiet seat (Told line)) stage) where
+  abbrev births_ : List (Seat Player)
+  births_ = births as_nodes scenario
+
+  abbrev system : System Player Mail OrderLine
+  system = players words (births as_nodes scenario)
+
+  abbrev told_row : Row Mail OrderLine
+  told_row = row_of player_table seat quiet (Told line)
+
+  abbrev told : Draw
+  told = group_of_order line.order
+
+  -- what is sent to a group that was nowhere is errands
+  module _ (name : Draw) (nowhere : IsNowhere births_ quiet name) where
+    abbrev Quiet : Type 0
+    Quiet = Each (IsErrandFor name) told_row.sent
+
+    node_tells : (node : NodeState) → value player_table seat quiet ≡ Node node → (o : Option ReplicaState) → replica_of told node.replicas ≡ o → Quiet
+    node_tells node is None here =
+        let step : NodeState × List Mail = (node, told_desk node.me line.number (Refused (NotLeader None)) []) in
+        subst (Each (IsErrandFor name)) (sym (all_sent births_ quiet seat (Told line) node born is step (Some (ToldInput line)) refl (ap (λ (x : NodeState × List Mail). (Node x.0, x.1)) (ap (λ o. ordered_of o line node) here)))) ((λ n. (let bad : None ≡ Some name = n in cc)), tt)
+    node_tells node is (Some r) here =
+        let own = found_name told node.replicas r here in
+        let ne : name ≡ told → ⊥ = λ i. none-some r (sym (nowhere seat.who) ∙ (view_was births_ quiet seat (Told line) name born (Node node) is ∙ (ap (λ n. replica_of n node.replicas) i ∙ here))) in
+        let step : NodeState × List Mail = ordered_of (Some r) line node in
+        subst (Each (IsErrandFor name)) (sym (all_sent births_ quiet seat (Told line) node born is step (Some (ToldInput line)) refl (ap (λ (x : NodeState × List Mail). (Node x.0, x.1)) (ap (λ o. ordered_of o line node) here))))
+        (quiet_errands (name_of r) name (ordered_row node.draws line (r, [])).1 (λ i. ne (sym i ∙ own)) (order_keeps (name_of r) node.draws line (r, []) (refl, tt)).1)
+
+    player_tells : (player : Player) → value player_table seat quiet ≡ player → Quiet
+    player_tells (Client client) is = (client_leaves words births_ quiet seat (Told line) born timely client is name (ToldInput line) refl refl).silent
+    player_tells (Node node) is = node_tells node is (replica_of told node.replicas) refl
+
+  told_known : (mail : Mail) → Among mail told_row.sent → IsOfJournal scenario journal mail
+  told_known mail a name is = elim (there_or births_ quiet name) [
+    | inl there ↦ named name there
+    | inr nowhere ↦ absurd (Each-among (IsNoneFor name) told_row.sent mail (sends_none words births_ quiet quiet seat (Told line) stage born timely name nowhere u (player_tells name nowhere (value player_table seat quiet) refl)) a is)
+  ]
+
+  pub known_told : (who : ℕ) → is_born system who ≡ true → Each (IsOfJournal scenario journal) (rest system (with_event quiet seat (Told line)) who)
+  known_told who is =
+      let before = in_time_before system quiet told_row timely in
+      let tidy = in_time_tidy system quiet before in
+      subst (Each (IsOfJournal scenario journal)) (sym (rest-calm system quiet told_row who tidy (last_in_time system quiet told_row timely).0))
+      (Each-append (IsOfJournal scenario journal) (drop (taken who told_row) (rest system quiet who)) (mail_for system who told_row.sent)
+      (subst (λ l. Each (IsOfJournal scenario journal) (drop (taken who told_row) l)) (sym (quiet-empty system quiet who tidy is calm)) (nothing (taken who told_row)))
+      (each_filter (IsOfJournal scenario journal) (λ (m : Mail). eqb (system.receiver m) who) told_row.sent (Each-from (IsOfJournal scenario journal) told_row.sent told_known)))
+    where
+      nothing : (n : ℕ) → Each (IsOfJournal scenario journal) (drop n [])
+      nothing zero = tt
+      nothing (suc n) = tt

@@ -4,16 +4,19 @@ use Rattle.sc_base.specs.Among.{Among, Each}
 use Rattle.sc_base.specs.declared.names.Draw.{Draw}
 use Rattle.sc_cmd.specs.declared.commands.Command.{Command}
 use Rattle.sc_cmd.specs.declared.cores.Base.{Base}
+use Rattle.sc_cmd.specs.declared.orders.OrderLine.{OrderLine}
 use Rattle.sc_mail.specs.declared.bodies.Mail.{Mail}
 use Rattle.sc_mail.specs.declared.bodies.MailBody.TheVariants.{TxElsewhere}
 use Rattle.sc_mail.specs.declared.roles.Role.TheVariants.{Client}
 use Rattle.sc_member.specs.Roster.{is_member}
 use Rattle.sc_actor.specs.declared.actors.Seat.{Seat}
-use Rattle.sc_actor.specs.declared.rows.Event.TheVariants.{Deliver}
+use Rattle.sc_actor.specs.declared.rows.Event.TheVariants.{Deliver, Told}
+use Rattle.sc_actor.specs.Mail.{mails}
 use Rattle.sc_actor.specs.Replay.{value}
 use Rattle.sc_client_table.specs.Client.{Client as ClientState}
 use Rattle.sc_machine_table.specs.Machine.{applied}
 use Rattle.sc_orderly_law.specs.Orderly.{is_born, rest}
+use Rattle.sc_orderly_law.specs.Timely.{AreInTime}
 use Rattle.sc_paxos_words.specs.declared.flights.Flight.{Flight}
 use Rattle.sc_scenario.specs.declared.scenarios.Scenario.{Scenario}
 use Rattle.sc_node_table.specs.Node.{NodeState, replica_of, group_of_mail}
@@ -27,6 +30,7 @@ use Rattle.sc_calm_law.specs.Totals.{Rows}
 use Rattle.sc_calm_rows_law.specs.Groups.{view_at, marks_at}
 use Rattle.sc_calm_rows_law.specs.Turns.{IsSeat, with_event}
 use Rattle.sc_calm_scenes_law.specs.Fresh.{IsNowhere}
+use Rattle.sc_calm_scenes_law.specs.Quiet.{GoesToActor}
 use Rattle.sc_calm_scenes_law.specs.Taken.{IsTaking}
 use Rattle.sc_calm_entries_law.specs.Paid.{IsEntry}
 use Rattle.sc_calm_found_law.specs.Missed.{IsYoung}
@@ -36,15 +40,17 @@ use Rattle.sc_calm_charts_law.specs.Fronts.{quiet_front}
 use Rattle.sc_calm_settings_law.specs.Settings.{AreAtNodes}
 use Rattle.sc_budget_law.specs.AskingQuiet.{replicas_after, DoHintsRise}
 use Rattle.sc_calm_journals_law.specs.Journal.{IsCalmJournal, IsFront, GoesOnBy}
+use Rattle.sc_calm_journals_law.specs.Resting.{RestsAt}
 use Rattle.sc_calm_journals_law.specs.Under.{IsUnder}
 use Rattle.sc_calm_true_law.specs.Under.{IsTrueSince}
 use Rattle.sc_calm_works_law.specs.Tasks.{Task}
-use Rattle.sc_calm_works_law.specs.Works.{AreAtWork}
+use Rattle.sc_calm_works_law.specs.Works.{AreAtWork, IsTaskOf}
 
--- In all first rows of a journal replicas are at nodes of the scenario, and no mail of a group is for who is no player; and first members are players.
+-- In all first rows of a journal replicas are at nodes of the scenario, and neither an errand nor other mail of a group is for who is no player; and first members are players.
 pub record IsHomelyJournal (words : ℕ → ℕ → ℕ × ℕ) (scenario : Scenario) (journal : Rows) : Type 0 where
   pub homes : (rows : Rows) → IsFront journal rows → AreAtNodes scenario rows
   pub strangers : (rows : Rows) → IsFront journal rows → (name : Draw) (who : ℕ) → is_born (players words (births as_nodes scenario)) who ≡ false → marks_at (players words (births as_nodes scenario)) rows name who ≡ []
+  pub errands : (rows : Rows) → IsFront journal rows → Each (GoesToActor words (births as_nodes scenario)) (mails rows)
   pub born : (base : Base) → Among base (groups_at as_nodes scenario.groups journal) → (who : ℕ) → is_member base.core.members who ≡ true → is_born (players words (births as_nodes scenario)) who ≡ true
 
 -- a group of the journal has this name
@@ -61,9 +67,19 @@ pub record IsOrderedSince (words : ℕ → ℕ → ℕ × ℕ) (scenario : Scena
   pub rows_are : rows ≡ quiet ++ behind
   pub under : IsUnder words scenario first journal quiet rows
   pub true_since : IsTrueSince scenario quiet rows under.stage
+  pub line : OrderLine
   pub task : Task
+  pub is_task : IsTaskOf (births as_nodes scenario) quiet line task
   pub work : AreAtWork task words (births as_nodes scenario) rows
   pub known : (who : ℕ) → is_born (players words (births as_nodes scenario)) who ≡ true → Each (IsOfJournal scenario journal) (rest (players words (births as_nodes scenario)) rows who)
+
+-- So it is from an order on that is told in a quiet front that rests, which finds what keeps the journal calm.
+abbrev pub OrdersBeginOrdered : Type 0
+OrdersBeginOrdered =
+    (words : ℕ → ℕ → ℕ × ℕ) (scenario : Scenario) (first : Base) (journal quiet : Rows) (seat : Seat Player) (line : OrderLine) → IsCalmJournal words scenario journal → IsHomelyJournal words scenario journal → RestsAt words scenario first journal quiet
+    → IsSeat (births as_nodes scenario) seat → IsFront journal (with_event quiet seat (Told line)) → AreInTime (players words (births as_nodes scenario)) (with_event quiet seat (Told line))
+    → IsOrderedSince words scenario first journal quiet (with_event quiet seat (Told line))
+    × ((far sent : ℕ) → FindsCalm (chart_at far sent (players words (births as_nodes scenario)) quiet) (births as_nodes scenario) quiet seat (Told line))
 
 -- What is asked besides of a delivery: a node takes it; children that it makes are young, and were nowhere in the quiet; commands in flight are true, and leave at most nine members; and a coordinator that is to ask elsewhere is told whom, and has its promises.
 pub record IsGivenBesides (words : ℕ → ℕ → ℕ × ℕ) (scenario : Scenario) (quiet rows : Rows) (seat : Seat Player) (number : ℕ) : Type 0 where

@@ -2,10 +2,10 @@
 //! and laws, no logic.
 #![tactic(auto)]
 
-ghost use Rattle.sc_calm_ordered_law.specs.Ordered.{DeliveriesKeepOrdered};
+ghost use Rattle.sc_calm_ordered_law.specs.Ordered.{DeliveriesKeepOrdered, OrdersBeginOrdered};
 
 use sc_calm_found_law::{newest_stay, orders_rows_find, well_led_lead_alone};
-use sc_calm_kept_law::{order_rows_find_calm, views_agree};
+use sc_calm_kept_law::{order_rows_find_calm, told_orders_find_calm, views_agree};
 use sc_calm_known_law::fronts_are_found;
 use sc_calm_led_law::replicas_run_logs;
 use sc_calm_logs_law::{slots_have_rosters, views_are_replicas};
@@ -13,8 +13,10 @@ use sc_calm_mail_law::{mail_may_come, replicas_last, slots_are_left};
 use sc_calm_requests_law::lawful_replicas_are_named_once;
 use sc_calm_scenes_law::fresh_groups_stay;
 use sc_calm_sent_law::{next_rows_are_sent, sent_replicas};
-use sc_calm_true_law::{asked_groups_stood, mail_comes_unsettled, true_orders_go_on};
-use sc_calm_works_law::{deliveries_keep_work, work_stands_alone};
+use sc_calm_true_law::{
+    asked_groups_stood, mail_comes_unsettled, true_orders_begin, true_orders_go_on,
+};
+use sc_calm_works_law::{deliveries_keep_work, orders_begin_work, work_stands_alone};
 use sc_calm_young_law::young_groups_stay;
 use sc_scenario::valid_scenarios_are_bounded;
 
@@ -46,4 +48,28 @@ pub fn deliveries_keep_ordered()
     order_rows_find_calm();
     mail_may_come();
     lawful_replicas_are_named_once();
+}
+
+/// An order that is told in a quiet front which rests begins all that holds while it is under way,
+/// and finds what keeps the journal calm.
+pub fn orders_begin_ordered()
+    ensures { OrdersBeginOrdered }
+{
+    valid_scenarios_are_bounded();
+    slots_are_left();
+    replicas_run_logs();
+    views_are_replicas();
+    slots_have_rosters();
+    next_rows_are_sent();
+    newest_stay();
+    fronts_are_found();
+    views_agree();
+    sent_replicas();
+    orders_rows_find();
+    fresh_groups_stay();
+    young_groups_stay();
+    true_orders_begin();
+    orders_begin_work();
+    work_stands_alone();
+    told_orders_find_calm();
 }
