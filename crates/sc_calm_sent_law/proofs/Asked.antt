@@ -133,7 +133,7 @@ module _ (words : ℕ → ℕ → ℕ × ℕ) (at : Sets) (over : Ends) (by : Te
     pub marked : (mark : Mark) → mark_of base.core.id mail.from mail.body ≡ Some mark → taken_mark name (mails rows) event ≡ Some mark
     marked mark e = ap (taken_mark name (mails rows)) t.event_is ∙ (ap (mark_in name) t.takes.sent ∙ e)
 
-    dated_is : (mark : Mark) → mark_of base.core.id mail.from mail.body ≡ Some mark → taken_dated base.core.id (mails rows) event ≡ Some (mark, from_slot_of mail.body)
+    pub dated_is : (mark : Mark) → mark_of base.core.id mail.from mail.body ≡ Some mark → taken_dated base.core.id (mails rows) event ≡ Some (mark, from_slot_of mail.body)
     dated_is mark e = ap (taken_dated name (mails rows)) t.event_is ∙ (ap (dated_in name) t.takes.sent ∙ ap (option_map (λ m. (m, from_slot_of mail.body))) e)
 
     pub most : IsAtLeast course.ballot r.acceptor.promised
@@ -243,7 +243,7 @@ module _ (words : ℕ → ℕ → ℕ × ℕ) (at : Sets) (over : Ends) (by : Te
     leader_moves = by_turn turn
       where
         by_turn : IsTurn at by words all rows seat event base → MovesTo r after.0
-        by_turn (TurnRests same) = inl (ap next (some_is after.0 r (sym row_.is ∙ (same ∙ row_.was))))
+        by_turn (TurnRests same none) = inl (ap next (some_is after.0 r (sym row_.is ∙ (same ∙ row_.was))))
         by_turn (TurnBears none made) = absurd (some_none r (view_at all rows base.core.id seat.who) row_.was none)
         by_turn (TurnMakes from slot state sets t) = absurd (some_none r (view_at all rows base.core.id seat.who) row_.was t.was)
         by_turn (TurnTakes number mail node q t) =
@@ -253,7 +253,7 @@ module _ (words : ℕ → ℕ → ℕ × ℕ) (at : Sets) (over : Ends) (by : Te
             moves_to q (ordered_row node.draws line (q, [])).0 t.was t.then_ (inl (subst (λ (p : Place). next p.0 ≡ next q) (told_is node line q) (orders_stay at now q lead_q false node.draws line)))
 
   -- so who comes by it comes by the last that is offered
-  leader_last : (r : ReplicaState) (after : Place) → IsReplicasRow all rows seat event base.core.id (Some r) after → r.running ≡ true → (l : LedBy at all rows seat event base course after) → MovesLast at course course.newest (course.newest + l.leads.executed)
+  pub leader_last : (r : ReplicaState) (after : Place) → IsReplicasRow all rows seat event base.core.id (Some r) after → r.running ≡ true → (l : LedBy at all rows seat event base course after) → MovesLast at course course.newest (course.newest + l.leads.executed)
   leader_last r after row_ runs l slot least most =
       let lead : IsLeadOf at now r = (was.followed.given.gives seat.who r row_.was runs).0 in
       let from = lead.newest in
@@ -317,7 +317,7 @@ module _ (words : ℕ → ℕ → ℕ × ℕ) (at : Sets) (over : Ends) (by : Te
         to p view rests = subst (λ x. RestsAt Below_ x) (some_is p q (sym view ∙ viewed)) rests
 
         by_turn : IsTurn at by words all rows seat event base → RestsAt Below_ q
-        by_turn (TurnRests same) = raised q (sym same ∙ viewed)
+        by_turn (TurnRests same none) = raised q (sym same ∙ viewed)
         by_turn (TurnBears none made) = to (born_replica slots_ahead seat.who base) made (tt, refl)
         by_turn (TurnMakes from slot state sets t) = to (made_by seat.who from base.core.id slot state sets).0 t.then_ (made_rests Below_ seat.who from base.core.id slot state sets t.logs.whole.open_)
         by_turn (TurnTold line node r t) = to (ordered_row node.draws line (r, [])).0 t.then_ (order_rests Below_ seat.who node.draws line r (kept_of r t.was) (raised r t.was))
