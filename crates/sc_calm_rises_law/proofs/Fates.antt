@@ -68,7 +68,7 @@ module _ (at : Sets) (by : Tellers) (now after : Progress) (node : ℕ) (taken :
   }
 
   -- no promise falls
-  promises_rise : (who : ℕ) → (who ≡ node → ⊥) → IsAtLeast (pledged (after.promise who) (marks_after who)) (pledged (now.promise who) (marks who))
+  pub promises_rise : (who : ℕ) → (who ≡ node → ⊥) → IsAtLeast (pledged (after.promise who) (marks_after who)) (pledged (now.promise who) (marks who))
   promises_rise who ne =
       let fit : AreFit (now.next who) (now.promise who) (marks who ++ sent who) = subst (λ n. AreFit n (now.promise who) (marks who ++ sent who)) (row.next who ne) (subst (λ p. AreFit (after.next who) p (marks who ++ sent who)) (row.promise who ne)
       (subst (AreFit (after.next who) (after.promise who)) (row.others who ne) (then_.fits who))) in
@@ -120,7 +120,7 @@ module _ (at : Sets) (by : Tellers) (now after : Progress) (node : ℕ) (taken :
               omega (arith, most, least, newest, low, high, e, grows))
         ]
 
-  idle_fates : IsIdle now after node taken sent → StaysSo at by now after node taken (hints node) (hints_after node) → AreFated at by after hints_after marks_after
+  pub idle_fates : IsIdle now after node taken sent → StaysSo at by now after node taken (hints node) (hints_after node) → AreFated at by after hints_after marks_after
   idle_fates i hint_same = steady i.course promises reaches (λ who ne. same_hint who ne (silent who)) (let n = i.next in omega (arith, n)) (λ _. inl hint_own)
     where
       silent : (who : ℕ) → Silent at by (sent who)
@@ -144,7 +144,7 @@ module _ (at : Sets) (by : Tellers) (now after : Progress) (node : ℕ) (taken :
       reaches : (who : ℕ) → SameReach who
       reaches who = elim (cases_eq who node) [ inl is ↦ subst SameReach (sym is) reach_own | inr ne ↦ same_reach who ne (silent who) ]
 
-  takes_fates : Takes at now after node taken sent → GoesBy at by now after node taken (hints node) (hints_after node) → AreFated at by after hints_after marks_after
+  pub takes_fates : Takes at now after node taken sent → GoesBy at by now after node taken (hints node) (hints_after node) → AreFated at by after hints_after marks_after
   takes_fates t goes = steady t.course promises reaches (λ who ne. same_hint who ne (silent who)) grows own
     where
       silent : (who : ℕ) → Silent at by (sent who)
@@ -326,7 +326,7 @@ module _ (at : Sets) (by : Tellers) (now after : Progress) (node : ℕ) (taken :
                 let up = l.newest in
                 told_all at now.course who (λ is. ne (is ∙ sym l.mine)) n now.course.newest (reached (now.next who) (marks who)) (λ s least most_. member_before who s least (omega (arith, most_, up, e)) m) ∙ omega (arith, up, e)
 
-    leads_fates : AreFated at by after hints_after marks_after
+    pub leads_fates : AreFated at by after hints_after marks_after
     leads_fates = record {
       fates = λ who prem. elim (cases_Bool after.course.gone) [
         | inl gone ↦ gone_fate gone who
@@ -356,7 +356,7 @@ module _ (at : Sets) (by : Tellers) (now after : Progress) (node : ℕ) (taken :
           let up = promised_up ballot.node ne in inr (omega (arith, lt, up)))
     ]
 
-    elects_fates : AreFated at by after hints_after marks_after
+    pub elects_fates : AreFated at by after hints_after marks_after
     elects_fates = record {
       fates = λ who prem.
           (let closed : IsOpen at now.course.newest who → ⊥ = λ o. true≢false (sym (prem (subst (λ n. IsOpen at n who) (sym e.newest) o)) ∙ e.stays) in

@@ -1,2 +1,4 @@
 pub mod Lists
 pub mod Fates
+pub mod Hinted
+pub mod Rising
