@@ -2,3 +2,4 @@ pub mod Lists
 pub mod Fates
 pub mod Hinted
 pub mod Rising
+pub mod Topped
