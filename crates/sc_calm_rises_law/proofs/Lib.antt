@@ -3,3 +3,4 @@ pub mod Fates
 pub mod Hinted
 pub mod Rising
 pub mod Topped
+pub mod Quiet
