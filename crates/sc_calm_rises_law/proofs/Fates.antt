@@ -1,16 +1,15 @@
 -- What becomes of those that left a group, after each kind of row.
-use Rattle.std.proofs.Common.{◌≡◌, ℕ, zero, suc, ◌+◌, ◌-◌, ◌<◌, ◌≤◌, true, false, true≢false, List, [], ◌∷◌, ◌++◌, Option, Some, None, ◌⊎◌, inl, inr, refl, sym, ◌∙◌, ap, subst, arith, append-nil}
+use Rattle.std.proofs.Common.{◌≡◌, ℕ, zero, suc, ◌+◌, ◌-◌, ◌<◌, ◌≤◌, true, false, true≢false, List, [], ◌∷◌, ◌++◌, Option, Some, ◌⊎◌, inl, inr, refl, sym, ◌∙◌, ap, subst, arith, append-nil}
 use Rattle.std.proofs.lemmas.Bool.{cases_Bool, cases_eq, cases_lt}
 use Rattle.sc_base.specs.Among.{Each}
 use Rattle.sc_base.specs.declared.names.Ballot.{Ballot}
 use Rattle.sc_member.specs.Roster.{is_member}
 use Rattle.sc_node_table.specs.Replica.{listed}
-use Rattle.sc_node_table.specs.Slots.{slots_ahead}
 use Rattle.sc_paxos_words.specs.Ballots.{IsAtLeast}
 use Rattle.sc_paxos_words.proofs.BallotLemmas.{at_least_itself}
-use Rattle.sc_following_law.specs.Following.{Mark, Prepares, next_by, promise_by, reached, pledged, AreFit, Course, Progress, Sets, members_at, IsOpen, IsFollowing}
+use Rattle.sc_following_law.specs.Following.{Mark, promise_by, reached, pledged, AreFit, Course, Progress, Sets, members_at, IsOpen, IsFollowing}
 use Rattle.sc_following_law.specs.Hints.{Tellers, hint_by, hinted, IsOther, IsHeeding, StaysSo, GoesBy}
-use Rattle.sc_following_law.specs.Rows.{IsRow, IsIdle, IsCount, IsOffer, Takes, told_from, Leads, Elects, begun}
+use Rattle.sc_following_law.specs.Rows.{IsRow, IsIdle, IsCount, Takes, told_from, Leads, Elects}
 use Rattle.sc_following_law.proofs.Hints.{hinted-append}
 use Rattle.sc_following_law.proofs.Keeps.{counts_of}
 use Rattle.sc_following_law.proofs.Marks.{reached-append, pledged-append, reached-least, pledged-most, rises, offers-reached}
@@ -345,11 +344,11 @@ module _ (at : Sets) (by : Tellers) (now after : Progress) (node : ℕ) (taken :
 
     passed_elects : (ballot : Ballot) → IsAtLeast now.course.ballot (pledged (now.promise ballot.node) (marks ballot.node)) → IsPassed now marks ballot → IsPassed after marks_after ballot
     passed_elects ballot most (inl is) = inr (
-      let own : pledged (after.promise ballot.node) (marks_after ballot.node) ≡ after.course.ballot = asked_all ballot.node (subst (λ (b : Ballot). IsOpen at now.course.newest b.node) (sym is) (k.left e.idle e.stands)) in
-      let up = ap (λ (b : Ballot). b.round) own in
-      let same = ap (λ (b : Ballot). b.round) is in
-      omega (arith, up, same, later)
-    )
+        let own : pledged (after.promise ballot.node) (marks_after ballot.node) ≡ after.course.ballot = asked_all ballot.node (subst (λ (b : Ballot). IsOpen at now.course.newest b.node) (sym is) (k.left e.idle e.stands)) in
+        let up = ap (λ (b : Ballot). b.round) own in
+        let same = ap (λ (b : Ballot). b.round) is in
+        omega (arith, up, same, later)
+        )
     passed_elects ballot most (inr lt) = elim (open_or at ballot.node now.course.newest) [
       | inl o ↦ (let up = ap (λ (b : Ballot). b.round) (asked_all ballot.node o) in let low = round_most now.course.ballot (pledged (now.promise ballot.node) (marks ballot.node)) most in inr (omega (arith, lt, up, low, later)))
       | inr closed ↦ (let ne : ballot.node ≡ node → ⊥ = λ is. closed (subst (IsOpen at now.course.newest) (sym is) (member_open at node now.course.newest now.course.newest (omega arith) (omega arith) lead_least)) in

@@ -1,8 +1,7 @@
 -- Whom a node takes for the leader after a row in which it takes a mail goes by that mail; and one that elects itself does so with a later round.
 use Rattle.std.proofs.Common.{◌≡◌, ℕ, suc, ◌+◌, ◌-◌, ◌^◌, ◌<◌, ◌≤◌, ◌&&◌, true, false, true≢false, List, [], ◌∷◌, ◌++◌, Option, Some, None, ◌⊎◌, inl, inr, refl, sym, ◌∙◌, ap, subst, arith}
 use Rattle.std.specs.Prelude.{is_some}
-use Rattle.std.proofs.lemmas.Bool.{cases_Bool, cond-false}
-use Rattle.sc_base.specs.Among.{Each}
+use Rattle.std.proofs.lemmas.Bool.{cond-false}
 use Rattle.sc_base.specs.Same.{same_ballot}
 use Rattle.sc_base.specs.declared.names.Ballot.{Ballot}
 use Rattle.sc_base.specs.declared.names.Draw.{Draw}
@@ -16,13 +15,12 @@ use Rattle.sc_mail.specs.declared.bodies.MailBody.TheVariants.{Request, Answer, 
 use Rattle.sc_member.specs.Roster.{is_member}
 use Rattle.sc_actor.specs.declared.actors.Seat.{Seat}
 use Rattle.sc_actor.specs.declared.rows.Event.{Event}
-use Rattle.sc_actor.specs.declared.rows.Event.TheVariants.{Deliver}
 use Rattle.sc_actor.specs.Mail.{mails}
 use Rattle.sc_actor.specs.System.{row_of}
 use Rattle.sc_orderly_law.specs.Orderly.{IsCalmEvent}
 use Rattle.sc_orderly_law.specs.Timely.{AreInTime}
 use Rattle.sc_orderly_law.proofs.InTime.{in_time_before}
-use Rattle.sc_paxos_words.specs.Ballots.{below, IsAtLeast}
+use Rattle.sc_paxos_words.specs.Ballots.{IsAtLeast}
 use Rattle.sc_paxos_words.specs.Leaders.{promise_counted}
 use Rattle.sc_paxos_words.specs.declared.reports.Report.{Report}
 use Rattle.sc_paxos_words.proofs.ListLemmas.{Each-among}
@@ -30,7 +28,7 @@ use Rattle.sc_scenario.specs.declared.scenarios.Scenario.{Scenario}
 use Rattle.sc_node_table.specs.Execute.{entered}
 use Rattle.sc_node_table.specs.Node.{NodeState, group_of_mail}
 use Rattle.sc_node_table.specs.Pump.{pumped}
-use Rattle.sc_node_table.specs.Replica.{ReplicaState, Place, Executed, childless, listed, name_of, next, set_at, forgotten}
+use Rattle.sc_node_table.specs.Replica.{ReplicaState, Place, Executed, childless, listed, name_of, next, set_at}
 use Rattle.sc_node_table.specs.Rows.{mailed}
 use Rattle.sc_node_table.specs.Voting.{leads, promise_row, voted, accepted_row}
 use Rattle.sc_group_law.proofs.RowSteps.{number_among}
@@ -41,27 +39,27 @@ use Rattle.sc_calm_law.specs.Charts.{players}
 use Rattle.sc_calm_law.specs.Totals.{Rows}
 use Rattle.sc_following_law.specs.Dated.{from_slot_of}
 use Rattle.sc_following_law.specs.Following.{next_by, Mark, Asks, Votes, Tells, Installs, Prepares, Promises, mark_of, Course, Progress, Sets, members_at, IsFit}
-use Rattle.sc_following_law.specs.Hints.{Tellers, hint_by, IsOther, AreHeeded, GoesBy}
+use Rattle.sc_following_law.specs.Hints.{Tellers, hint_by, AreHeeded, GoesBy}
 use Rattle.sc_following_law.specs.Tables.{StepsBy, Stays, MayElect}
 use Rattle.sc_following_law.proofs.Dated.{prepares_are_known}
 use Rattle.sc_following_law.proofs.Elected.{tables_elect}
 use Rattle.sc_following_law.proofs.Nodes.{same_mark}
 use Rattle.sc_following_law.proofs.TableHints.{hints_follow}
-use Rattle.sc_calm_rows_law.specs.Groups.{view_at, marks_at, mark_in, taken_mark, next_in, promise_in, progress_at}
+use Rattle.sc_calm_rows_law.specs.Groups.{view_at, mark_in, taken_mark, next_in, promise_in, progress_at}
 use Rattle.sc_calm_rows_law.specs.Mailed.{IsScene}
 use Rattle.sc_calm_rows_law.specs.Senders.{IsOwnMail, IsOwnAsking}
 use Rattle.sc_calm_rows_law.specs.Turns.{IsSeat, with_event, IsReplicasRow}
 use Rattle.sc_calm_rows_law.proofs.Electing.{entered_name}
 use Rattle.sc_calm_rows_law.proofs.OwnJournal.{ballots_own}
-use Rattle.sc_calm_rows_law.proofs.Scenes.{apart_off, row_in, head, all_fit, within, no_lead, fit, known}
+use Rattle.sc_calm_rows_law.proofs.Scenes.{apart_off, head, within, fit, known}
 use Rattle.sc_calm_groups_law.specs.Led.{Ends, hint_in, hints_at, dated_at, IsWellLed}
-use Rattle.sc_calm_groups_law.specs.Logged.{IsOfLog, IsLogsState}
+use Rattle.sc_calm_groups_law.specs.Logged.{IsOfLog}
 use Rattle.sc_calm_groups_law.specs.Through.{AreWellBorn, HasOneLog, IsSentSo}
-use Rattle.sc_calm_groups_law.proofs.Dating.{dated_in, taken_dated, rows_dated}
+use Rattle.sc_calm_groups_law.proofs.Dating.{rows_dated}
 use Rattle.sc_calm_groups_law.proofs.Mails.{scene}
 use Rattle.sc_calm_mail_law.specs.Idle.{JournalsKeepIdle}
 use Rattle.sc_calm_sent_law.proofs.Asked.{kept_of, turn, s, named_is, own_name, marked, dated_is, most, goes}
-use Rattle.sc_calm_sent_law.proofs.Seeing.{stays_or_may, entered_top, told_idly}
+use Rattle.sc_calm_sent_law.proofs.Seeing.{stays_or_may, entered_top}
 use Rattle.sc_calm_sent_law.proofs.Turned.{TurnsMail, IsTurn, TurnRests, TurnBears, TurnTakes, TurnMakes, TurnTold}
 
 some_is : {X : Type 0} (x y : X) → Some x ≡ Some y → x ≡ y
@@ -251,8 +249,8 @@ module _ (words : ℕ → ℕ → ℕ × ℕ) (at : Sets) (over : Ends) (by : Te
 
         ends : (after.0.hint ≡ hint_by at by r.acceptor.promised r.hint mark) ⊎ ((course.gone ≡ true) × (next after.0 ≡ course.newest)) → Goal
         ends (inl said) = inl (
-          ap (hint_in base) row_.is ∙ (said ∙ (ap (λ x. hint_by at by r.acceptor.promised r.hint x) (some_is mark m (sym took ∙ e)) ∙ ap (λ o. hint_by at by (promise_in base o) (hint_in base o) m) (sym row_.was)))
-        )
+            ap (hint_in base) row_.is ∙ (said ∙ (ap (λ x. hint_by at by r.acceptor.promised r.hint x) (some_is mark m (sym took ∙ e)) ∙ ap (λ o. hint_by at by (promise_in base o) (hint_in base o) m) (sym row_.was)))
+            )
         ends (inr over_) = inr (over_.0, ap (next_in base seat.who) row_.is ∙ over_.1)
 
         by_turn : IsTurn at by words all rows seat event base → Goal

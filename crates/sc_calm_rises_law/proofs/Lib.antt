@@ -4,3 +4,4 @@ pub mod Hinted
 pub mod Rising
 pub mod Topped
 pub mod Quiet
+pub mod Journals

@@ -1,7 +1,7 @@
 -- In quiet, hints rise.
 use Rattle.std.proofs.Common.{◌≡◌, ℕ, ◌+◌, ◌<◌, ◌≤◌, Bool, true, false, true≢false, cond, List, [], Option, Some, None, ◌⊎◌, inl, inr, refl, sym, ◌∙◌, ap, subst, arith, append-nil}
 use Rattle.std.specs.Prelude.{is_some}
-use Rattle.std.proofs.lemmas.Bool.{cases_Bool, cases_eq}
+use Rattle.std.proofs.lemmas.Bool.{cases_Bool}
 use Rattle.sc_base.specs.declared.names.Ballot.{Ballot}
 use Rattle.sc_base.specs.declared.names.Draw.{Draw}
 use Rattle.sc_cmd.specs.declared.cores.Base.{Base}
@@ -20,15 +20,15 @@ use Rattle.sc_following_law.specs.Following.{Mark, reached, pledged, Course, Pro
 use Rattle.sc_following_law.specs.Hints.{Tellers, hinted}
 use Rattle.sc_following_law.proofs.InQuiet.{quiet-even}
 use Rattle.sc_following_law.proofs.Leads.{least_in}
-use Rattle.sc_calm_rows_law.specs.Groups.{view_at, marks_at, next_in, promise_in, progress_at, begun_course, IsLedBy}
+use Rattle.sc_calm_rows_law.specs.Groups.{view_at, marks_at, next_in, promise_in, progress_at, IsLedBy}
 use Rattle.sc_calm_groups_law.specs.Led.{Ends, hint_in, hints_at}
 use Rattle.sc_calm_groups_law.specs.Tops.{IsTopKept}
 use Rattle.sc_calm_groups_law.proofs.Keeping.{replicas_kept, scenarios_kept_born}
 use Rattle.sc_calm_sent_law.specs.Journals.{IsSentThrough}
-use Rattle.sc_calm_rises_law.specs.Fates.{IsPassed, IsFated, EndsGone}
+use Rattle.sc_calm_rises_law.specs.Fates.{IsPassed, IsFated}
 use Rattle.sc_calm_rises_law.specs.Hinting.{QuietHintsRise}
 use Rattle.sc_calm_rises_law.specs.Rising.{IsRisingOn}
-use Rattle.sc_calm_rises_law.proofs.Lists.{round_most, open_or, member_open}
+use Rattle.sc_calm_rises_law.proofs.Lists.{round_most, open_or}
 
 some_is : {X : Type 0} (x y : X) → Some x ≡ Some y → x ≡ y
 some_is x y e = cc

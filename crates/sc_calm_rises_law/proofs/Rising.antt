@@ -1,6 +1,5 @@
 -- Hints rise after one row more of a calm journal.
-use Rattle.std.proofs.Common.{◌≡◌, ℕ, suc, ◌+◌, ◌<◌, ◌≤◌, Bool, true, false, cond, true≢false, List, [], ◌∷◌, ◌++◌, Option, Some, None, ◌⊎◌, inl, inr, refl, sym, ◌∙◌, ap, subst, arith}
-use Rattle.std.proofs.lemmas.Bool.{cases_Bool, cases_eq}
+use Rattle.std.proofs.Common.{◌≡◌, ℕ, ◌+◌, ◌<◌, ◌≤◌, Bool, true, false, cond, true≢false, List, [], ◌∷◌, ◌++◌, Some, None, inl, inr, refl, sym, ◌∙◌, ap, subst, arith}
 use Rattle.sc_base.specs.Among.{Each}
 use Rattle.sc_base.specs.Same.{same_draw}
 use Rattle.sc_base.specs.declared.names.Ballot.{Ballot}
@@ -12,7 +11,7 @@ use Rattle.sc_cmd.specs.declared.orders.OrderLine.{OrderLine}
 use Rattle.sc_mail.specs.declared.bodies.Mail.{Mail}
 use Rattle.sc_mail.specs.declared.bodies.MailBody.{MailBody}
 use Rattle.sc_mail.specs.declared.bodies.MailBody.TheVariants.{Request, Answer, Prepare, Promise, Accept, Accepted, Nack, Learn, Ask, Install, TxPrepare, TxVote, TxOutcome, TxElsewhere, TxWatch, TxWatched, Told as ToldMail}
-use Rattle.sc_member.specs.Roster.{is_member, least_of}
+use Rattle.sc_member.specs.Roster.{is_member}
 use Rattle.sc_actor.specs.declared.actors.Seat.{Seat}
 use Rattle.sc_actor.specs.declared.rows.Event.{Event}
 use Rattle.sc_actor.specs.declared.rows.Row.{Row}
@@ -20,32 +19,29 @@ use Rattle.sc_actor.specs.Mail.{mails}
 use Rattle.sc_actor.specs.System.{row_of}
 use Rattle.sc_orderly_law.specs.Orderly.{IsCalmEvent}
 use Rattle.sc_orderly_law.specs.Timely.{AreInTime}
-use Rattle.sc_paxos_words.specs.Ballots.{below, IsAtLeast}
-use Rattle.sc_paxos_words.proofs.BallotLemmas.{at_least_itself, at_least_trans, at_least_from_below}
+use Rattle.sc_paxos_words.specs.Ballots.{IsAtLeast}
 use Rattle.sc_scenario.specs.declared.scenarios.Scenario.{Scenario}
-use Rattle.sc_node_table.specs.Execute.{entered}
-use Rattle.sc_node_table.specs.Replica.{ReplicaState, Place, listed, next, first_ballot, born_replica}
+use Rattle.sc_node_table.specs.Replica.{ReplicaState, Place, listed, next}
 use Rattle.sc_node_table.specs.Rows.{mailed, made_by}
 use Rattle.sc_sound.specs.Players.{Player, player_table, births, as_nodes}
 use Rattle.sc_calm_law.specs.Charts.{players}
 use Rattle.sc_calm_law.specs.Totals.{Rows}
-use Rattle.sc_following_law.specs.Following.{Mark, Asks, Votes, Tells, Installs, Prepares, Promises, mark_of, pledged, AreFit, Course, Progress, Sets, members_at, IsOpen, IsFollowing}
-use Rattle.sc_following_law.specs.Hints.{Tellers, hint_by, IsOther, AreHeeded, StaysSo, GoesBy}
+use Rattle.sc_following_law.specs.Following.{Mark, Asks, Votes, Tells, Installs, Prepares, Promises, mark_of, pledged, Course, Progress, Sets, members_at, IsOpen}
+use Rattle.sc_following_law.specs.Hints.{Tellers, hint_by, AreHeeded, GoesBy}
 use Rattle.sc_following_law.specs.Owning.{AreToldLast}
 use Rattle.sc_following_law.specs.Dated.{IsNoPrepare}
 use Rattle.sc_following_law.specs.Rows.{IsRow}
-use Rattle.sc_following_law.specs.Tables.{marks_for, next_ballot, Stays, MayElect}
+use Rattle.sc_following_law.specs.Tables.{marks_for, next_ballot}
 use Rattle.sc_following_law.proofs.Elected.{tables_elect}
 use Rattle.sc_following_law.proofs.Leads.{least_in}
-use Rattle.sc_following_law.proofs.Marks.{pledged-most}
 use Rattle.sc_following_law.proofs.TableHints.{hints_follow}
-use Rattle.sc_calm_rows_law.specs.Groups.{view_at, marks_at, mark_in, taken_mark, next_in, promise_in, progress_at}
+use Rattle.sc_calm_rows_law.specs.Groups.{view_at, marks_at, mark_in, taken_mark, promise_in, progress_at}
 use Rattle.sc_calm_rows_law.specs.Steps.{led_course, elected_course}
 use Rattle.sc_calm_rows_law.specs.Turns.{IsSeat, with_event, IsReplicasRow}
 use Rattle.sc_calm_rows_law.proofs.Electing.{entered_name}
 use Rattle.sc_calm_rows_law.proofs.Marking.{rows_are}
 use Rattle.sc_calm_rows_law.proofs.Viewing.{view_others}
-use Rattle.sc_calm_groups_law.specs.Kinds.{IsGroupRow, RowPasses, RowRests, RowTakes, RowMakes, RowLeads, RowElects, IsLedStep}
+use Rattle.sc_calm_groups_law.specs.Kinds.{IsGroupRow, RowPasses, RowRests, RowTakes, RowMakes, RowLeads, RowElects}
 use Rattle.sc_calm_groups_law.specs.Led.{Ends, hint_in, hints_at, IsWellLed}
 use Rattle.sc_calm_groups_law.specs.Logged.{IsLogsState}
 use Rattle.sc_calm_groups_law.specs.Rows.{ElectsWell}
@@ -56,13 +52,11 @@ use Rattle.sc_calm_mail_law.specs.Idle.{JournalsKeepIdle}
 use Rattle.sc_calm_sent_law.proofs.Above.{MovesLast}
 use Rattle.sc_calm_sent_law.proofs.Asked.{turn, leader_last}
 use Rattle.sc_calm_sent_law.proofs.Seeing.{told_idly}
-use Rattle.sc_calm_sent_law.proofs.Seen.{Shows, ShowsNone, ShowsAsked, ShowsRefused, ShowsOwn, shown}
-use Rattle.sc_calm_sent_law.proofs.Turned.{TurnsMail, IsTurn, TurnRests, TurnBears, TurnTakes, TurnMakes, TurnTold}
+use Rattle.sc_calm_sent_law.proofs.Turned.{IsTurn, TurnRests, TurnBears, TurnTakes, TurnMakes, TurnTold}
 use Rattle.sc_calm_rises_law.specs.Fates.{AreFated}
-use Rattle.sc_calm_rises_law.specs.Rising.{IsRisingOn, RefusesOld}
-use Rattle.sc_calm_rises_law.proofs.Fates.{promises_rise, idle_fates, takes_fates, leads_fates, elects_fates}
-use Rattle.sc_calm_rises_law.proofs.Hinted.{own, told_fit, own_body, none_flies, told_or, takes_by}
-use Rattle.sc_calm_rises_law.proofs.Lists.{round_most, member_open, pledged_rises}
+use Rattle.sc_calm_rises_law.proofs.Fates.{idle_fates, takes_fates, leads_fates, elects_fates}
+use Rattle.sc_calm_rises_law.proofs.Hinted.{told_fit, own_body, none_flies, told_or, takes_by}
+use Rattle.sc_calm_rises_law.proofs.Lists.{round_most, member_open}
 
 some_is : {X : Type 0} (x y : X) → Some x ≡ Some y → x ≡ y
 some_is x y e = cc
@@ -216,7 +210,7 @@ module _ (words : ℕ → ℕ → ℕ × ℕ) (at : Sets) (over : Ends) (by : Te
     abbrev Fated : Course → Type 0
     Fated c = AreFated at by (after_ c) (hints_at all then_ base) marks_then
 
-    fated_then : (later : Course) → IsWellLed at over by words all (with_event rows seat event) base later → IsGroupRow at over by all rows seat event base course later → Fated later
+    pub fated_then : (later : Course) → IsWellLed at over by words all (with_event rows seat event) base later → IsGroupRow at over by all rows seat event base course later → Fated later
     fated_then later led (RowPasses same leaves) =
         let led_ : IsWellLed at over by words all then_ base course = subst (IsWellLed at over by words all then_ base) same led in
         let hint : hints_at all then_ base seat.who ≡ hints_at all rows base seat.who = elim (leaves.view) [ inl stays ↦ ap (hint_in base) stays | inr bears ↦ ap (hint_in base) bears.1 ∙ sym (ap (hint_in base) bears.0) ] in

@@ -1,5 +1,5 @@
 -- No replica saw a later ballot than it has promised, once it has taken its mail, after one row more.
-use Rattle.std.proofs.Common.{◌≡◌, ℕ, ◌≤◌, true, false, true≢false, List, [], ◌∷◌, ◌++◌, Option, Some, None, ◌⊎◌, inl, inr, refl, sym, ◌∙◌, ap, subst, arith}
+use Rattle.std.proofs.Common.{◌≡◌, ℕ, true, true≢false, List, [], ◌∷◌, ◌++◌, Option, Some, None, ◌⊎◌, inl, inr, sym, ◌∙◌, ap, subst, arith}
 use Rattle.std.proofs.lemmas.Bool.{cases_eq}
 use Rattle.sc_base.specs.declared.names.Ballot.{Ballot}
 use Rattle.sc_base.specs.declared.names.Draw.{Draw}
@@ -20,9 +20,9 @@ use Rattle.sc_node_table.specs.Replica.{ReplicaState, listed, first_ballot}
 use Rattle.sc_sound.specs.Players.{Player, player_table, births, as_nodes}
 use Rattle.sc_calm_law.specs.Charts.{players}
 use Rattle.sc_calm_law.specs.Totals.{Rows}
-use Rattle.sc_following_law.specs.Following.{Mark, Tells, Installs, Prepares, promise_by, reached, pledged, AreFit, Course, Progress, Sets, IsOpen, IsFollowing}
+use Rattle.sc_following_law.specs.Following.{Mark, Prepares, promise_by, reached, pledged, AreFit, Course, Progress, Sets, IsOpen}
 use Rattle.sc_following_law.specs.Hints.{Tellers}
-use Rattle.sc_following_law.specs.Rows.{IsRow, IsCount, IsLast}
+use Rattle.sc_following_law.specs.Rows.{IsRow, IsLast}
 use Rattle.sc_following_law.specs.Tables.{marks_for}
 use Rattle.sc_following_law.proofs.Marks.{pledged-append, count-pledged}
 use Rattle.sc_calm_rows_law.specs.Groups.{view_at, marks_at, taken_mark, promise_in, progress_at}

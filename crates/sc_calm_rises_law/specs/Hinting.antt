@@ -1,5 +1,5 @@
 -- That hints rise in quiet fronts of a calm journal: what is kept of each group row by row, and what follows of it in quiet.
-use Rattle.std.specs.Prelude.{◌≡◌, ℕ, true, false, List, [], Some, None}
+use Rattle.std.specs.Prelude.{◌≡◌, ℕ, true, false, [], Some, None}
 use Rattle.sc_cmd.specs.declared.cores.Base.{Base}
 use Rattle.sc_cmd.specs.declared.orders.OrderLine.{OrderLine}
 use Rattle.sc_member.specs.Roster.{is_member}
