@@ -1,16 +1,15 @@
 -- What becomes of those that left a group, after each kind of row.
-use Rattle.std.proofs.Common.{◌≡◌, ℕ, zero, suc, ◌+◌, ◌-◌, ◌<◌, ◌≤◌, true, false, true≢false, List, [], ◌∷◌, ◌++◌, Option, Some, None, ◌⊎◌, inl, inr, refl, sym, ◌∙◌, ap, subst, arith, append-nil}
+use Rattle.std.proofs.Common.{◌≡◌, ℕ, zero, suc, ◌+◌, ◌-◌, ◌<◌, ◌≤◌, true, false, true≢false, List, [], ◌∷◌, ◌++◌, Option, Some, ◌⊎◌, inl, inr, refl, sym, ◌∙◌, ap, subst, arith, append-nil}
 use Rattle.std.proofs.lemmas.Bool.{cases_Bool, cases_eq, cases_lt}
 use Rattle.sc_base.specs.Among.{Each}
 use Rattle.sc_base.specs.declared.names.Ballot.{Ballot}
 use Rattle.sc_member.specs.Roster.{is_member}
 use Rattle.sc_node_table.specs.Replica.{listed}
-use Rattle.sc_node_table.specs.Slots.{slots_ahead}
 use Rattle.sc_paxos_words.specs.Ballots.{IsAtLeast}
 use Rattle.sc_paxos_words.proofs.BallotLemmas.{at_least_itself}
-use Rattle.sc_following_law.specs.Following.{Mark, Prepares, next_by, promise_by, reached, pledged, AreFit, Course, Progress, Sets, members_at, IsOpen, IsFollowing}
+use Rattle.sc_following_law.specs.Following.{Mark, promise_by, reached, pledged, AreFit, Course, Progress, Sets, members_at, IsOpen, IsFollowing}
 use Rattle.sc_following_law.specs.Hints.{Tellers, hint_by, hinted, IsOther, IsHeeding, StaysSo, GoesBy}
-use Rattle.sc_following_law.specs.Rows.{IsRow, IsIdle, IsCount, IsOffer, Takes, told_from, Leads, Elects, begun}
+use Rattle.sc_following_law.specs.Rows.{IsRow, IsIdle, IsCount, Takes, told_from, Leads, Elects}
 use Rattle.sc_following_law.proofs.Hints.{hinted-append}
 use Rattle.sc_following_law.proofs.Keeps.{counts_of}
 use Rattle.sc_following_law.proofs.Marks.{reached-append, pledged-append, reached-least, pledged-most, rises, offers-reached}
@@ -68,7 +67,7 @@ module _ (at : Sets) (by : Tellers) (now after : Progress) (node : ℕ) (taken :
   }
 
   -- no promise falls
-  promises_rise : (who : ℕ) → (who ≡ node → ⊥) → IsAtLeast (pledged (after.promise who) (marks_after who)) (pledged (now.promise who) (marks who))
+  pub promises_rise : (who : ℕ) → (who ≡ node → ⊥) → IsAtLeast (pledged (after.promise who) (marks_after who)) (pledged (now.promise who) (marks who))
   promises_rise who ne =
       let fit : AreFit (now.next who) (now.promise who) (marks who ++ sent who) = subst (λ n. AreFit n (now.promise who) (marks who ++ sent who)) (row.next who ne) (subst (λ p. AreFit (after.next who) p (marks who ++ sent who)) (row.promise who ne)
       (subst (AreFit (after.next who) (after.promise who)) (row.others who ne) (then_.fits who))) in
@@ -120,7 +119,7 @@ module _ (at : Sets) (by : Tellers) (now after : Progress) (node : ℕ) (taken :
               omega (arith, most, least, newest, low, high, e, grows))
         ]
 
-  idle_fates : IsIdle now after node taken sent → StaysSo at by now after node taken (hints node) (hints_after node) → AreFated at by after hints_after marks_after
+  pub idle_fates : IsIdle now after node taken sent → StaysSo at by now after node taken (hints node) (hints_after node) → AreFated at by after hints_after marks_after
   idle_fates i hint_same = steady i.course promises reaches (λ who ne. same_hint who ne (silent who)) (let n = i.next in omega (arith, n)) (λ _. inl hint_own)
     where
       silent : (who : ℕ) → Silent at by (sent who)
@@ -144,7 +143,7 @@ module _ (at : Sets) (by : Tellers) (now after : Progress) (node : ℕ) (taken :
       reaches : (who : ℕ) → SameReach who
       reaches who = elim (cases_eq who node) [ inl is ↦ subst SameReach (sym is) reach_own | inr ne ↦ same_reach who ne (silent who) ]
 
-  takes_fates : Takes at now after node taken sent → GoesBy at by now after node taken (hints node) (hints_after node) → AreFated at by after hints_after marks_after
+  pub takes_fates : Takes at now after node taken sent → GoesBy at by now after node taken (hints node) (hints_after node) → AreFated at by after hints_after marks_after
   takes_fates t goes = steady t.course promises reaches (λ who ne. same_hint who ne (silent who)) grows own
     where
       silent : (who : ℕ) → Silent at by (sent who)
@@ -326,7 +325,7 @@ module _ (at : Sets) (by : Tellers) (now after : Progress) (node : ℕ) (taken :
                 let up = l.newest in
                 told_all at now.course who (λ is. ne (is ∙ sym l.mine)) n now.course.newest (reached (now.next who) (marks who)) (λ s least most_. member_before who s least (omega (arith, most_, up, e)) m) ∙ omega (arith, up, e)
 
-    leads_fates : AreFated at by after hints_after marks_after
+    pub leads_fates : AreFated at by after hints_after marks_after
     leads_fates = record {
       fates = λ who prem. elim (cases_Bool after.course.gone) [
         | inl gone ↦ gone_fate gone who
@@ -345,18 +344,18 @@ module _ (at : Sets) (by : Tellers) (now after : Progress) (node : ℕ) (taken :
 
     passed_elects : (ballot : Ballot) → IsAtLeast now.course.ballot (pledged (now.promise ballot.node) (marks ballot.node)) → IsPassed now marks ballot → IsPassed after marks_after ballot
     passed_elects ballot most (inl is) = inr (
-      let own : pledged (after.promise ballot.node) (marks_after ballot.node) ≡ after.course.ballot = asked_all ballot.node (subst (λ (b : Ballot). IsOpen at now.course.newest b.node) (sym is) (k.left e.idle e.stands)) in
-      let up = ap (λ (b : Ballot). b.round) own in
-      let same = ap (λ (b : Ballot). b.round) is in
-      omega (arith, up, same, later)
-    )
+        let own : pledged (after.promise ballot.node) (marks_after ballot.node) ≡ after.course.ballot = asked_all ballot.node (subst (λ (b : Ballot). IsOpen at now.course.newest b.node) (sym is) (k.left e.idle e.stands)) in
+        let up = ap (λ (b : Ballot). b.round) own in
+        let same = ap (λ (b : Ballot). b.round) is in
+        omega (arith, up, same, later)
+        )
     passed_elects ballot most (inr lt) = elim (open_or at ballot.node now.course.newest) [
       | inl o ↦ (let up = ap (λ (b : Ballot). b.round) (asked_all ballot.node o) in let low = round_most now.course.ballot (pledged (now.promise ballot.node) (marks ballot.node)) most in inr (omega (arith, lt, up, low, later)))
       | inr closed ↦ (let ne : ballot.node ≡ node → ⊥ = λ is. closed (subst (IsOpen at now.course.newest) (sym is) (member_open at node now.course.newest now.course.newest (omega arith) (omega arith) lead_least)) in
           let up = promised_up ballot.node ne in inr (omega (arith, lt, up)))
     ]
 
-    elects_fates : AreFated at by after hints_after marks_after
+    pub elects_fates : AreFated at by after hints_after marks_after
     elects_fates = record {
       fates = λ who prem.
           (let closed : IsOpen at now.course.newest who → ⊥ = λ o. true≢false (sym (prem (subst (λ n. IsOpen at n who) (sym e.newest) o)) ∙ e.stays) in

@@ -1,17 +1,17 @@
 -- Lists of marks that leave whom a node takes for the leader, and which slots a node decides.
-use Rattle.std.proofs.Common.{◌≡◌, ℕ, zero, suc, ◌+◌, ◌<◌, ◌≤◌, eqb, true, false, true≢false, List, [], ◌∷◌, ◌++◌, Option, Some, ◌⊎◌, inl, inr, refl, sym, ◌∙◌, ap, subst, arith}
+use Rattle.std.proofs.Common.{◌≡◌, ℕ, zero, suc, ◌+◌, ◌<◌, ◌≤◌, eqb, true, false, true≢false, List, [], ◌∷◌, ◌++◌, Option, ◌⊎◌, inl, inr, refl, sym, ◌∙◌, ap, subst, arith}
 use Rattle.std.proofs.lemmas.Bool.{cases_Bool, cases_eq, cases_lt, cond-true, cond-false, cond_both, eqb-true}
 use Rattle.sc_base.specs.Among.{Each}
 use Rattle.sc_base.specs.declared.names.Ballot.{Ballot}
 use Rattle.sc_member.specs.Roster.{is_member}
 use Rattle.sc_node_table.specs.Slots.{slots_ahead}
-use Rattle.sc_paxos_words.specs.Ballots.{below, IsAtLeast}
+use Rattle.sc_paxos_words.specs.Ballots.{IsAtLeast}
 use Rattle.sc_paxos_words.proofs.BallotLemmas.{at_least_itself, at_least_trans, not_below_parts}
 use Rattle.sc_following_law.specs.Following.{Mark, Asks, Votes, Tells, Installs, Prepares, Promises, next_by, promise_by, reached, pledged, IsFit, AreFit, Course, Sets, members_at, IsOpen}
-use Rattle.sc_following_law.specs.Hints.{Tellers, hint_by, hinted}
+use Rattle.sc_following_law.specs.Hints.{Tellers, hinted}
 use Rattle.sc_following_law.specs.Rows.{IsCount, IsOffer, told_of, told_from}
-use Rattle.sc_following_law.proofs.Hints.{hinted-append, count-hinted}
-use Rattle.sc_following_law.proofs.Marks.{reached-append, pledged-append, count-reached, count-pledged}
+use Rattle.sc_following_law.proofs.Hints.{count-hinted}
+use Rattle.sc_following_law.proofs.Marks.{reached-append, count-reached, count-pledged}
 
 -- ---- rounds
 

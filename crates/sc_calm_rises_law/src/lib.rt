@@ -1,7 +1,32 @@
-//! That hints rise in quiet fronts of a calm journal, and that no more rounds were begun than orders
-//! told. Definitions and laws, no logic.
+//! That hints rise in quiet fronts of a calm journal: what is kept of each group row by row, and what
+//! follows of it in quiet. Definitions and laws, no logic.
 #![tactic(auto)]
 
-/// Nothing yet.
-pub fn rises_later()
+ghost use Rattle.sc_calm_rises_law.specs.Hinting.{GroupsBeginRising, NextRowsRise, QuietHintsRise};
+
+use sc_calm_groups_law::scenarios_are_well_born;
+use sc_calm_mail_law::journals_keep_idle;
+use sc_calm_sent_law::groups_are_born_as_begun;
+
+/// At the births each node takes the first member for the leader, and has promised its ballot.
+pub fn groups_begin_rising()
+    ensures { GroupsBeginRising }
+{
+    groups_are_born_as_begun();
+}
+
+/// After each row those that left the group take for the leader the node of the ballot that they
+/// promised last, and that one leads still, or has promised a later round; and no replica saw a
+/// later ballot than it has promised, once it has taken its mail.
+pub fn next_rows_rise()
+    ensures { NextRowsRise }
+{
+    journals_keep_idle();
+    scenarios_are_well_born();
+}
+
+/// So where none of the group's mail is under way, and its first members have made their replicas,
+/// hints rise.
+pub fn quiet_hints_rise()
+    ensures { QuietHintsRise }
 {}

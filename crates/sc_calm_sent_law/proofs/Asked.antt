@@ -60,7 +60,7 @@ use Rattle.sc_calm_mail_law.specs.Idle.{IsPlainlyKept, JournalsKeepIdle}
 use Rattle.sc_calm_sent_law.specs.Above.{AreAbove, HasBelow, IsAskedOn}
 use Rattle.sc_calm_sent_law.proofs.Above.{MovesLast, top_of, tops_after, own_top, others_top, own_up, low_after, sent_above, counts_asked, leads_asked, elects_asked}
 use Rattle.sc_calm_sent_law.proofs.Accepting.{IsPlainMail, RestsAt, mail_rests, order_rests, made_rests, asked_stands, polled_stands, nacked_stands}
-use Rattle.sc_calm_sent_law.proofs.Comers.{GoesFrom, votes_go}
+use Rattle.sc_calm_sent_law.proofs.Comers.{HasAct, GoesFrom, votes_go}
 use Rattle.sc_calm_sent_law.proofs.Turned.{TurnsMail, IsTurn, TurnRests, TurnBears, TurnTakes, TurnMakes, TurnTold, turn_of}
 
 some_is : {X : Type 0} (x y : X) → Some x ≡ Some y → x ≡ y
@@ -133,7 +133,7 @@ module _ (words : ℕ → ℕ → ℕ × ℕ) (at : Sets) (over : Ends) (by : Te
     pub marked : (mark : Mark) → mark_of base.core.id mail.from mail.body ≡ Some mark → taken_mark name (mails rows) event ≡ Some mark
     marked mark e = ap (taken_mark name (mails rows)) t.event_is ∙ (ap (mark_in name) t.takes.sent ∙ e)
 
-    dated_is : (mark : Mark) → mark_of base.core.id mail.from mail.body ≡ Some mark → taken_dated base.core.id (mails rows) event ≡ Some (mark, from_slot_of mail.body)
+    pub dated_is : (mark : Mark) → mark_of base.core.id mail.from mail.body ≡ Some mark → taken_dated base.core.id (mails rows) event ≡ Some (mark, from_slot_of mail.body)
     dated_is mark e = ap (taken_dated name (mails rows)) t.event_is ∙ (ap (dated_in name) t.takes.sent ∙ ap (option_map (λ m. (m, from_slot_of mail.body))) e)
 
     pub most : IsAtLeast course.ballot r.acceptor.promised
@@ -149,7 +149,7 @@ module _ (words : ℕ → ℕ → ℕ × ℕ) (at : Sets) (over : Ends) (by : Te
       lead = (was.followed.given.gives seat.who r view runs).0
 
       abbrev Moves : Type 0
-      Moves = (next (mailed mail.from mail.body (r, [])).0.0 ≡ next r) ⊎ GoesFrom at course (next r) (mailed mail.from mail.body (r, [])).0.0
+      Moves = (next (mailed mail.from mail.body (r, [])).0.0 ≡ next r) ⊎ GoesFrom (HasAct r) at course (next r) (mailed mail.from mail.body (r, [])).0.0
 
       module _ (counts : Each IsCount (listed (taken_mark base.core.id (mails rows) event))) where
         count_of : (mark : Mark) → mark_of base.core.id mail.from mail.body ≡ Some mark → IsCount mark
@@ -161,7 +161,7 @@ module _ (words : ℕ → ℕ → ℕ × ℕ) (at : Sets) (over : Ends) (by : Te
         moves : (b : MailBody) → mail.body ≡ b → Moves
         moves (Accepted g ballot slot) e =
             let body : mail.body ≡ Accepted name ballot slot = e ∙ ap (λ n. Accepted n ballot slot) (own_name g (ap group_of_mail e)) in
-            inr (subst (λ b. GoesFrom at course (next r) (mailed mail.from b (r, [])).0.0) (sym (body ∙ ap (λ n. Accepted n ballot slot) (sym named_is)))
+            inr (subst (λ b. GoesFrom (HasAct r) at course (next r) (mailed mail.from b (r, [])).0.0) (sym (body ∙ ap (λ n. Accepted n ballot slot) (sym named_is)))
             (votes_go at now mail.from ballot slot r one.log.rosters lead (one.decided rows seat number mail ballot slot r t.delivers body view runs) (order_is_kept.alone at course r lead.led (was.orderly seat.who r view runs))))
         moves (Promise g ballot reports) e =
             let body : mail.body ≡ Promise name ballot reports = e ∙ ap (λ n. Promise n ballot reports) (own_name g (ap group_of_mail e)) in
@@ -230,7 +230,7 @@ module _ (words : ℕ → ℕ → ℕ × ℕ) (at : Sets) (over : Ends) (by : Te
 
   module _ (r : ReplicaState) (after : Place) (row_ : IsReplicasRow all rows seat event base.core.id (Some r) after) (runs : r.running ≡ true) (counts : Each IsCount (listed (taken_mark base.core.id (mails rows) event))) where
     abbrev MovesTo : ReplicaState → ReplicaState → Type 0
-    MovesTo q p = (next p ≡ next q) ⊎ GoesFrom at course (next q) p
+    MovesTo q p = (next p ≡ next q) ⊎ GoesFrom (HasAct q) at course (next q) p
 
     moves_to : (q p : ReplicaState) → view_at all rows base.core.id seat.who ≡ Some q → view_at all (with_event rows seat event) base.core.id seat.who ≡ Some p → MovesTo q p → MovesTo r after.0
     moves_to q p view viewed m =
@@ -243,7 +243,7 @@ module _ (words : ℕ → ℕ → ℕ × ℕ) (at : Sets) (over : Ends) (by : Te
     leader_moves = by_turn turn
       where
         by_turn : IsTurn at by words all rows seat event base → MovesTo r after.0
-        by_turn (TurnRests same) = inl (ap next (some_is after.0 r (sym row_.is ∙ (same ∙ row_.was))))
+        by_turn (TurnRests same none) = inl (ap next (some_is after.0 r (sym row_.is ∙ (same ∙ row_.was))))
         by_turn (TurnBears none made) = absurd (some_none r (view_at all rows base.core.id seat.who) row_.was none)
         by_turn (TurnMakes from slot state sets t) = absurd (some_none r (view_at all rows base.core.id seat.who) row_.was t.was)
         by_turn (TurnTakes number mail node q t) =
@@ -253,7 +253,7 @@ module _ (words : ℕ → ℕ → ℕ × ℕ) (at : Sets) (over : Ends) (by : Te
             moves_to q (ordered_row node.draws line (q, [])).0 t.was t.then_ (inl (subst (λ (p : Place). next p.0 ≡ next q) (told_is node line q) (orders_stay at now q lead_q false node.draws line)))
 
   -- so who comes by it comes by the last that is offered
-  leader_last : (r : ReplicaState) (after : Place) → IsReplicasRow all rows seat event base.core.id (Some r) after → r.running ≡ true → (l : LedBy at all rows seat event base course after) → MovesLast at course course.newest (course.newest + l.leads.executed)
+  pub leader_last : (r : ReplicaState) (after : Place) → IsReplicasRow all rows seat event base.core.id (Some r) after → r.running ≡ true → (l : LedBy at all rows seat event base course after) → MovesLast at course course.newest (course.newest + l.leads.executed)
   leader_last r after row_ runs l slot least most =
       let lead : IsLeadOf at now r = (was.followed.given.gives seat.who r row_.was runs).0 in
       let from = lead.newest in
@@ -317,7 +317,7 @@ module _ (words : ℕ → ℕ → ℕ × ℕ) (at : Sets) (over : Ends) (by : Te
         to p view rests = subst (λ x. RestsAt Below_ x) (some_is p q (sym view ∙ viewed)) rests
 
         by_turn : IsTurn at by words all rows seat event base → RestsAt Below_ q
-        by_turn (TurnRests same) = raised q (sym same ∙ viewed)
+        by_turn (TurnRests same none) = raised q (sym same ∙ viewed)
         by_turn (TurnBears none made) = to (born_replica slots_ahead seat.who base) made (tt, refl)
         by_turn (TurnMakes from slot state sets t) = to (made_by seat.who from base.core.id slot state sets).0 t.then_ (made_rests Below_ seat.who from base.core.id slot state sets t.logs.whole.open_)
         by_turn (TurnTold line node r t) = to (ordered_row node.draws line (r, [])).0 t.then_ (order_rests Below_ seat.who node.draws line r (kept_of r t.was) (raised r t.was))

@@ -263,7 +263,7 @@ module _ (words : ℕ → ℕ → ℕ × ℕ) (at : Sets) (over : Ends) (by : Te
       to p view_p k = subst (λ x. Result x) (some_is p q (sym view_p ∙ is)) k
 
       by_turn : IsTurn at by words all rows seat event base → Result q
-      by_turn (TurnRests same) = inl (q, sym same ∙ is, ShowsNone (at_least_itself q.top))
+      by_turn (TurnRests same none) = inl (q, sym same ∙ is, ShowsNone (at_least_itself q.top))
       by_turn (TurnBears none made) = to (born_replica slots_ahead seat.who base) made (inr (none, inr refl))
       by_turn (TurnTakes number mail node r t) = to (mailed mail.from mail.body (r, [])).0.0 (viewed number mail node r t) (inl (r, t.row_.was, shows number mail node r t mail.body refl))
       by_turn (TurnMakes from slot state sets t) = to (made_by seat.who from base.core.id slot state sets).0 t.then_ (elim (made_keeps seat.who from base.core.id slot state sets) [ inl runs ↦ inr (t.was, inl runs) | inr same ↦ inr (t.was, inr (same ∙ t.logs.firsts)) ])

@@ -12,6 +12,7 @@ use Rattle.sc_mail.specs.declared.roles.Role.TheVariants.{Node, Client}
 use Rattle.sc_actor.specs.declared.actors.Seat.{Seat}
 use Rattle.sc_actor.specs.declared.rows.Event.{Event}
 use Rattle.sc_actor.specs.declared.rows.Event.TheVariants.{Deliver, Tick, Go, Told, Crash, Drop, Again}
+use Rattle.sc_actor.specs.Mail.{mails}
 use Rattle.sc_actor.specs.Replay.{value}
 use Rattle.sc_actor.specs.System.{row_of}
 use Rattle.sc_orderly_law.specs.Orderly.{IsTidy, IsCalmEvent}
@@ -28,9 +29,9 @@ use Rattle.sc_calm_law.specs.Charts.{players}
 use Rattle.sc_calm_law.specs.Totals.{Rows}
 use Rattle.sc_following_law.specs.Following.{mark_of, Sets}
 use Rattle.sc_following_law.specs.Hints.{Tellers}
-use Rattle.sc_calm_rows_law.specs.Groups.{view_at, mark_in}
+use Rattle.sc_calm_rows_law.specs.Groups.{view_at, mark_in, taken_mark, begun_course}
 use Rattle.sc_calm_rows_law.specs.Mailed.{TakesMail, HoldsReplica}
-use Rattle.sc_calm_rows_law.specs.Turns.{IsSeat, with_event, IsReplicasRow}
+use Rattle.sc_calm_rows_law.specs.Turns.{IsSeat, with_event, IsReplicasRow, LeavesAlone, LeavesOrBears}
 use Rattle.sc_calm_rows_law.specs.WellKept.{IsWellKept}
 use Rattle.sc_calm_rows_law.proofs.Turning.{others_idle, rows_replicas}
 use Rattle.sc_calm_rows_law.proofs.Viewing.{view_was}
@@ -63,7 +64,7 @@ pub record TurnsOrder (births : List (Seat Player)) (rows : Rows) (seat : Seat P
 
 -- what an event does to the replica of who acts
 pub data IsTurn (at : Sets) (by : Tellers) (words : ℕ → ℕ → ℕ × ℕ) (births : List (Seat Player)) (rows : Rows) (seat : Seat Player) (event : Event OrderLine) (base : Base) : Type 0 where
-  TurnRests : view_at births (with_event rows seat event) base.core.id seat.who ≡ view_at births rows base.core.id seat.who → IsTurn at by words births rows seat event base
+  TurnRests : view_at births (with_event rows seat event) base.core.id seat.who ≡ view_at births rows base.core.id seat.who → taken_mark base.core.id (mails rows) event ≡ None → IsTurn at by words births rows seat event base
   TurnBears : view_at births rows base.core.id seat.who ≡ None → view_at births (with_event rows seat event) base.core.id seat.who ≡ Some (born_replica slots_ahead seat.who base) → IsTurn at by words births rows seat event base
   TurnTakes : (number : ℕ) (mail : Mail) (node : NodeState) (r : ReplicaState) → TurnsMail words births rows seat event base number mail node r → IsTurn at by words births rows seat event base
   TurnMakes : (from slot : ℕ) (state : Base) (sets : List (List ℕ)) → TurnsState at by births rows seat event base from slot state sets → IsTurn at by words births rows seat event base
@@ -80,6 +81,13 @@ module _ (at : Sets) (over : Ends) (by : Tellers) (words : ℕ → ℕ → ℕ �
   abbrev Turn : Event OrderLine → Type 0
   Turn event = IsTurn at by words births rows seat event base
 
+  -- one that does nothing
+  rests : (event : Event OrderLine) → LeavesAlone births rows seat event base → Turn event
+  rests event leaves = TurnRests leaves.view (leaves.idle (begun_course base)).takes
+
+  bears_or : (event : Event OrderLine) → LeavesOrBears births rows seat event base → Turn event
+  bears_or event leaves = elim (leaves.view) [ inl same ↦ TurnRests same (leaves.idle (begun_course base)).takes | inr bears ↦ TurnBears bears.0 bears.1 ]
+
   module _ (node : NodeState) (is : value player_table seat rows ≡ Node node) where
     plays : Plays seat.who (Node node)
     plays = subst (Plays seat.who) is (replay_well seat.who seat.who rows seat.actor [] (plays_of seat.who seat.actor (wb.well seat born)))
@@ -93,7 +101,7 @@ module _ (at : Sets) (over : Ends) (by : Tellers) (words : ℕ → ℕ → ℕ �
     module _ (number : ℕ) (mail : Mail) (one : HasOneLog at over by births (with_event rows seat (Deliver number)) base) (so : IsSentSo births (with_event rows seat (Deliver number)) base) (timely : AreInTime (players words births) (with_event rows seat (Deliver number)))
         (d : Delivers (with_event rows seat (Deliver number)) rows seat number mail) where
       missed : group_of_mail mail.body ≡ Some base.core.id → replica_of name node.replicas ≡ None → mark_of name mail.from mail.body ≡ None → Turn (Deliver number)
-      missed group here none = TurnRests (others_idle.missed births rows seat number mail base node born is d.sent none group here).view
+      missed group here none = rests (Deliver number) (others_idle.missed births rows seat number mail base node born is d.sent none group here)
 
       makes : group_of_mail mail.body ≡ Some base.core.id → replica_of name node.replicas ≡ None → Turn (Deliver number)
       makes group here = elim (so.finds rows seat number mail node d born is here) [
@@ -121,7 +129,7 @@ module _ (at : Sets) (over : Ends) (by : Tellers) (words : ℕ → ℕ → ℕ �
           row_ = rows_replicas.taken births rows seat number mail name node r born is d.sent comes group here;
         })
         | inr barred ↦ elim (so.comes rows seat number mail d) [
-          | inl none ↦ TurnRests (others_idle.barred births rows seat number mail base node born is d.sent none barred).view
+          | inl none ↦ rests (Deliver number) (others_idle.barred births rows seat number mail base node born is d.sent none barred)
           | inr comes ↦ absurd (true≢false (sym comes ∙ barred))
         ]
       ]
@@ -131,21 +139,21 @@ module _ (at : Sets) (over : Ends) (by : Tellers) (words : ℕ → ℕ → ℕ �
       own_mail (Some r) group here = takes r group here
 
       by_group : (o : Option Draw) → group_of_mail mail.body ≡ o → Turn (Deliver number)
-      by_group None e = TurnRests (others_idle.stray births rows seat number mail base node born is d.sent e).view
+      by_group None e = rests (Deliver number) (others_idle.stray births rows seat number mail base node born is d.sent e)
       by_group (Some g) e = elim (cases_Bool (same_draw g name)) [
         | inl t ↦ own_mail (replica_of name node.replicas) (e ∙ ap Some (draw_is g name t)) refl
         | inr f ↦ (let ne : g ≡ name → ⊥ = λ is_. true≢false (sym (same_name g name is_) ∙ f) in
-            elim ((others_idle.other births rows seat number mail base g node born is plays.0 d.sent e ne (one.born rows seat number mail node g d born is e ne)).view) [ inl same ↦ TurnRests same | inr bears ↦ TurnBears bears.0 bears.1 ])
+            bears_or (Deliver number) (others_idle.other births rows seat number mail base g node born is plays.0 d.sent e ne (one.born rows seat number mail node g d born is e ne)))
       ]
 
     ordered : (line : OrderLine) → Turn (Told line)
     ordered line = elim (cases_Bool (same_draw (group_of_order line.order) name)) [
       | inl t ↦ by_replica (replica_of name node.replicas) (draw_is (group_of_order line.order) name t) refl
-      | inr f ↦ TurnRests (others_idle.ordered births rows seat line base node born is (λ is_. true≢false (sym (same_name (group_of_order line.order) name is_) ∙ f))).view
+      | inr f ↦ rests (Told line) (others_idle.ordered births rows seat line base node born is (λ is_. true≢false (sym (same_name (group_of_order line.order) name is_) ∙ f)))
     ]
       where
         by_replica : (o : Option ReplicaState) → group_of_order line.order ≡ name → replica_of name node.replicas ≡ o → Turn (Told line)
-        by_replica None group here = TurnRests (others_idle.refused births rows seat line base node born is (ap (λ n. replica_of n node.replicas) group ∙ here)).view
+        by_replica None group here = rests (Told line) (others_idle.refused births rows seat line base node born is (ap (λ n. replica_of n node.replicas) group ∙ here))
         by_replica (Some r) group here =
             let row_ : IsReplicasRow births rows seat (Told line) name (Some r) (ordered_row node.draws line (r, [])) =
             subst (λ n. IsReplicasRow births rows seat (Told line) n (Some r) (ordered_row node.draws line (r, []))) group (rows_replicas.ordered births rows seat line node r born is (ap (λ n. replica_of n node.replicas) group ∙ here)) in
@@ -157,9 +165,9 @@ module _ (at : Sets) (over : Ends) (by : Tellers) (words : ℕ → ℕ → ℕ �
       let tidy : IsTidy rows = in_time_tidy (players words births) rows (in_time_before (players words births) rows (row_of player_table seat rows (Deliver number)) timely) in
       let f = takes_first (players words births) rows seat.who number tidy (is_born-from (players words births) seat.who seat born) calm in
       let d : Delivers (with_event rows seat (Deliver number)) rows seat number f.mail = record { row = record { more = []; is = sym (append-nil (with_event rows seat (Deliver number))) }; sent = f.sent } in
-      TurnRests (others_idle.client births rows seat (Deliver number) base client born is (ap (mark_in name) f.sent ∙ so.clients rows seat number f.mail client d born is)).view
-  by_player (Client client) Go is one so timely calm = TurnRests (others_idle.client births rows seat Go base client born is refl).view
-  by_player (Client client) (Told line) is one so timely calm = TurnRests (others_idle.client births rows seat (Told line) base client born is refl).view
+      rests (Deliver number) (others_idle.client births rows seat (Deliver number) base client born is (ap (mark_in name) f.sent ∙ so.clients rows seat number f.mail client d born is))
+  by_player (Client client) Go is one so timely calm = rests Go (others_idle.client births rows seat Go base client born is refl)
+  by_player (Client client) (Told line) is one so timely calm = rests (Told line) (others_idle.client births rows seat (Told line) base client born is refl)
   by_player (Client client) Tick is one so timely calm = absurd calm
   by_player (Client client) Crash is one so timely calm = absurd calm
   by_player (Client client) (Drop mail) is one so timely calm = absurd calm
@@ -169,7 +177,7 @@ module _ (at : Sets) (over : Ends) (by : Tellers) (words : ℕ → ℕ → ℕ �
       let f = takes_first (players words births) rows seat.who number tidy (is_born-from (players words births) seat.who seat born) calm in
       let d : Delivers (with_event rows seat (Deliver number)) rows seat number f.mail = record { row = record { more = []; is = sym (append-nil (with_event rows seat (Deliver number))) }; sent = f.sent } in
       by_group node is number f.mail one so timely d (group_of_mail f.mail.body) refl
-  by_player (Node node) Go is one so timely calm = TurnRests (others_idle.go births rows seat base node born is).view
+  by_player (Node node) Go is one so timely calm = rests Go (others_idle.go births rows seat base node born is)
   by_player (Node node) (Told line) is one so timely calm = ordered node is line
   by_player (Node node) Tick is one so timely calm = absurd calm
   by_player (Node node) Crash is one so timely calm = absurd calm
