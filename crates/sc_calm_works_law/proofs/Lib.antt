@@ -6,3 +6,5 @@ pub mod Tasks
 pub mod Rows
 pub mod Ordered
 pub mod Fronts
+pub mod Drawn
+pub mod Beginning

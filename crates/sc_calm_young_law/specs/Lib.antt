@@ -1,1 +1,2 @@
 pub mod Young
+pub mod Children

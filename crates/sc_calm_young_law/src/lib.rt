@@ -2,10 +2,13 @@
 //! it. Definitions and laws, no logic.
 #![tactic(auto)]
 
+ghost use Rattle.sc_calm_young_law.specs.Children.{ChildrenWereNowhere, GroupsAreQuietWhileYoung};
 ghost use Rattle.sc_calm_young_law.specs.Young.{YoungGroupsStay};
 
 use sc_calm_groups_law::scenarios_are_well_born;
 use sc_calm_led_law::children_are_begun;
+use sc_calm_mail_law::replicas_last;
+use sc_calm_works_law::deliveries_keep_work;
 
 /// A group that was nowhere in a quiet journal stays as it begins while an order is under way: once
 /// the order is told, and by each delivery.
@@ -14,4 +17,19 @@ pub fn young_groups_stay()
 {
     scenarios_are_well_born();
     children_are_begun();
+}
+
+/// While an order is under way, nothing of a group comes to a first member that has no replica of it
+/// yet.
+pub fn groups_are_quiet_while_young()
+    ensures { GroupsAreQuietWhileYoung }
+{
+    replicas_last();
+}
+
+/// Each child that a row makes then is of a group that was nowhere in the quiet.
+pub fn children_were_nowhere()
+    ensures { ChildrenWereNowhere }
+{
+    deliveries_keep_work();
 }
