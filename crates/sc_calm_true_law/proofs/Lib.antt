@@ -8,6 +8,7 @@ pub mod Opened
 pub mod Parties
 pub mod Pending
 pub mod Quiet
+pub mod Ring
 pub mod Since
 pub mod Stepping
 pub mod Told
