@@ -1,7 +1,9 @@
 pub mod Beginning
 pub mod Doers
+pub mod Entries
 pub mod Going
 pub mod Late
+pub mod Leads
 pub mod Names
 pub mod Numbers
 pub mod Opened

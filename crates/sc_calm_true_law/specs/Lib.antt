@@ -1,5 +1,6 @@
 pub mod Beginning
 pub mod Deeds
+pub mod Entries
 pub mod Going
 pub mod New
 pub mod Told
