@@ -48,7 +48,7 @@ use Rattle.sc_calm_true_law.proofs.Quiet.{leads_it, link_stands}
 
 -- ---- commands
 
-shared_begins : (scenario : Scenario) (journal : Rows) (name : Draw) (c : Command) → IsAllowedBy scenario journal name c → BeginsSo c
+pub shared_begins : (scenario : Scenario) (journal : Rows) (name : Draw) (c : Command) → IsAllowedBy scenario journal name c → BeginsSo c
 shared_begins scenario journal name (Begin tx At.Merge order) a = tt
 shared_begins scenario journal name (Begin tx (At.Repart at) order) a = tt
 shared_begins scenario journal name (Begin tx (At.Migrate node) order) a = tt
