@@ -3,6 +3,7 @@ pub mod Doers
 pub mod Entries
 pub mod Fits
 pub mod Going
+pub mod Grants
 pub mod Late
 pub mod Leads
 pub mod Names

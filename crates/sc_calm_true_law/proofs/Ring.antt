@@ -28,6 +28,11 @@ use Rattle.sc_calm_law.specs.Quiet.{IsNewest, StandsQuiet}
 use Rattle.sc_calm_law.specs.Totals.{Rows}
 use Rattle.sc_budget_law.specs.AskingQuiet.{IsQuietJournal, replicas_after}
 use Rattle.sc_calm_ring_law.specs.Cuts.{AreKnown, state_of}
+use Rattle.std.specs.FinMap.{empty}
+use Rattle.sc_ideal.specs.History.{contents_after}
+use Rattle.sc_ring_law.proofs.Insides.{InsideOf, inside_part, room_of}
+use Rattle.sc_ring_law.proofs.View.{Holds, IsOnRing}
+use Rattle.sc_calm_true_law.proofs.Fits.{Meets}
 
 -- ---- names
 
@@ -189,3 +194,32 @@ module _ (words : ℕ → ℕ → ℕ × ℕ) (scenario : Scenario) (first : Bas
 
     my_arc : IsArc q.lead.group.core.arc × (q.lead.group.core.arc.lo < 2 ^ 32)
     my_arc = subst (λ (a : Arc). IsArc a × (a.lo < 2 ^ 32)) (sym placed.arc ∙ ap (λ (g : Group). g.core.arc) my_group) (map.covers.arcs mine.cut mine.among)
+
+    its_arc : IsArc s.lead.group.core.arc × (s.lead.group.core.arc.lo < 2 ^ 32)
+    its_arc = subst (λ (a : Arc). IsArc a × (a.lo < 2 ^ 32)) (sym behind.arc ∙ ap (λ (g : Group). g.core.arc) its_group) (map.covers.arcs placed.succ.0 placed.succ.1)
+
+    on_ring : (arc : Arc) → IsArc arc × (arc.lo < 2 ^ 32) → IsOnRing arc
+    on_ring arc is = record { lo_fits = is.1; some = is.0.some; len_fits = is.0.most }
+
+    held_by : (arc other : Arc) (p : ℕ) → arc ≡ other → Holds arc p → IsTrue (holds other p)
+    held_by arc other p e h = subst (λ a. IsTrue (holds a p)) e (lt-ltb (offset arc p) arc.len h)
+
+    has_inside : (group : Group) (cut : Cut) → Among cut world.ring → effective world cut.group ≡ Some group → group.core.arc ≡ cut.arc → InsideOf group.core.arc group.pairs
+    has_inside group cut among is arc =
+        subst (λ a. InsideOf a group.pairs) (sym arc) (subst (InsideOf cut.arc) (sym (map.parts cut among group is)) (inside_part cut.arc (contents_after empty world.history)))
+
+    -- where they are two, they meet, and share nothing
+    pub meet_so : (name ≡ q.lead.group.core.succ.group → ⊥) → Meets q.lead.group s.lead.group
+    meet_so other =
+        let my : q.lead.group.core.arc ≡ mine.cut.arc = ap (λ (g : Group). g.core.arc) (sym my_group) ∙ placed.arc in
+        let its : s.lead.group.core.arc ≡ placed.succ.0.arc = ap (λ (g : Group). g.core.arc) (sym its_group) ∙ behind.arc in
+        record {
+          on = on_ring q.lead.group.core.arc my_arc;
+          its_on = on_ring s.lead.group.core.arc its_arc;
+          meet = meets;
+          room = room_of q.lead.group.core.arc s.lead.group.core.arc (on_ring q.lead.group.core.arc my_arc) (on_ring s.lead.group.core.arc its_arc) meets (λ p low h i. (
+              let one : mine.cut ≡ placed.succ.0 = map.covers.only p low mine.cut placed.succ.0 mine.among placed.succ.1 (held_by q.lead.group.core.arc mine.cut.arc p my h) (held_by s.lead.group.core.arc placed.succ.0.arc p its i) in
+              other (sym mine.named ∙ (ap (λ (c : Cut). c.group) one ∙ behind_named))));
+          inside = has_inside q.lead.group mine.cut mine.among (placed.is ∙ ap Some my_group) my;
+          its_inside = has_inside s.lead.group placed.succ.0 placed.succ.1 (behind.is ∙ ap Some its_group) its;
+        }
