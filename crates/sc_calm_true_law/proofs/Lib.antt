@@ -12,6 +12,7 @@ pub mod Opened
 pub mod Parties
 pub mod Pending
 pub mod Quiet
+pub mod Records
 pub mod Ring
 pub mod Since
 pub mod Stepping

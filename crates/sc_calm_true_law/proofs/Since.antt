@@ -172,7 +172,7 @@ module _ (tells : ReplicasTell) (words : ℕ → ℕ → ℕ × ℕ) (scenario :
       pub tx_is : both.heard.tx ≡ deal.tx
       tx_is = same_tx both.heard.tx deal.tx both.opened.body At.Merge both.opened.order both.heard.order None both.heard.got (sym (ap (λ (x : Group). x.core.lock) both.opened.is) ∙ both.heard.lock)
 
-      heard_vote : IsAllowedBy scenario journal deal.coord (RecordVote deal.tx (Vows.Yes both.heard.heard.frozen) 0)
+      pub heard_vote : IsAllowedBy scenario journal deal.coord (RecordVote deal.tx (Vows.Yes both.heard.heard.frozen) 0)
       heard_vote =
           let lock = ap (λ (x : Group). x.core.lock) both.heard.is in
           let l = locks_at deal.coord deal.chief d.now (there_of (doer deal.coord deal.chief (opened deal.tx deal.turn)) d) d.is in
