@@ -5,6 +5,7 @@
 ghost use Rattle.sc_calm_true_law.specs.Beginning.{TrueOrdersBegin};
 ghost use Rattle.sc_calm_true_law.specs.Entries.{VotesAreTrue};
 ghost use Rattle.sc_calm_true_law.specs.Going.{AskedGroupsStood, TrueOrdersGoOn};
+ghost use Rattle.sc_calm_true_law.specs.Recorded.{RecordsAreTrue};
 ghost use Rattle.sc_calm_true_law.specs.Told.{ReplicasTell};
 ghost use Rattle.sc_calm_true_law.specs.Unsettled.{MailComesUnsettled};
 
@@ -73,4 +74,14 @@ pub fn votes_are_true()
     valid_entries_are_logs();
     valid_scenarios_are_bounded();
     drawn_names_are_new();
+}
+
+/// So are the votes that a coordinator has in flight: a participant's Yes decides, or asks a watcher
+/// that is another group, and a watcher's vote decides.
+pub fn records_are_true()
+    ensures { RecordsAreTrue }
+{
+    replicas_tell();
+    valid_journals_are_sound();
+    valid_entries_are_logs();
 }
