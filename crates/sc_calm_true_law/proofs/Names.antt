@@ -1,6 +1,8 @@
 -- Which names replicas have after some rows, and that a name that is new is none of them.
 use Rattle.std.proofs.Common.{◌≡◌, ℕ, ◌≤◌, ◌<◌, zero, suc, eqb, Bool, true, false, List, [], ◌∷◌, ◌++◌, Option, Some, None, find, option_map, length, inl, inr, refl, sym, ◌∙◌, ap, subst}
-use Rattle.std.proofs.lemmas.Bool.{cases_Bool}
+use Rattle.std.proofs.lemmas.Bool.{cases_Bool, or_from}
+use Rattle.std.specs.List.{list_any}
+use Rattle.sc_machine_table.specs.Votes.{has_voted}
 use Rattle.sc_base.specs.Among.{Among, Each}
 use Rattle.sc_base.specs.Same.{same_draw}
 use Rattle.sc_base.specs.declared.names.Draw.{Draw}
@@ -74,3 +76,10 @@ module _ (K : Draw → Type 0) (tx : Draw) (new : K tx → ⊥) where
       ap (option_map (λ (noted : Draw × Outcome). noted.1))
       (find_nothing (λ (noted : Draw × Outcome). same_draw noted.0 tx) core.decided
       (Each-weaker (λ (d : Draw × Outcome). K d.0 × OutcomeNames K d.1) (λ (d : Draw × Outcome). same_draw d.0 tx ≡ false) (λ d kd. not_it d.0 kd.0) core.decided k.decided))
+
+  pub has_not_voted : (core : Core) → CoreNames K core → has_voted core tx ≡ false
+  has_not_voted core k = by core.voted k.voted
+    where
+      by : (voted : List (Draw × Past)) → Each (λ (v : Draw × Past). K v.0 × PastNames K v.1) voted → list_any (λ (vote : Draw × Past). same_draw vote.0 tx) voted ≡ false
+      by [] all = refl
+      by (v ∷ voted) all = or_from (same_draw v.0 tx) (list_any (λ (vote : Draw × Past). same_draw vote.0 tx) voted) (not_it v.0 all.0.0) (by voted all.1)

@@ -1,7 +1,9 @@
 pub mod Beginning
 pub mod Deeds
+pub mod Entries
 pub mod Going
 pub mod New
+pub mod Recorded
 pub mod Told
 pub mod Under
 pub mod Unsettled

@@ -3,13 +3,15 @@
 #![tactic(auto)]
 
 ghost use Rattle.sc_calm_true_law.specs.Beginning.{TrueOrdersBegin};
+ghost use Rattle.sc_calm_true_law.specs.Entries.{VotesAreTrue};
 ghost use Rattle.sc_calm_true_law.specs.Going.{AskedGroupsStood, TrueOrdersGoOn};
+ghost use Rattle.sc_calm_true_law.specs.Recorded.{RecordsAreTrue};
 ghost use Rattle.sc_calm_true_law.specs.Told.{ReplicasTell};
 ghost use Rattle.sc_calm_true_law.specs.Unsettled.{MailComesUnsettled};
 
 use sc_names_law::{counters_part_names, drawn_names_are_new, names_have_one_owner, orders_are_allowed};
 use sc_scenario::valid_scenarios_are_bounded;
-use sc_whole_law::valid_scenarios_begin_well;
+use sc_whole_law::{valid_entries_are_logs, valid_journals_are_sound, valid_scenarios_begin_well};
 
 /// What the lock of each replica's group says was told, and what a replica has in flight is allowed
 /// in its group's log, by what all logs of the journal tell.
@@ -59,4 +61,27 @@ pub fn true_orders_begin()
     orders_are_allowed();
     names_have_one_owner();
     counters_part_names();
+}
+
+/// What leaders have in flight of an order since a quiet journal is true, where it begins a
+/// transaction or a group votes: who is asked is another group, none has voted before, a watcher
+/// says Yes, and the leader stays.
+pub fn votes_are_true()
+    ensures { VotesAreTrue }
+{
+    replicas_tell();
+    valid_journals_are_sound();
+    valid_entries_are_logs();
+    valid_scenarios_are_bounded();
+    drawn_names_are_new();
+}
+
+/// So are the votes that a coordinator has in flight: a participant's Yes decides, or asks a watcher
+/// that is another group, and a watcher's vote decides.
+pub fn records_are_true()
+    ensures { RecordsAreTrue }
+{
+    replicas_tell();
+    valid_journals_are_sound();
+    valid_entries_are_logs();
 }
