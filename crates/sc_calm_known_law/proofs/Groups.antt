@@ -77,16 +77,17 @@ module _ (by : Tellers) (words : ℕ → ℕ → ℕ × ℕ) (scenario : Scenari
     | inr off ↦ (let same = q.led.followed.follows.offered off in omega (arith, same))
   ]
 
-module _ (wb : ScenariosAreWellBorn) (begin : GroupsBeginTaught) (through : GroupsAreAskedThrough) (words : ℕ → ℕ → ℕ × ℕ) (scenario : Scenario) (journal front : Rows) (base : Base) (q : IsQuietFront words scenario journal front) where
-  front_timely : AreInTime (players words (births as_nodes scenario)) front
-  front_timely = λ before row after e. q.calm.timely before row (after ++ q.begins.more) (q.begins.is ∙ (ap (λ rows. rows ++ q.begins.more) e ∙ append_assoc before (row ∷ after) q.begins.more))
+-- the rows of a front come in time
+pub front_timely : (words : ℕ → ℕ → ℕ × ℕ) (scenario : Scenario) (journal front : Rows) → IsQuietFront words scenario journal front → AreInTime (players words (births as_nodes scenario)) front
+front_timely words scenario journal front q = λ before row after e. q.calm.timely before row (after ++ q.begins.more) (q.begins.is ∙ (ap (λ rows. rows ++ q.begins.more) e ∙ append_assoc before (row ∷ after) q.begins.more))
 
+module _ (wb : ScenariosAreWellBorn) (begin : GroupsBeginTaught) (through : GroupsAreAskedThrough) (words : ℕ → ℕ → ℕ × ℕ) (scenario : Scenario) (journal front : Rows) (base : Base) (q : IsQuietFront words scenario journal front) where
   pub known_group : Among base (groups_at as_nodes scenario.groups journal) → IsThere (births as_nodes scenario) front base.core.id → IsKnownGroup words scenario journal front base
   known_group a there =
       let group : IsGroupOf as_nodes words scenario journal base = record { open_slots = refl; valid = q.calm.valid; lawful = q.calm.lawful; stands = a } in
       let by = tellers_at as_nodes scenario base journal in
       let t = q.sent base a in
-      let on = through (logged_sets as_nodes base journal) (over_at as_nodes base journal) by words (births as_nodes scenario) front base (wb scenario) t.one t.so front_timely (begin words by scenario journal base group) in
+      let on = through (logged_sets as_nodes base journal) (over_at as_nodes base journal) by words (births as_nodes scenario) front base (wb scenario) t.one t.so (front_timely words scenario journal front q) (begin words by scenario journal base group) in
       let len = ap length q.begins.is in
       let parts = length-append front q.begins.more in
       let short = q.calm.short in
@@ -96,7 +97,7 @@ module _ (wb : ScenariosAreWellBorn) (begin : GroupsBeginTaught) (through : Grou
           group = group;
           more = q.begins.more;
           split = q.begins.is;
-          timely = front_timely;
+          timely = front_timely words scenario journal front q;
           quiet = q.quiet;
           short = omega (arith, len, parts, short);
           strangers = q.strangers base.core.id;

@@ -11,3 +11,5 @@ pub mod Known
 pub mod Reaching
 pub mod Linking
 pub mod Still
+pub mod Begun
+pub mod Noted

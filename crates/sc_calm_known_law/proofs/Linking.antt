@@ -98,15 +98,26 @@ module _ (scenario : Scenario) (front : Rows) (map : IsOneMap (world_at as_nodes
     pub stands : (state other).core.gone ≡ None
     pub begins : (state other).core.arc.lo ≡ end_of (state base).core.arc
 
-  pub next_of : (base : Base) → Among base (groups_at as_nodes scenario.groups front) → (state base).core.gone ≡ None → HasNext base
-  next_of base a stands =
+  -- the cut of a group that stands, whose effective record is its own
+  pub record HasCut (base : Base) : Type 0 where
+    pub cut : Cut
+    pub among : Among cut world.ring
+    pub own : effective world cut.group ≡ Some (state base)
+
+  pub cut_of : (base : Base) → Among base (groups_at as_nodes scenario.groups front) → (state base).core.gone ≡ None → HasCut base
+  cut_of base a stands =
       let arc = arcs base a stands in
       let key = key_at (state base).core.arc.lo in
       let held : holds_key (state base).core.arc key ≡ true = ap (holds (state base).core.arc) (key_there (state base).core.arc.lo arc.1) ∙ first_held (state base).core.arc arc in
-      let c = map.serves_apart (state base) (find_found (is_named base.core.id) world.groups (state base) (there_is base a)).0 key (serves_it (state base) key held (free base a) stands) in
-      let p = map.placed c.0 c.1 in
-      let id : (state base).core.id ≡ base.core.id = draw_is (state base).core.id base.core.id (find_found (is_named base.core.id) world.groups (state base) (there_is base a)).1 in
-      let own : p.group ≡ state base = same_Some p.group (state base) (sym p.is ∙ (ap (effective world) (c.2 ∙ id) ∙ effective_is base a)) in
+      let here = find_found (is_named base.core.id) world.groups (state base) (there_is base a) in
+      let c = map.serves_apart (state base) here.0 key (serves_it (state base) key held (free base a) stands) in
+      record { cut = c.0; among = c.1; own = ap (effective world) (c.2 ∙ draw_is (state base).core.id base.core.id here.1) ∙ effective_is base a }
+
+  pub next_of : (base : Base) → Among base (groups_at as_nodes scenario.groups front) → (state base).core.gone ≡ None → HasNext base
+  next_of base a stands =
+      let c = cut_of base a stands in
+      let p = map.placed c.cut c.among in
+      let own : p.group ≡ state base = same_Some p.group (state base) (sym p.is ∙ c.own) in
       let n = p.succ in
       let x = map.placed n.0 n.1 in
       let of = of_cut n.0 x in

@@ -82,7 +82,7 @@ module _ (executed : QuietLogsAreExecuted) (finds : FrontsAreFound) (words : ℕ
   mine : (name : Draw) (node : ℕ) (r : ReplicaState) → at name node ≡ Some r → (base : Base) → base.core.id ≡ name → at base.core.id node ≡ Some r
   mine name node r e base named = ap (λ n. at n node) named ∙ e
 
-  newest_of_group : (name : Draw) (r : ReplicaState) (new : IsNewest at name r) → (of : IsOfGroup scenario front name r) × IsLast of.base r.me r
+  pub newest_of_group : (name : Draw) (r : ReplicaState) (new : IsNewest at name r) → (of : IsOfGroup scenario front name r) × IsLast of.base r.me r
   newest_of_group name r new =
       let of = (found executed finds words scenario journal front q).replicas name r.me r new.is_there in
       (of, newest_last of.base of.among r (subst (λ n. IsNewest at n r) (sym of.named) new))

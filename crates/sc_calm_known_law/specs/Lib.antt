@@ -3,3 +3,4 @@ pub mod Offered
 pub mod Arcs
 pub mod Fronts
 pub mod Known
+pub mod Noted

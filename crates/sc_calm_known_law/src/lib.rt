@@ -14,6 +14,7 @@ ghost use Rattle.sc_calm_known_law.specs.Known.{
   StillFrontsAreFree,
 };
 ghost use Rattle.sc_calm_known_law.specs.Links.{LinksWereMembers};
+ghost use Rattle.sc_calm_known_law.specs.Noted.{FrontsAreNoted, IssuedAreBegun};
 ghost use Rattle.sc_calm_known_law.specs.Offered.{GroupsAreAskedThrough};
 
 use sc_calm_groups_law::{events_go_on, rows_keep_taught, scenarios_are_well_born};
@@ -142,6 +143,30 @@ pub fn fronts_are_linked()
 pub fn still_fronts_are_free()
     ensures { StillFrontsAreFree }
 {
+    quiet_logs_are_executed();
+    fronts_are_found();
+}
+
+/// Each request that was issued in rows that come in time is begun.
+pub fn issued_are_begun()
+    ensures { IssuedAreBegun }
+{
+    valid_scenarios_are_bounded();
+}
+
+/// So the group of a leader that stands in a quiet front has noted begun requests alone, and all
+/// values that it has come of such.
+pub fn fronts_are_noted()
+    ensures { FrontsAreNoted }
+{
+    valid_scenarios_are_bounded();
+    valid_scenarios_begin_well();
+    orders_are_allowed();
+    names_have_one_owner();
+    valid_journals_are_sound();
+    valid_entries_are_logs();
+    issued_are_begun();
+    free_groups_have_arcs();
     quiet_logs_are_executed();
     fronts_are_found();
 }
