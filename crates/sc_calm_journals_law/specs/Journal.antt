@@ -42,3 +42,7 @@ pub record GoesOnBy (words : ℕ → ℕ → ℕ × ℕ) (scenario : Scenario) (
   pub front : IsFront journal (with_event rows seat (Deliver number))
   pub seated : IsSeat (births as_nodes scenario) seat
   pub timely : AreInTime (players words (births as_nodes scenario)) (with_event rows seat (Deliver number))
+
+-- what a front begins with is a front
+abbrev pub FrontsOfFronts : Type 0
+FrontsOfFronts = (journal rows more : Rows) → IsFront journal (rows ++ more) → IsFront journal rows

@@ -1,9 +1,7 @@
 -- What holds while an order is under way since a quiet front of a calm journal.
-use Rattle.std.specs.Prelude.{◌≡◌, ℕ, true, Some, None, ◌⊎◌, ⊥}
+use Rattle.std.specs.Prelude.{◌≡◌, ℕ, true, List, Some, None, ◌⊎◌}
 use Rattle.sc_base.specs.Among.{Among, Each}
-use Rattle.sc_base.specs.declared.names.Draw.{Draw}
 use Rattle.sc_cmd.specs.declared.cores.Base.{Base}
-use Rattle.sc_mail.specs.declared.bodies.Mail.{Mail}
 use Rattle.sc_actor.specs.declared.actors.Seat.{Seat}
 use Rattle.sc_orderly_law.specs.Orderly.{is_born, rest}
 use Rattle.sc_scenario.specs.declared.scenarios.Scenario.{Scenario}
