@@ -13,3 +13,4 @@ pub mod Linking
 pub mod Still
 pub mod Begun
 pub mod Noted
+pub mod Turns

@@ -4,3 +4,4 @@ pub mod Arcs
 pub mod Fronts
 pub mod Known
 pub mod Noted
+pub mod Turns

@@ -16,6 +16,7 @@ ghost use Rattle.sc_calm_known_law.specs.Known.{
 ghost use Rattle.sc_calm_known_law.specs.Links.{LinksWereMembers};
 ghost use Rattle.sc_calm_known_law.specs.Noted.{FrontsAreNoted, IssuedAreBegun};
 ghost use Rattle.sc_calm_known_law.specs.Offered.{GroupsAreAskedThrough};
+ghost use Rattle.sc_calm_known_law.specs.Turns.{TurnsGoOn};
 
 use sc_calm_groups_law::{events_go_on, rows_keep_taught, scenarios_are_well_born};
 use sc_calm_led_law::groups_begin_taught;
@@ -170,3 +171,9 @@ pub fn fronts_are_noted()
     quiet_logs_are_executed();
     fronts_are_found();
 }
+
+/// Groups go one after another still, where at most one more is gone, which went into one that
+/// stands.
+pub fn turns_go_on()
+    ensures { TurnsGoOn }
+{}
