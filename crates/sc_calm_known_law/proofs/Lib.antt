@@ -14,3 +14,5 @@ pub mod Still
 pub mod Begun
 pub mod Noted
 pub mod Turns
+pub mod Going
+pub mod GoingOn
