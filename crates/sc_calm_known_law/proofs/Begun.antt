@@ -3,18 +3,17 @@ use Rattle.std.proofs.Common.{◌≡◌, ℕ, ◌+◌, ◌≤◌, ◌||◌, ◌&
 use Rattle.std.specs.List.{list_any}
 use Rattle.std.specs.Prelude.{slice_get, find}
 use Rattle.std.specs.Option.{option_map}
-use Rattle.std.proofs.lemmas.Bool.{cases_Bool, cases_eq, cond-true, cond-false, and_parts, and_left, eqb-true, eq-eqb, ne_eqb, or_parts}
+use Rattle.std.proofs.lemmas.Bool.{cases_Bool, cases_eq, cond-false, and_parts, eqb-true, eq-eqb, ne_eqb, or_parts}
 use Rattle.std.proofs.lemmas.List.{length_push}
 use Rattle.std.proofs.lemmas.Option.{none-some, same_Some}
 use Rattle.sc_base.specs.Among.{Among}
 use Rattle.sc_base.specs.Limits.{client_actor}
-use Rattle.sc_base.specs.declared.names.Draw.{Draw}
 use Rattle.sc_base.specs.declared.ops.Op.{Op}
 use Rattle.sc_cmd.specs.declared.cores.Base.{Base}
 use Rattle.sc_cmd.specs.declared.orders.OrderLine.{OrderLine}
 use Rattle.sc_mail.specs.declared.bodies.Mail.{Mail}
 use Rattle.sc_mail.specs.declared.bodies.MailBody.TheVariants.{Request}
-use Rattle.sc_mail.specs.declared.roles.Role.TheVariants.{Node, Client}
+use Rattle.sc_mail.specs.declared.roles.Role.TheVariants.{Client}
 use Rattle.sc_actor.specs.declared.actors.Seat.{Seat}
 use Rattle.sc_actor.specs.declared.rows.Event.{Event}
 use Rattle.sc_actor.specs.declared.rows.Event.TheVariants as Comes
@@ -27,8 +26,8 @@ use Rattle.sc_actor.specs.Replay.{input_of, acted, value}
 use Rattle.sc_actor.specs.System.{row_of, has_gone, is_go}
 use Rattle.sc_actor.proofs.ReplayLemmas.{value-snoc}
 use Rattle.sc_client_table.specs.Client.{Client as ClientState, born_client, request_at}
-use Rattle.sc_client_table.specs.Table.{table, request_of}
-use Rattle.sc_client_table.specs.Turns.{InTurn, Waits, Begins, TakesReply}
+use Rattle.sc_client_table.specs.Table.{table}
+use Rattle.sc_client_table.specs.Turns.{InTurn}
 use Rattle.sc_client_table.proofs.TurnLemmas.{sends_in_turn}
 use Rattle.sc_actor.specs.System.{are_apart}
 use Rattle.sc_orderly_law.specs.Orderly.{IsCalmEvent}
@@ -36,7 +35,7 @@ use Rattle.sc_orderly_law.specs.Timely.{AreInTime}
 use Rattle.sc_orderly_law.proofs.InTime.{by_time, last_in_time}
 use Rattle.sc_orderly_law.proofs.Seats.{seat_found}
 use Rattle.sc_paxos_law.proofs.Among.{Among-right}
-use Rattle.sc_scenario.specs.Valid.{IsValid, ValidScenariosAreBounded}
+use Rattle.sc_scenario.specs.Valid.{ValidScenariosAreBounded}
 use Rattle.sc_scenario.specs.declared.scenarios.Asks.{Asks}
 use Rattle.sc_scenario.specs.declared.scenarios.Scenario.{Scenario}
 use Rattle.sc_node_table.specs.Slots.{numbers_from}
@@ -46,7 +45,6 @@ use Rattle.sc_group_law.proofs.Places.{or_now, issue-push}
 use Rattle.sc_whole_law.proofs.Seats.{all_apart}
 use Rattle.sc_calm_law.specs.Charts.{players}
 use Rattle.sc_calm_law.specs.Totals.{Rows}
-use Rattle.sc_calm_rows_law.specs.Turns.{IsSeat}
 use Rattle.sc_budget_law.specs.Owed.{begun_ones, waiting_ones}
 use Rattle.sc_budget_law.specs.PlainClient.{begun_of}
 use Rattle.sc_budget_law.proofs.Lists.{map_among}

@@ -1,6 +1,5 @@
 -- Groups go one after another from one quiet front to a later one.
-use Rattle.std.proofs.Common.{◌≡◌, ℕ, ◌+◌, ◌-◌, ◌≤◌, zero, suc, List, [], ◌∷◌, ◌++◌, length, take, drop, Option, Some, None, inl, inr, refl, sym, ◌∙◌, ap, subst, arith, append_assoc, append-nil}
-use Rattle.std.proofs.lemmas.Option.{none-some, same_Some}
+use Rattle.std.proofs.Common.{◌≡◌, ℕ, ◌-◌, ◌≤◌, zero, suc, List, [], ◌∷◌, ◌++◌, take, Some, refl, sym, ◌∙◌, ap, arith, append_assoc, append-nil}
 use Rattle.sc_base.specs.Among.{Among}
 use Rattle.sc_base.specs.declared.names.Draw.{Draw}
 use Rattle.sc_cmd.specs.declared.commands.Command.{Command}
@@ -13,7 +12,7 @@ use Rattle.sc_scenario.specs.Valid.{ValidScenariosAreBounded}
 use Rattle.sc_scenario.specs.declared.scenarios.Scenario.{Scenario}
 use Rattle.sc_node_table.specs.Replica.{ReplicaState, next}
 use Rattle.sc_sound.specs.GroupsOf.{groups_at}
-use Rattle.sc_sound.specs.Logs.{decided_log, decided_state}
+use Rattle.sc_sound.specs.Logs.{decided_log}
 use Rattle.sc_sound.specs.Players.{births, as_nodes}
 use Rattle.sc_log_law.specs.Descent.{Rows}
 use Rattle.sc_budget_law.specs.AskingQuiet.{replicas_after}
@@ -28,7 +27,7 @@ use Rattle.sc_calm_charts_law.specs.Following.{LedStandOnce}
 use Rattle.sc_calm_charts_law.proofs.Names.{names_grow}
 use Rattle.sc_calm_requests_law.specs.Starts.{LawfulReplicasAreNamedOnce}
 use Rattle.sc_calm_settings_law.specs.Counting.{GoneAgree}
-use Rattle.sc_calm_known_law.specs.Fronts.{IsQuietFront, IsFoundFront, FrontsAreFound, QuietLogsAreExecuted}
+use Rattle.sc_calm_known_law.specs.Fronts.{IsQuietFront, FrontsAreFound, QuietLogsAreExecuted}
 use Rattle.sc_calm_known_law.specs.Known.{FrontsGoneAgree}
 use Rattle.sc_calm_known_law.specs.Links.{AreAllFree}
 use Rattle.sc_calm_known_law.specs.Turns.{GoesOnce, GoesAlone, TurnsGoOn, FrontsGoInTurn}

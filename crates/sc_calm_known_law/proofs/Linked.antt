@@ -13,9 +13,8 @@ use Rattle.sc_base.specs.declared.ops.Op.{Op}
 use Rattle.sc_ideal.specs.IdealStore.{key_of, holds_key}
 use Rattle.sc_member.specs.Roster.{is_member, with_member}
 use Rattle.sc_member.proofs.UnionLemmas.{grows}
-use Rattle.sc_member.specs.Union.{with_any, united}
+use Rattle.sc_member.specs.Union.{united}
 use Rattle.sc_cmd.specs.Cores.{is_alone}
-use Rattle.sc_cmd.specs.Effects.{is_changed, is_divided, decided_in}
 use Rattle.sc_cmd.specs.declared.bodies.Body.{Body}
 use Rattle.sc_cmd.specs.declared.bodies.Body.TheVariants as At
 use Rattle.sc_cmd.specs.declared.bodies.Offer.{Offer}
@@ -40,19 +39,19 @@ use Rattle.sc_cmd.specs.declared.votes.Past.TheVariants as Cast
 use Rattle.sc_cmd.specs.declared.votes.Vote.{Vote}
 use Rattle.sc_cmd.specs.declared.votes.Vote.TheVariants as Ballot
 use Rattle.sc_machine_table.specs.Group.{Group}
-use Rattle.sc_machine_table.specs.Machine.{applied, served_by_note, served, called, ordered_by, split_group}
+use Rattle.sc_machine_table.specs.Machine.{applied, served_by_note, served, called, split_group}
 use Rattle.sc_machine_table.specs.Orders.{refusal_of, ordered, with_node, without_node}
-use Rattle.sc_machine_table.specs.Splits.{has_named, splits_at_once, left_link, right_link, left_members, right_members, right_core, right_succ, left_group}
+use Rattle.sc_machine_table.specs.Splits.{has_named, splits_at_once, left_link, left_members, right_members, right_core, right_succ, left_group}
 use Rattle.sc_machine_table.specs.Plans.{Plan, frozen_of, can_split, split_plan, may_merge, merged_link, merged_succ, merged_route, merged_group, closing_group, merge_plan, closing_plan, can_repart, giving_group, taking_group, part_gift, taken, has_key_of, giving_plan, taking_plan, repart_plan, succ_with, can_migrate, migrated_group, migrate_plan}
 use Rattle.sc_machine_table.specs.Transactions.{begun_group, decided_group, aborted, committed, granted, participant_answered, asks_watcher, vote_recorded, released, watch_answered, watch_recorded, is_coordinating}
-use Rattle.sc_machine_table.specs.Votes.{has_voted, past_of, bound_by, vote_of, watch_vote_of, voted_on}
+use Rattle.sc_machine_table.specs.Votes.{has_voted, past_of, vote_of, watch_vote_of, voted_on}
 use Rattle.sc_machine_table.specs.Finishes.{can_gain, gained_group, lost_group, welcomed_group, moved, participant_after, settled_in, watcher_after, party_freed, finished}
 use Rattle.sc_machine_table.specs.Plans.{can_cut}
 use Rattle.sc_log_entries.specs.Births.{division_in, division_of}
 use Rattle.sc_log_entries.specs.declared.Division.{Division}
 use Rattle.sc_ring_law.specs.Allowed.{Sources, IsVoteCast, IsAllowed}
 use Rattle.sc_ring_law.specs.Invariant.{Groups, IsCoordinating, Facts}
-use Rattle.sc_ring_law.specs.Stories.{Story, Stories, put, retold, unsigned, offer_for, new_story, vote_in, vote_by, watch_vote_in, with_vote, with_watch_vote, with_decision, with_asked, with_answer, stories_after}
+use Rattle.sc_ring_law.specs.Stories.{Story, Stories, put, retold, unsigned, offer_for, new_story, vote_by, with_vote, with_watch_vote, with_decision, with_asked, stories_after}
 use Rattle.sc_ring_law.proofs.Cover.{from_at}
 use Rattle.sc_ring_law.proofs.Ends.{own_story, same_lock}
 

@@ -1,5 +1,5 @@
 -- The link of a group that stands in a quiet front is as a quiet journal asks it.
-use Rattle.std.proofs.Common.{◌≡◌, ℕ, ◌+◌, ◌-◌, ◌/◌, ◌%◌, ◌^◌, ◌<◌, ◌≤◌, Bool, true, false, true≢false, List, [], ◌∷◌, length, Option, Some, None, inl, inr, refl, sym, ◌∙◌, ap, subst, arith}
+use Rattle.std.proofs.Common.{◌≡◌, ℕ, ◌+◌, ◌-◌, ◌/◌, ◌%◌, ◌^◌, ◌<◌, ◌≤◌, true, false, List, [], ◌∷◌, Option, Some, None, refl, sym, ◌∙◌, ap, subst, arith}
 use Rattle.std.specs.Prelude.{IsTrue, ◌&&◌, is_none, is_some}
 use Rattle.std.specs.Option.{option_map}
 use Rattle.std.proofs.lemmas.Bool.{lt-ltb}
@@ -7,7 +7,6 @@ use Rattle.std.proofs.lemmas.Option.{none-some, same_Some}
 use Rattle.sc_base.specs.Among.{Among}
 use Rattle.sc_base.specs.Arc.{Arc, IsArc, offset, holds, end_of}
 use Rattle.sc_base.specs.Text.{pos_of}
-use Rattle.sc_base.specs.declared.names.Draw.{Draw}
 use Rattle.sc_base.proofs.NameLemmas.{draw_is}
 use Rattle.sc_cmd.specs.declared.cores.Base.{Base}
 use Rattle.sc_cmd.specs.declared.cores.Lock.TheVariants.{Free}
@@ -22,26 +21,23 @@ use Rattle.sc_log_law.specs.Findings.{AreItsLogs}
 use Rattle.sc_log_law.proofs.Lists.{find_base}
 use Rattle.sc_machine_table.specs.Group.{Group}
 use Rattle.sc_member.specs.Roster.{is_member}
-use Rattle.sc_node_table.specs.Replica.{ReplicaState, next}
 use Rattle.sc_paxos_words.proofs.ListLemmas.{find_found}
 use Rattle.sc_scenario.specs.declared.scenarios.Scenario.{Scenario}
 use Rattle.sc_sound.specs.GroupsOf.{groups_at, birth_at, is_birth_of, world_at}
-use Rattle.sc_sound.specs.Logs.{decided_log, decided_state}
+use Rattle.sc_sound.specs.Logs.{decided_state}
 use Rattle.sc_sound.specs.Players.{as_nodes}
 use Rattle.sc_sound.specs.Soundness.{IsOneMap}
 use Rattle.sc_whole_law.specs.Valid.{ValidJournalsAreSound, ValidEntriesAreLogs}
-use Rattle.sc_calm_law.specs.Quiet.{HasReplica, IsNewest, IsLinked}
-use Rattle.sc_following_law.specs.Following.{Course}
-use Rattle.sc_following_law.specs.Hints.{Tellers}
+use Rattle.sc_calm_law.specs.Quiet.{HasReplica, IsNewest}
 use Rattle.sc_calm_led_law.specs.Led.{over_at}
-use Rattle.sc_calm_rests_law.specs.Rests.{replicas_at, IsQuietGroup}
+use Rattle.sc_calm_rests_law.specs.Rests.{replicas_at}
 use Rattle.sc_calm_rests_law.proofs.Facts.{even, kept, place, states}
 use Rattle.sc_calm_known_law.specs.Arcs.{FreeGroupsHaveArcs}
-use Rattle.sc_calm_known_law.specs.Fronts.{IsQuietFront, FrontsAreFound, QuietLogsAreExecuted}
-use Rattle.sc_calm_known_law.specs.Known.{AreAllThere, FrontsAreLinked}
+use Rattle.sc_calm_known_law.specs.Fronts.{FrontsAreFound, QuietLogsAreExecuted}
+use Rattle.sc_calm_known_law.specs.Known.{FrontsAreLinked}
 use Rattle.sc_calm_known_law.specs.Links.{AreAllFree, LinksWereMembers}
-use Rattle.sc_calm_known_law.proofs.Known.{see, found, most, ends, last_state}
-use Rattle.sc_calm_known_law.proofs.Reaching.{IsLast, last, has_replica, link_of}
+use Rattle.sc_calm_known_law.proofs.Known.{found, most, ends, last_state}
+use Rattle.sc_calm_known_law.proofs.Reaching.{last, has_replica, link_of}
 
 -- ---- a key at a position
 

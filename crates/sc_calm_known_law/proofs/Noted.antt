@@ -1,11 +1,11 @@
 -- The group of a leader that stands in a quiet front has noted begun requests alone, and all values that it has come of such.
-use Rattle.std.proofs.Common.{◌≡◌, ℕ, ◌≤◌, Bool, true, false, cond, List, [], ◌∷◌, ◌++◌, Option, Some, None, ◌⊎◌, inl, inr, refl, sym, ◌∙◌, ap, subst, append-nil}
-use Rattle.std.specs.Prelude.{slice_get, is_none}
-use Rattle.std.specs.FinMap.{empty, get, insert, remove, retain_keys, get-empty, get-insert, get-remove}
+use Rattle.std.proofs.Common.{◌≡◌, ℕ, Bool, true, false, cond, List, [], ◌∷◌, Some, None, ◌⊎◌, inl, inr, refl, sym, ◌∙◌, ap, subst, append-nil}
+use Rattle.std.specs.Prelude.{is_none}
+use Rattle.std.specs.FinMap.{empty, get, insert, remove, get-empty, get-insert, get-remove}
 use Rattle.std.specs.Ordering.{nat_cmp}
 use Rattle.std.specs.Cmp.Lexicographic.{slice_cmp, nat_list_cmp_total}
 use Rattle.std.proofs.lemmas.Bool.{cond_both}
-use Rattle.std.proofs.lemmas.Option.{none-some, same_Some}
+use Rattle.std.proofs.lemmas.Option.{none-some}
 use Rattle.sc_base.specs.Among.{Among}
 use Rattle.sc_base.specs.declared.names.Draw.{Draw}
 use Rattle.sc_base.specs.declared.ops.Noted.{Noted}
@@ -17,20 +17,17 @@ use Rattle.sc_ideal.specs.declared.Entry.{Entry}
 use Rattle.sc_ideal.specs.History.{HasStoreReplies, contents_after, HasEntry}
 use Rattle.sc_ideal.specs.IdealStore.{Contents, key_of, reply_of, was, after, holds_key}
 use Rattle.sc_ideal.proofs.Apart.{get-part}
-use Rattle.sc_machine_table.specs.Group.{Group, group_of}
-use Rattle.sc_machine_table.specs.Logs.{state_after}
+use Rattle.sc_machine_table.specs.Group.{Group}
 use Rattle.sc_log_law.specs.Descent.{Rows}
 use Rattle.sc_log_law.proofs.Findings.{entries_tell_one_map}
 use Rattle.sc_log_law.proofs.OneMap.{allowed_entries_make_one_map}
 use Rattle.sc_log_law.proofs.Times.{among_place}
 use Rattle.sc_names_law.specs.Laws.{OtherNamesAreFree, TakenOrdersAreAllowed, TakenWishesAreAllowed, WishesAreAtPositions}
 use Rattle.sc_scenario.specs.Valid.{ValidScenariosAreBounded}
-use Rattle.sc_scenario.specs.declared.scenarios.Asks.{Asks}
 use Rattle.sc_scenario.specs.declared.scenarios.Scenario.{Scenario}
-use Rattle.sc_node_table.specs.Replica.{ReplicaState}
-use Rattle.sc_sound.specs.GroupsOf.{groups_at, history_at, world_at}
+use Rattle.sc_sound.specs.GroupsOf.{groups_at, history_at}
 use Rattle.sc_sound.specs.Logs.{decided_log, decided_state}
-use Rattle.sc_sound.specs.Players.{as_nodes, births, route_of}
+use Rattle.sc_sound.specs.Players.{as_nodes, births}
 use Rattle.sc_sound.specs.Requests.{issue_row}
 use Rattle.sc_sound.specs.Soundness.{IsSound}
 use Rattle.sc_whole_law.specs.StartLaws.{ValidScenariosBeginWell}
