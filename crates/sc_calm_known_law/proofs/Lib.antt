@@ -1,3 +1,4 @@
+pub mod LinkEnds
 pub mod Linked
 pub mod LinkWorlds
 pub mod LinkEntries

@@ -55,7 +55,8 @@ use Rattle.sc_log_law.proofs.Allowing.{allowed_parts, allows}
 use Rattle.sc_log_law.specs.Allows.{MakesAllowed}
 use Rattle.sc_log_law.proofs.Allows.{groups_allow_others}
 use Rattle.sc_log_law.proofs.Births.{told_append}
-use Rattle.sc_calm_known_law.proofs.Linked.{Good, IsLinkedSo, IsToldSo, Lands, lands}
+use Rattle.sc_calm_known_law.proofs.LinkEnds.{Good, IsLinkedSo, IsToldSo}
+use Rattle.sc_calm_known_law.proofs.Linked.{Lands, lands}
 use Rattle.sc_calm_known_law.proofs.LinkWorlds.{stays_or_ends, takes_node}
 
 -- ---- all entries

@@ -43,7 +43,7 @@ use Rattle.sc_whole_law.proofs.Members.{members_stay_rosters}
 use Rattle.sc_whole_law.proofs.Scheduled.{orders_allowed}
 use Rattle.sc_whole_law.proofs.Turning.{Holds}
 use Rattle.sc_calm_known_law.specs.Links.{WasMember, WereMembers, AreAllFree, LinksWereMembers}
-use Rattle.sc_calm_known_law.proofs.Linked.{Good, IsLinkedSo}
+use Rattle.sc_calm_known_law.proofs.LinkEnds.{Good, IsLinkedSo}
 use Rattle.sc_calm_known_law.proofs.LinkEntries.{groups_then, Come, all_linked, moved}
 
 -- ---- two fronts of a list
