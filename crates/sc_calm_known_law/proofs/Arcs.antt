@@ -1,9 +1,7 @@
 -- A group that stands, and is bound in no transaction, has an arc of the ring.
-use Rattle.std.proofs.Common.{◌≡◌, ℕ, ◌<◌, ◌^◌, Some, None, inl, refl, sym, ◌∙◌, ap}
-use Rattle.sc_base.specs.Among.{Among}
-use Rattle.sc_base.specs.Arc.{Arc, IsArc}
+use Rattle.std.proofs.Common.{◌≡◌, ◌<◌, ◌^◌, Some, None, inl, ◌∙◌, ap}
+use Rattle.sc_base.specs.Arc.{IsArc}
 use Rattle.sc_base.specs.declared.names.Draw.{Draw}
-use Rattle.sc_cmd.specs.declared.cores.Base.{Base}
 use Rattle.sc_cmd.specs.declared.cores.Lock.TheVariants.{Free}
 use Rattle.sc_machine_table.specs.Group.{Group}
 use Rattle.sc_log_entries.specs.Worlds.{StoreWorld, named_group}
@@ -14,12 +12,10 @@ use Rattle.sc_ring_law.proofs.Start.{at_start}
 use Rattle.sc_ring_law.proofs.Steps.{serving}
 use Rattle.sc_ring_law.proofs.Told.{groups_in}
 use Rattle.sc_ring_law.proofs.Worlds.{KeptWorld, kept_after}
-use Rattle.sc_scenario.specs.Valid.{IsValid, ValidScenariosAreBounded}
-use Rattle.sc_scenario.specs.declared.scenarios.Scenario.{Scenario}
-use Rattle.sc_sound.specs.GroupsOf.{groups_at, entries_at}
+use Rattle.sc_scenario.specs.Valid.{ValidScenariosAreBounded}
+use Rattle.sc_sound.specs.GroupsOf.{entries_at}
 use Rattle.sc_sound.specs.Logs.{decided_state}
-use Rattle.sc_sound.specs.Players.{as_nodes, Lawful}
-use Rattle.sc_log_law.specs.Descent.{Rows}
+use Rattle.sc_sound.specs.Players.{as_nodes}
 use Rattle.sc_log_law.proofs.Told.{state_there}
 use Rattle.sc_names_law.specs.Laws.{OtherNamesAreFree, TakenOrdersAreAllowed, TakenWishesAreAllowed, WishesAreAtPositions}
 use Rattle.sc_whole_law.specs.StartLaws.{ValidScenariosBeginWell}

@@ -1,5 +1,5 @@
 -- What is known of a front of a lawful journal.
-use Rattle.std.proofs.Common.{◌≡◌, ℕ, ◌≤◌, ◌+◌, ◌<◌, ◌&&◌, leb, eqb, Bool, true, false, cond, zero, suc, List, [], ◌∷◌, ◌++◌, length, map, Option, Some, None, ◌⊎◌, inl, inr, refl, sym, ◌∙◌, ap, subst, arith}
+use Rattle.std.proofs.Common.{◌≡◌, ℕ, ◌≤◌, ◌+◌, ◌<◌, ◌&&◌, leb, eqb, Bool, true, zero, suc, List, [], ◌∷◌, ◌++◌, map, Option, Some, None, inl, inr, refl, sym, ◌∙◌, ap, subst, arith}
 use Rattle.std.specs.Prelude.{find}
 use Rattle.std.proofs.lemmas.Bool.{cases_Bool, cond_both, cond-true, eqb-true, eq-eqb, and_from, and_parts, le-leb, leb-true, both_ways}
 use Rattle.std.proofs.lemmas.Option.{none-some}
@@ -22,7 +22,7 @@ use Rattle.sc_paxos_law.proofs.Among.{Among-either, from_map}
 use Rattle.sc_scenario.specs.Valid.{IsValid, ValidScenariosAreBounded}
 use Rattle.sc_scenario.specs.declared.scenarios.Asks.{Asks}
 use Rattle.sc_scenario.specs.declared.scenarios.Scenario.{Scenario}
-use Rattle.sc_node_table.specs.Node.{NodeState, is_node, replica_of}
+use Rattle.sc_node_table.specs.Node.{is_node, replica_of}
 use Rattle.sc_node_table.specs.Replica.{ReplicaState, name_of}
 use Rattle.sc_node_table.specs.Slots.{numbers_from}
 use Rattle.sc_sound.specs.GroupsOf.{groups_at, log_at}
@@ -45,7 +45,7 @@ use Rattle.sc_calm_known_law.proofs.LinkFronts.{sources, well, turn, found}
 
 -- ---- a client stays one
 
-abbrev IsClient : Player → Type 0
+abbrev pub IsClient : Player → Type 0
 IsClient (Node node) = ⊥
 IsClient (Client client) = Unit {0}
 
@@ -54,7 +54,7 @@ acted_client (Node node) o is = absurd is
 acted_client (Client client) None is = tt
 acted_client (Client client) (Some input) is = tt
 
-replayed_client : (who : ℕ) (rows : List (Row Mail OrderLine)) (player : Player) (sent : List Mail) → IsClient player → IsClient (replay player_table who player sent rows)
+pub replayed_client : (who : ℕ) (rows : List (Row Mail OrderLine)) (player : Player) (sent : List Mail) → IsClient player → IsClient (replay player_table who player sent rows)
 replayed_client who [] player sent is = is
 replayed_client who (row ∷ rows) player sent is =
     replayed_client who rows _ (sent ++ row.sent) (cond_both (eqb row.who who) (acted player_table player (input_of sent row.event)).0 player IsClient (λ _. acted_client player (input_of sent row.event) is) (λ _. is))
@@ -66,7 +66,7 @@ no_replica name (Client client) is = refl
 -- ---- seats
 
 module _ (groups : List Base) (policy : Bool) where
-  seat_in : (count from who : ℕ) (others : List (Seat Player)) → from ≤ who → who < from + count → find (λ (seat : Seat Player). eqb seat.who who) (map (node_seat as_nodes groups policy) (numbers_from from count) ++ others) ≡ Some (node_seat as_nodes groups policy who)
+  pub seat_in : (count from who : ℕ) (others : List (Seat Player)) → from ≤ who → who < from + count → find (λ (seat : Seat Player). eqb seat.who who) (map (node_seat as_nodes groups policy) (numbers_from from count) ++ others) ≡ Some (node_seat as_nodes groups policy who)
   seat_in zero from who others low high = absurd (omega (arith, low, high))
   seat_in (suc count) from who others low high =
       cond_both (eqb from who) (Some (node_seat as_nodes groups policy from)) _ (λ (o : Option (Seat Player)). o ≡ Some (node_seat as_nodes groups policy who))
@@ -76,11 +76,11 @@ module _ (groups : List Base) (policy : Bool) where
       above : (x y : ℕ) → x ≤ y → (x ≡ y → ⊥) → x + 1 ≤ y
       above x y le ne = omega (arith, le, ne)
 
-client_among : (groups : List Base) (clients : List Asks) (seat : Seat Player) → Among seat (client_seats groups clients) → IsClient seat.actor
+pub client_among : (groups : List Base) (clients : List Asks) (seat : Seat Player) → Among seat (client_seats groups clients) → IsClient seat.actor
 client_among [] clients seat a = absurd a
 client_among (base ∷ groups) clients seat a = (let f = from_map (client_seat (route_of base)) clients seat a in subst (λ (s : Seat Player). IsClient s.actor) f.2 tt)
 
-node_among : (groups : List Base) (policy : Bool) (count from : ℕ) (seat : Seat Player) → Among seat (map (node_seat as_nodes groups policy) (numbers_from from count)) → (from ≤ seat.who) × (seat.who < from + count)
+pub node_among : (groups : List Base) (policy : Bool) (count from : ℕ) (seat : Seat Player) → Among seat (map (node_seat as_nodes groups policy) (numbers_from from count)) → (from ≤ seat.who) × (seat.who < from + count)
 node_among groups policy zero from seat a = absurd a
 node_among groups policy (suc count) from seat (inl e) = (let is = ap (λ (s : Seat Player). s.who) e in (omega (arith, is), omega (arith, is)))
 node_among groups policy (suc count) from seat (inr a) = (let more = node_among groups policy count (from + 1) seat a in let low = more.0 in let high = more.1 in (omega (arith, low), omega (arith, high)))

@@ -1,12 +1,12 @@
 -- The groups that have replicas in a quiet front are quiet groups, and have executed their logs.
-use Rattle.std.proofs.Common.{◌≡◌, ℕ, ◌+◌, ◌<◌, ◌≤◌, Bool, true, false, true≢false, List, [], ◌∷◌, ◌++◌, length, Option, Some, None, inl, inr, refl, sym, ◌∙◌, ap, subst, append_assoc, arith, length-append}
+use Rattle.std.proofs.Common.{◌≡◌, ℕ, ◌+◌, ◌≤◌, true, true≢false, List, [], ◌∷◌, ◌++◌, length, Some, None, inl, inr, refl, sym, ◌∙◌, ap, subst, append_assoc, arith, length-append}
 use Rattle.std.specs.Prelude.{is_some}
 use Rattle.std.specs.Option.{option_map}
 use Rattle.std.proofs.lemmas.Bool.{cases_Bool, cases_lt}
 use Rattle.sc_base.specs.Among.{Among}
 use Rattle.sc_cmd.specs.declared.commands.Command.{Command}
 use Rattle.sc_cmd.specs.declared.cores.Base.{Base}
-use Rattle.sc_member.specs.Roster.{is_member, least_of}
+use Rattle.sc_member.specs.Roster.{least_of}
 use Rattle.sc_paxos_words.specs.declared.flights.Flight.{Flight}
 use Rattle.sc_paxos_words.specs.Leaders.{flight_at}
 use Rattle.sc_orderly_law.specs.Timely.{AreInTime}
@@ -18,21 +18,18 @@ use Rattle.sc_sound.specs.Logs.{decided_log}
 use Rattle.sc_sound.specs.Players.{births, as_nodes}
 use Rattle.sc_sound.specs.Soundness.{HasRun}
 use Rattle.sc_calm_law.specs.Charts.{players}
-use Rattle.sc_calm_law.specs.Quiet.{HasReplica}
 use Rattle.sc_log_law.specs.Descent.{Rows}
 use Rattle.sc_following_law.specs.Following.{Course, members_at}
 use Rattle.sc_following_law.specs.Hints.{Tellers}
-use Rattle.sc_following_law.specs.Leading.{IsLeadOf}
 use Rattle.sc_following_law.proofs.Leads.{least_in}
 use Rattle.sc_calm_logs_law.specs.Logged.{logged_sets, IsGroupOf}
-use Rattle.sc_calm_groups_law.specs.Cleared.{RestsCleared}
 use Rattle.sc_calm_groups_law.specs.Through.{ScenariosAreWellBorn}
 use Rattle.sc_calm_groups_law.proofs.Keeping.{kept_leaders_rest, scenarios_kept_born}
 use Rattle.sc_calm_groups_law.proofs.Resting.{quiet_groups_led}
 use Rattle.sc_calm_led_law.specs.Led.{over_at}
 use Rattle.sc_calm_led_law.specs.Taught.{GroupsBeginTaught}
 use Rattle.sc_calm_led_law.specs.Tellers.{tellers_at}
-use Rattle.sc_calm_rests_law.specs.Rests.{replicas_at, IsQuietGroup}
+use Rattle.sc_calm_rests_law.specs.Rests.{IsQuietGroup}
 use Rattle.sc_calm_rests_law.proofs.Facts.{at, over, all, view, members_have, newest_next, place, room}
 use Rattle.sc_calm_scenes_law.specs.Fresh.{IsThere}
 use Rattle.sc_calm_known_law.specs.Fronts.{IsQuietFront, IsKnownGroup, IsFoundFront, FrontsAreFound, QuietFrontsHaveGroups, QuietLogsAreExecuted}
@@ -77,16 +74,17 @@ module _ (by : Tellers) (words : ℕ → ℕ → ℕ × ℕ) (scenario : Scenari
     | inr off ↦ (let same = q.led.followed.follows.offered off in omega (arith, same))
   ]
 
-module _ (wb : ScenariosAreWellBorn) (begin : GroupsBeginTaught) (through : GroupsAreAskedThrough) (words : ℕ → ℕ → ℕ × ℕ) (scenario : Scenario) (journal front : Rows) (base : Base) (q : IsQuietFront words scenario journal front) where
-  front_timely : AreInTime (players words (births as_nodes scenario)) front
-  front_timely = λ before row after e. q.calm.timely before row (after ++ q.begins.more) (q.begins.is ∙ (ap (λ rows. rows ++ q.begins.more) e ∙ append_assoc before (row ∷ after) q.begins.more))
+-- the rows of a front come in time
+pub front_timely : (words : ℕ → ℕ → ℕ × ℕ) (scenario : Scenario) (journal front : Rows) → IsQuietFront words scenario journal front → AreInTime (players words (births as_nodes scenario)) front
+front_timely words scenario journal front q = λ before row after e. q.calm.timely before row (after ++ q.begins.more) (q.begins.is ∙ (ap (λ rows. rows ++ q.begins.more) e ∙ append_assoc before (row ∷ after) q.begins.more))
 
+module _ (wb : ScenariosAreWellBorn) (begin : GroupsBeginTaught) (through : GroupsAreAskedThrough) (words : ℕ → ℕ → ℕ × ℕ) (scenario : Scenario) (journal front : Rows) (base : Base) (q : IsQuietFront words scenario journal front) where
   pub known_group : Among base (groups_at as_nodes scenario.groups journal) → IsThere (births as_nodes scenario) front base.core.id → IsKnownGroup words scenario journal front base
   known_group a there =
       let group : IsGroupOf as_nodes words scenario journal base = record { open_slots = refl; valid = q.calm.valid; lawful = q.calm.lawful; stands = a } in
       let by = tellers_at as_nodes scenario base journal in
       let t = q.sent base a in
-      let on = through (logged_sets as_nodes base journal) (over_at as_nodes base journal) by words (births as_nodes scenario) front base (wb scenario) t.one t.so front_timely (begin words by scenario journal base group) in
+      let on = through (logged_sets as_nodes base journal) (over_at as_nodes base journal) by words (births as_nodes scenario) front base (wb scenario) t.one t.so (front_timely words scenario journal front q) (begin words by scenario journal base group) in
       let len = ap length q.begins.is in
       let parts = length-append front q.begins.more in
       let short = q.calm.short in
@@ -96,7 +94,7 @@ module _ (wb : ScenariosAreWellBorn) (begin : GroupsBeginTaught) (through : Grou
           group = group;
           more = q.begins.more;
           split = q.begins.is;
-          timely = front_timely;
+          timely = front_timely words scenario journal front q;
           quiet = q.quiet;
           short = omega (arith, len, parts, short);
           strangers = q.strangers base.core.id;

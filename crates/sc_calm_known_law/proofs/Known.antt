@@ -1,11 +1,10 @@
 -- What is known of the groups of a quiet front.
-use Rattle.std.proofs.Common.{◌≡◌, ℕ, ◌+◌, ◌-◌, ◌<◌, ◌≤◌, Bool, true, false, true≢false, List, [], ◌∷◌, ◌++◌, length, take, Option, Some, None, inl, inr, refl, sym, ◌∙◌, ap, subst, arith, length-append}
+use Rattle.std.proofs.Common.{◌≡◌, ℕ, ◌+◌, ◌-◌, ◌≤◌, true, length, take, Option, Some, sym, ◌∙◌, ap, subst, arith}
 use Rattle.std.specs.Prelude.{is_some}
 use Rattle.std.proofs.lemmas.List.{take_all, take-append-le}
-use Rattle.std.proofs.lemmas.Option.{none-some, same_Some}
+use Rattle.std.proofs.lemmas.Option.{same_Some}
 use Rattle.sc_base.specs.Among.{Among}
 use Rattle.sc_base.specs.declared.names.Draw.{Draw}
-use Rattle.sc_cmd.specs.declared.commands.Command.{Command}
 use Rattle.sc_cmd.specs.declared.cores.Base.{Base}
 use Rattle.sc_cmd.specs.declared.links.Route.{Route}
 use Rattle.sc_machine_table.specs.Group.{Group, group_of}
@@ -15,23 +14,20 @@ use Rattle.sc_scenario.specs.declared.scenarios.Scenario.{Scenario}
 use Rattle.sc_node_table.specs.Replica.{ReplicaState, next}
 use Rattle.sc_sound.specs.GroupsOf.{groups_at}
 use Rattle.sc_sound.specs.Logs.{decided_log, decided_state}
-use Rattle.sc_sound.specs.Players.{births, as_nodes}
+use Rattle.sc_sound.specs.Players.{as_nodes}
 use Rattle.sc_sound.specs.Soundness.{HasRun}
-use Rattle.sc_calm_law.specs.Quiet.{HasReplica, IsNewest, StandsQuiet}
+use Rattle.sc_calm_law.specs.Quiet.{HasReplica}
 use Rattle.sc_log_law.specs.Descent.{Rows}
 use Rattle.sc_following_law.specs.Following.{Course, members_at}
 use Rattle.sc_following_law.specs.Hints.{Tellers}
 use Rattle.sc_calm_logs_law.specs.Logged.{logged_sets}
-use Rattle.sc_calm_rows_law.specs.Groups.{view_at}
 use Rattle.sc_calm_led_law.specs.States.{state_at}
 use Rattle.sc_calm_rests_law.specs.Rests.{replicas_at, IsQuietGroup}
 use Rattle.sc_calm_rests_law.proofs.Facts.{even, members_have, place, states}
-use Rattle.sc_calm_scenes_law.specs.Fresh.{IsThere}
 use Rattle.sc_budget_law.specs.AskingQuiet.{replicas_after}
 use Rattle.sc_calm_settings_law.specs.Counting.{GoneAgree}
-use Rattle.sc_calm_known_law.specs.Fronts.{IsQuietFront, IsKnownGroup, IsFoundFront, FrontsAreFound, QuietLogsAreExecuted}
-use Rattle.sc_calm_known_law.specs.Known.{AreAllThere, FrontsGoneAgree, QuietCoursesEnd}
-use Rattle.sc_calm_known_law.specs.Links.{WasMember, WereMembers}
+use Rattle.sc_calm_known_law.specs.Fronts.{IsQuietFront, IsFoundFront, FrontsAreFound, QuietLogsAreExecuted}
+use Rattle.sc_calm_known_law.specs.Known.{FrontsGoneAgree, QuietCoursesEnd}
 use Rattle.sc_calm_known_law.proofs.Groups.{newest_there}
 
 module _ (executed : QuietLogsAreExecuted) (finds : FrontsAreFound) (words : ℕ → ℕ → ℕ × ℕ) (scenario : Scenario) (journal front : Rows) (q : IsQuietFront words scenario journal front) where

@@ -1,3 +1,4 @@
+pub mod LinkEnds
 pub mod Linked
 pub mod LinkWorlds
 pub mod LinkEntries
@@ -11,3 +12,8 @@ pub mod Known
 pub mod Reaching
 pub mod Linking
 pub mod Still
+pub mod Begun
+pub mod Noted
+pub mod Turns
+pub mod Going
+pub mod GoingOn

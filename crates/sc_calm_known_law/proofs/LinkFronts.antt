@@ -1,5 +1,5 @@
 -- The nodes that links and routes name were members, by the logs of a lawful journal.
-use Rattle.std.proofs.Common.{◌≡◌, ℕ, zero, suc, ◌+◌, ◌<◌, ◌≤◌, ◌⊎◌, eqb, cond, true, List, [], ◌∷◌, ◌++◌, length, take, Option, Some, None, inl, inr, refl, sym, ◌∙◌, ap, subst, arith, append_assoc, append-nil, length-append}
+use Rattle.std.proofs.Common.{◌≡◌, ℕ, zero, suc, ◌+◌, ◌<◌, ◌≤◌, ◌⊎◌, eqb, List, [], ◌∷◌, ◌++◌, length, take, Some, inl, inr, refl, sym, ◌∙◌, ap, subst, arith, length-append}
 use Rattle.std.proofs.lemmas.Bool.{cond_both, cases_lt, both_ways, eq-eqb}
 use Rattle.std.proofs.lemmas.Option.{same_Some}
 use Rattle.sc_base.specs.Among.{Among}
@@ -12,15 +12,15 @@ use Rattle.sc_machine_table.specs.Group.{Group, group_of}
 use Rattle.sc_machine_table.specs.Logs.{state_after}
 use Rattle.sc_member.specs.Roster.{IsRoster, is_member}
 use Rattle.sc_paxos_law.proofs.Among.{Among-left, Among-right, Among-either}
-use Rattle.sc_scenario.specs.Groups.{group_at, place_right, base_at, bases_up_to, bases_of}
-use Rattle.sc_scenario.specs.Valid.{IsValid, IsBounded, IsBoundedGroup, ValidScenariosAreBounded}
+use Rattle.sc_scenario.specs.Groups.{place_right, base_at, bases_up_to}
+use Rattle.sc_scenario.specs.Valid.{IsValid, ValidScenariosAreBounded}
 use Rattle.sc_scenario.specs.declared.drafts.GroupLine.{GroupLine}
 use Rattle.sc_scenario.specs.declared.scenarios.Scenario.{Scenario}
 use Rattle.sc_sound.specs.GroupsOf.{groups_at, entries_at, world_at}
 use Rattle.sc_sound.specs.Logs.{decided_log, decided_state}
 use Rattle.sc_sound.specs.Players.{as_nodes, Lawful, route_of}
 use Rattle.sc_log_entries.specs.declared.LogEntry.{LogEntry}
-use Rattle.sc_log_entries.specs.Worlds.{StoreWorld, first_world, named_group, world_after, world_of}
+use Rattle.sc_log_entries.specs.Worlds.{StoreWorld, first_world, named_group, world_of}
 use Rattle.sc_log_entries.proofs.Pushes.{world_append}
 use Rattle.sc_hist_law.specs.Fronts.{log_in}
 use Rattle.sc_hist_law.proofs.Fronts.{logs_make_states}
@@ -43,7 +43,7 @@ use Rattle.sc_whole_law.proofs.Members.{members_stay_rosters}
 use Rattle.sc_whole_law.proofs.Scheduled.{orders_allowed}
 use Rattle.sc_whole_law.proofs.Turning.{Holds}
 use Rattle.sc_calm_known_law.specs.Links.{WasMember, WereMembers, AreAllFree, LinksWereMembers}
-use Rattle.sc_calm_known_law.proofs.Linked.{Good, IsLinkedSo}
+use Rattle.sc_calm_known_law.proofs.LinkEnds.{Good, IsLinkedSo}
 use Rattle.sc_calm_known_law.proofs.LinkEntries.{groups_then, Come, all_linked, moved}
 
 -- ---- two fronts of a list

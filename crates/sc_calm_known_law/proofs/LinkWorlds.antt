@@ -1,70 +1,34 @@
 -- A group that has promised stays bound until the end of its transaction.
-use Rattle.std.proofs.Common.{◌≡◌, ℕ, ◌≤◌, ◌⊎◌, Bool, true, false, cond, nat_le, length, List, [], ◌∷◌, ◌++◌, Option, Some, None, inl, inr, refl, sym, ◌∙◌, ap, subst, append_assoc, append-nil}
-use Rattle.std.specs.Prelude.{map}
-use Rattle.std.specs.Option.{option_map}
+use Rattle.std.proofs.Common.{◌≡◌, ℕ, ◌⊎◌, true, cond, nat_le, length, [], ◌∷◌, Option, Some, None, inl, inr, refl, sym, ◌∙◌, ap, subst}
 use Rattle.std.proofs.lemmas.Bool.{cond_both}
 use Rattle.std.proofs.lemmas.Option.{none-some, same_Some}
-use Rattle.sc_base.specs.Among.{Among}
 use Rattle.sc_base.specs.Same.{same_draw}
 use Rattle.sc_base.specs.declared.names.Draw.{Draw}
 use Rattle.sc_base.proofs.NameLemmas.{draw_is}
 use Rattle.sc_member.specs.Roster.{is_member}
 use Rattle.sc_member.specs.Union.{united}
-use Rattle.sc_cmd.specs.declared.bodies.Body.{Body}
-use Rattle.sc_cmd.specs.declared.bodies.Body.TheVariants as At
 use Rattle.sc_cmd.specs.declared.bodies.Offer.{Offer}
 use Rattle.sc_cmd.specs.declared.commands.Command.{Command}
 use Rattle.sc_cmd.specs.declared.commands.Command.TheVariants.{Noop, Call, Join, Leave, Split, Begin, Prepared, RecordVote, GiveUp, Finish, Watched, RecordWatch}
-use Rattle.sc_cmd.specs.declared.cores.Base.{Base}
 use Rattle.sc_cmd.specs.declared.cores.Core.{Core}
 use Rattle.sc_cmd.specs.declared.cores.Lock.{Lock}
-use Rattle.sc_cmd.specs.declared.cores.Lock.TheVariants.{Free, Coordinating, Promised, Watching}
+use Rattle.sc_cmd.specs.declared.cores.Lock.TheVariants.{Promised, Watching}
 use Rattle.sc_cmd.specs.declared.effects.Effect.{Effect}
 use Rattle.sc_cmd.specs.declared.effects.Effect.TheVariants as Was
 use Rattle.sc_cmd.specs.declared.links.Route.{Route}
 use Rattle.sc_cmd.specs.declared.orders.OrderRefusal.{OrderRefusal}
-use Rattle.sc_cmd.specs.declared.votes.Frozen.{Frozen}
-use Rattle.sc_cmd.specs.declared.votes.Heard.{Heard}
 use Rattle.sc_cmd.specs.declared.votes.No.{No}
 use Rattle.sc_cmd.specs.declared.votes.Outcome.{Outcome}
-use Rattle.sc_cmd.specs.declared.votes.Outcome.TheVariants.{Abort, Migrated}
-use Rattle.sc_cmd.specs.declared.votes.Past.TheVariants as Cast
-use Rattle.sc_cmd.specs.declared.votes.Vote.{Vote}
-use Rattle.sc_cmd.specs.declared.votes.Vote.TheVariants as Ballot
-use Rattle.sc_machine_table.specs.Group.{Group, group_of}
-use Rattle.sc_machine_table.specs.Logs.{state_after}
+use Rattle.sc_cmd.specs.declared.votes.Outcome.TheVariants.{Migrated}
+use Rattle.sc_machine_table.specs.Group.{Group}
 use Rattle.sc_machine_table.specs.Machine.{applied, ordered_by, split_group}
 use Rattle.sc_machine_table.specs.Orders.{locked_in, refused_in, refusal_of, ordered, with_node, without_node}
-use Rattle.sc_machine_table.specs.Splits.{has_named, right_members, child_of}
-use Rattle.sc_machine_table.specs.Transactions.{begun_group, participant_answered, asks_watcher, vote_recorded, is_coordinating, aborted, watch_recorded}
+use Rattle.sc_machine_table.specs.Splits.{has_named}
+use Rattle.sc_machine_table.specs.Transactions.{begun_group, vote_recorded, is_coordinating, aborted, watch_recorded}
 use Rattle.sc_machine_table.specs.Votes.{has_voted, no_of, offer_no, watch_no, vote_of, watch_vote_of, voted_on}
 use Rattle.sc_machine_table.specs.Finishes.{welcomed_group, participant_after, party_freed, settled_in, finished}
-use Rattle.sc_log_entries.specs.Births.{division_of, birth_of}
-use Rattle.sc_log_entries.specs.declared.Division.{Division}
-use Rattle.sc_log_entries.specs.declared.LogEntry.{LogEntry}
-use Rattle.sc_log_entries.specs.Worlds.{StoreWorld, is_named, named_group, groups_after, after_command, world_of}
-use Rattle.sc_log_entries.proofs.Names.{draw_cases, found_name}
-use Rattle.sc_hist_law.proofs.Fronts.{own_first, other_first, logs_make_states}
-use Rattle.sc_hist_law.proofs.Logs.{applied_same}
-use Rattle.sc_ring_law.specs.Allowed.{Sources, IsVoteCast, IsAllowed, AreAllowed, ToldWorld, first_told, stories_told, told_on, told_after}
-use Rattle.sc_ring_law.specs.Invariant.{Groups, Facts}
-use Rattle.sc_ring_law.specs.Laws.{BeginInPlace, stories_of}
-use Rattle.sc_ring_law.specs.Stories.{Story, Stories, put, unsigned, offer_for, stories_after}
-use Rattle.sc_ring_law.proofs.Cover.{at-same, at-other, from_at}
-use Rattle.sc_ring_law.proofs.Cuts.{arcs_in}
-use Rattle.sc_ring_law.proofs.Ends.{own_story, same_lock}
 use Rattle.sc_ring_law.proofs.Finds.{some_none}
-use Rattle.sc_ring_law.proofs.Grows.{allowed_entries_stay_allowed}
-use Rattle.sc_ring_law.proofs.Sound.{store_after}
-use Rattle.sc_ring_law.proofs.Start.{at_start}
-use Rattle.sc_ring_law.proofs.Told.{groups_in, with_child, groups_are}
-use Rattle.sc_ring_law.proofs.Worlds.{KeptWorld, kept_after, fits}
-use Rattle.sc_paxos_words.proofs.ListLemmas.{find_found}
-use Rattle.sc_paxos_law.proofs.Among.{from_map}
-use Rattle.sc_log_law.proofs.Allowing.{allowed_parts, allows}
-use Rattle.sc_log_law.proofs.Allows.{groups_allow_others}
-use Rattle.sc_log_law.proofs.Births.{told_append}
-use Rattle.sc_calm_known_law.proofs.Linked.{Good, IsLinkedSo, IsToldSo, Lands, lands, called_core, united_has}
+use Rattle.sc_calm_known_law.proofs.LinkEnds.{called_core, united_has}
 
 -- ---- a participant stays bound until the end of its transaction
 

@@ -1,21 +1,13 @@
 -- What each entry leaves of the links and routes of its group, and of the stories: they name nodes that were members of the group that is named, or come to it.
-use Rattle.std.proofs.Common.{◌≡◌, ℕ, ◌≤◌, ◌⊎◌, Bool, true, false, cond, ◌&&◌, ◌||◌, ◌++◌, filter, arith, not, eqb, nat_lt, nat_le, length, List, [], ◌∷◌, Option, Some, None, inl, inr, refl, sym, ◌∙◌, ap, subst}
-use Rattle.std.specs.FinMap.{get}
+use Rattle.std.proofs.Common.{◌≡◌, ℕ, Bool, true, false, cond, ◌&&◌, not, Option, Some, None, inl, inr, refl, sym, ◌∙◌, ap, subst}
 use Rattle.std.specs.Option.{option_map}
-use Rattle.std.specs.List.{list_any}
-use Rattle.std.proofs.lemmas.Bool.{cond_both, eqb-true, eq-eqb, or_right}
+use Rattle.std.proofs.lemmas.Bool.{cond_both}
 use Rattle.std.proofs.lemmas.Option.{none-some, same_Some}
 use Rattle.sc_base.specs.Arc.{holds}
 use Rattle.sc_base.specs.Same.{same_draw}
 use Rattle.sc_base.specs.declared.names.Draw.{Draw}
-use Rattle.sc_base.specs.declared.ops.Noted.{Noted}
-use Rattle.sc_base.specs.declared.ops.Op.{Op}
-use Rattle.sc_ideal.specs.IdealStore.{key_of, holds_key}
-use Rattle.sc_member.specs.Roster.{is_member, with_member}
-use Rattle.sc_member.proofs.UnionLemmas.{grows}
-use Rattle.sc_member.specs.Union.{with_any, united}
+use Rattle.sc_member.specs.Union.{united}
 use Rattle.sc_cmd.specs.Cores.{is_alone}
-use Rattle.sc_cmd.specs.Effects.{is_changed, is_divided, decided_in}
 use Rattle.sc_cmd.specs.declared.bodies.Body.{Body}
 use Rattle.sc_cmd.specs.declared.bodies.Body.TheVariants as At
 use Rattle.sc_cmd.specs.declared.bodies.Offer.{Offer}
@@ -40,114 +32,39 @@ use Rattle.sc_cmd.specs.declared.votes.Past.TheVariants as Cast
 use Rattle.sc_cmd.specs.declared.votes.Vote.{Vote}
 use Rattle.sc_cmd.specs.declared.votes.Vote.TheVariants as Ballot
 use Rattle.sc_machine_table.specs.Group.{Group}
-use Rattle.sc_machine_table.specs.Machine.{applied, served_by_note, served, called, ordered_by, split_group}
+use Rattle.sc_machine_table.specs.Machine.{applied, split_group}
 use Rattle.sc_machine_table.specs.Orders.{refusal_of, ordered, with_node, without_node}
-use Rattle.sc_machine_table.specs.Splits.{has_named, splits_at_once, left_link, right_link, left_members, right_members, right_core, right_succ, left_group}
+use Rattle.sc_machine_table.specs.Splits.{has_named, splits_at_once, left_link, left_members, right_members, right_core, right_succ, left_group}
 use Rattle.sc_machine_table.specs.Plans.{Plan, frozen_of, can_split, split_plan, may_merge, merged_link, merged_succ, merged_route, merged_group, closing_group, merge_plan, closing_plan, can_repart, giving_group, taking_group, part_gift, taken, has_key_of, giving_plan, taking_plan, repart_plan, succ_with, can_migrate, migrated_group, migrate_plan}
 use Rattle.sc_machine_table.specs.Transactions.{begun_group, decided_group, aborted, committed, granted, participant_answered, asks_watcher, vote_recorded, released, watch_answered, watch_recorded, is_coordinating}
-use Rattle.sc_machine_table.specs.Votes.{has_voted, past_of, bound_by, vote_of, watch_vote_of, voted_on}
-use Rattle.sc_machine_table.specs.Finishes.{can_gain, gained_group, lost_group, welcomed_group, moved, participant_after, settled_in, watcher_after, party_freed, finished}
-use Rattle.sc_machine_table.specs.Plans.{can_cut}
+use Rattle.sc_machine_table.specs.Votes.{has_voted, past_of, vote_of, watch_vote_of, voted_on}
 use Rattle.sc_log_entries.specs.Births.{division_in, division_of}
 use Rattle.sc_log_entries.specs.declared.Division.{Division}
 use Rattle.sc_ring_law.specs.Allowed.{Sources, IsVoteCast, IsAllowed}
 use Rattle.sc_ring_law.specs.Invariant.{Groups, IsCoordinating, Facts}
-use Rattle.sc_ring_law.specs.Stories.{Story, Stories, put, retold, unsigned, offer_for, new_story, vote_in, vote_by, watch_vote_in, with_vote, with_watch_vote, with_decision, with_asked, with_answer, stories_after}
+use Rattle.sc_ring_law.specs.Stories.{Story, Stories, put, retold, unsigned, offer_for, new_story, vote_by, with_vote, with_watch_vote, with_decision, with_asked, stories_after}
 use Rattle.sc_ring_law.proofs.Cover.{from_at}
 use Rattle.sc_ring_law.proofs.Ends.{own_story, same_lock}
-
--- some nodes, of each of which something holds with a group's name
-abbrev pub Good : (Draw → ℕ → Type 0) → Draw → List ℕ → Type 0
-Good P name nodes = (1 ≤ length nodes) × ((node : ℕ) → is_member nodes node ≡ true → P name node)
-
--- ---- a call changes no record
-
-numbered_core : (o : Option Noted) (group : Group) (client seq : ℕ) (op : Op) → (served_by_note o group client seq op).0.core ≡ group.core
-numbered_core None group client seq op = refl
-numbered_core (Some n) group client seq op =
-    cond_both (nat_lt n.seq seq) _ _ (λ (x : Group × Effect). x.0.core ≡ group.core) (λ _. refl) (λ _. cond_both (eqb n.seq seq) (group, Was.Again n.reply) (group, Was.Stale n.seq) (λ (x : Group × Effect). x.0.core ≡ group.core) (λ _. refl) (λ _. refl))
-
-served_core : (group : Group) (client seq : ℕ) (op : Op) → (served group client seq op).0.core ≡ group.core
-served_core group client seq op = cond_both (holds_key group.core.arc (key_of op)) _ _ (λ (x : Group × Effect). x.0.core ≡ group.core) (λ _. numbered_core (get group.clients client) group client seq op) (λ _. refl)
-
-pub called_core : (gone : Option Route) (lock : Lock) (group : Group) (client seq : ℕ) (op : Op) → (called gone lock group client seq op).0.core ≡ group.core
-called_core (Some into) lock group client seq op = refl
-called_core None Free group client seq op = served_core group client seq op
-called_core None (Watching tx watch) group client seq op = served_core group client seq op
-called_core None (Coordinating tx body order heard) group client seq op = refl
-called_core None (Promised tx offer) group client seq op = refl
-
--- ---- sets of nodes
-
-or_true : (x y : Bool) → (x || y) ≡ true → (x ≡ true) ⊎ (y ≡ true)
-or_true true y e = inl refl
-or_true false y e = inr e
-
-any_append : (p : ℕ → Bool) (xs ys : List ℕ) → list_any p (xs ++ ys) ≡ (list_any p xs || list_any p ys)
-any_append p [] ys = refl
-any_append p (x ∷ xs) ys = ap (λ b. p x || b) (any_append p xs ys) ∙ sym (or_assoc (p x) (list_any p xs) (list_any p ys))
-  where
-    or_assoc : (a b c : Bool) → ((a || b) || c) ≡ (a || (b || c))
-    or_assoc true b c = refl
-    or_assoc false b c = refl
-
-any_filter : (p q : ℕ → Bool) (xs : List ℕ) → list_any p (filter q xs) ≡ true → list_any p xs ≡ true
-any_filter p q [] = λ e. e
-any_filter p q (x ∷ xs) = cond_both (q x) (x ∷ filter q xs) (filter q xs) (λ l. list_any p l ≡ true → (p x || list_any p xs) ≡ true)
-    (λ _ e. elim (or_true (p x) (list_any p (filter q xs)) e) [ inl here ↦ ap (λ b. b || list_any p xs) here | inr more ↦ or_right (p x) (list_any p xs) (any_filter p q xs more) ])
-    (λ _ e. or_right (p x) (list_any p xs) (any_filter p q xs e))
-
--- who is among some nodes and one more is one of these or that
-with_any_member : (nodes : List ℕ) (node who : ℕ) → is_member (united nodes (node ∷ [])) who ≡ true → (is_member nodes who ≡ true) ⊎ (who ≡ node)
-with_any_member nodes node who = cond_both (is_member nodes node) nodes (with_member nodes node) (λ l. is_member l who ≡ true → (is_member nodes who ≡ true) ⊎ (who ≡ node))
-    (λ _ e. inl e)
-    (λ _ e. (let is = λ (m : ℕ). eqb m who in
-    let parts = sym (any_append is (filter (λ m. nat_lt m node) nodes) (node ∷ filter (λ m. nat_lt node m) nodes)) ∙ e in
-    elim (or_true (list_any is (filter (λ m. nat_lt m node) nodes)) (eqb node who || list_any is (filter (λ m. nat_lt node m) nodes)) parts) [
-      | inl low ↦ inl (any_filter is (λ m. nat_lt m node) nodes low)
-      | inr more ↦ elim (or_true (eqb node who) (list_any is (filter (λ m. nat_lt node m) nodes)) more) [ inl same ↦ inr (sym (eqb-true node who same)) | inr high ↦ inl (any_filter is (λ m. nat_lt node m) nodes high) ]
-    ]))
-
-any_appended : (p : ℕ → Bool) (xs ys : List ℕ) → list_any p ys ≡ true → list_any p (xs ++ ys) ≡ true
-any_appended p xs ys e = any_append p xs ys ∙ or_right (list_any p xs) (list_any p ys) e
-
--- and that is
-pub united_has : (nodes : List ℕ) (node : ℕ) → is_member (united nodes (node ∷ [])) node ≡ true
-united_has nodes node = cond_both (is_member nodes node) nodes (with_member nodes node) (λ l. is_member l node ≡ true) (λ e. e)
-    (λ _. any_appended (λ m. eqb m node) (filter (λ m. nat_lt m node) nodes) (node ∷ filter (λ m. nat_lt node m) nodes) (ap (λ b. b || list_any (λ m. eqb m node) (filter (λ m. nat_lt node m) nodes)) (eq-eqb node node refl)))
+use Rattle.sc_calm_known_law.proofs.LinkEnds.{Good, called_core, IsLinkedSo, IsToldSo, good_come, more_good, kept_links, finished_ends}
 
 -- ---- what is said of nodes
 
 module _ (Were Come : Draw → ℕ → Type 0) (come : (name : Draw) (node : ℕ) → Were name node → Come name node) where
-  -- the link of a group, and where it went
-  pub record IsLinkedSo (core : Core) : Type 0 where
-    pub succ : Good Come core.succ.group core.succ.members
-    pub gone : (into : Route) → core.gone ≡ Some into → Good Were into.group into.members
+  abbrev LinkedSo : Core → Type 0
+  LinkedSo = IsLinkedSo Were Come come
 
-  -- what a participant handed over, and where it was to go
-  pub record IsToldSo (y : Story) : Type 0 where
-    pub voted : (f : Frozen) → y.vote ≡ Some (Ballot.Yes f) → Good Come f.succ.group f.succ.members × ((offer : Offer) → y.offer ≡ Some offer → Good Were offer.part f.members)
-    pub ended : (into : Route) → y.outcome ≡ Some (Merged into) → Good Were into.group into.members
+  abbrev ToldSo : Story → Type 0
+  ToldSo = IsToldSo Were Come come
 
-  good_come : (name : Draw) (nodes : List ℕ) → Good Were name nodes → Good Come name nodes
-  good_come name nodes g = (g.0, λ node m. come name node (g.1 node m))
-
-  -- one more node
-  more_good : (name : Draw) (nodes : List ℕ) (node : ℕ) → Good Come name nodes → Come name node → Good Come name (united nodes (node ∷ []))
-  more_good name nodes node g c = (
-    (let up = grows nodes (node ∷ []) in let low = g.0 in omega (arith, up, low)),
-    λ who m. elim (with_any_member nodes node who m) [ inl was ↦ g.1 who was | inr is ↦ subst (Come name) (sym is) c ],
-  )
-
-  module _ (sources : Sources) (gs : Groups) (ys : Stories) (g : Draw) (s : Group) (facts : Facts sources.owner gs ys) (is : gs g ≡ Some s) (linked : IsLinkedSo s.core) (all_told : (tx : Draw) (y : Story) → ys tx ≡ Some y → IsToldSo y) (now : Good Were g s.core.members) where
+  module _ (sources : Sources) (gs : Groups) (ys : Stories) (g : Draw) (s : Group) (facts : Facts sources.owner gs ys) (is : gs g ≡ Some s) (linked : LinkedSo s.core) (all_told : (tx : Draw) (y : Story) → ys tx ≡ Some y → ToldSo y) (now : Good Were g s.core.members) where
     named : s.core.id ≡ g
     named = (facts.group g s is).named
 
     -- what holds after an entry
     pub record Lands (command : Command) (r : Group × Effect) : Type 0 where
-      pub core : IsLinkedSo r.0.core
-      pub told : (tx : Draw) (y : Story) → stories_after s command r.1 ys tx ≡ Some y → IsToldSo y
-      pub born : (d : Division) → division_of s.core command r.1 ≡ Some d → IsLinkedSo (right_core s.core d.at d.child)
+      pub core : LinkedSo r.0.core
+      pub told : (tx : Draw) (y : Story) → stories_after s command r.1 ys tx ≡ Some y → ToldSo y
+      pub born : (d : Division) → division_of s.core command r.1 ≡ Some d → LinkedSo (right_core s.core d.at d.child)
 
     -- where the group's members, and those of a child, were so, and a node that moves comes
     abbrev pub Claim : Command → Group × Effect → Type 0
@@ -158,24 +75,21 @@ module _ (Were Come : Draw → ℕ → Type 0) (come : (name : Draw) (node : ℕ
     no_child : {X : Type 0} (d : Division) → None ≡ Some d → X
     no_child d e = absurd (none-some d e)
 
-    same_links : (c : Core) → c.succ ≡ s.core.succ → c.gone ≡ s.core.gone → IsLinkedSo c
-    same_links c succ gone = record {
-      succ = subst (λ (l : Link). Good Come l.group l.members) (sym succ) linked.succ;
-      gone = λ into e. linked.gone into (sym gone ∙ e);
-    }
+    same_links : (c : Core) → c.succ ≡ s.core.succ → c.gone ≡ s.core.gone → LinkedSo c
+    same_links = kept_links Were Come come sources ys g s linked all_told
 
     -- one more story, or one that is told on
-    told_put : (tx : Draw) (y : Story) → IsToldSo y → (t : Draw) (z : Story) → put ys tx (Some y) t ≡ Some z → IsToldSo z
-    told_put tx y k t z e = elim (from_at ys tx (Some y) t (Some z) e) [ inl m ↦ subst IsToldSo (same_Some y z m.1) k | inr m ↦ all_told t z m.1 ]
+    told_put : (tx : Draw) (y : Story) → ToldSo y → (t : Draw) (z : Story) → put ys tx (Some y) t ≡ Some z → ToldSo z
+    told_put tx y k t z e = elim (from_at ys tx (Some y) t (Some z) e) [ inl m ↦ subst ToldSo (same_Some y z m.1) k | inr m ↦ all_told t z m.1 ]
 
-    told_on : (tx : Draw) (f : Story → Story) → ((y : Story) → ys tx ≡ Some y → IsToldSo y → IsToldSo (f y)) → (t : Draw) (z : Story) → retold ys tx f t ≡ Some z → IsToldSo z
+    told_on : (tx : Draw) (f : Story → Story) → ((y : Story) → ys tx ≡ Some y → ToldSo y → ToldSo (f y)) → (t : Draw) (z : Story) → retold ys tx f t ≡ Some z → ToldSo z
     told_on tx f k t z e = elim (from_at ys tx (option_map f (ys tx)) t (Some z) e) [ inl m ↦ by (ys tx) refl m.1 | inr m ↦ all_told t z m.1 ]
       where
-        by : (o : Option Story) → ys tx ≡ o → option_map f o ≡ Some z → IsToldSo z
+        by : (o : Option Story) → ys tx ≡ o → option_map f o ≡ Some z → ToldSo z
         by None q w = absurd (none-some z w)
-        by (Some y) q w = subst IsToldSo (same_Some (f y) z w) (k y q (all_told tx y q))
+        by (Some y) q w = subst ToldSo (same_Some (f y) z w) (k y q (all_told tx y q))
 
-    new_told : (body : Body) → IsToldSo (new_story s body)
+    new_told : (body : Body) → ToldSo (new_story s body)
     new_told body = record { voted = λ f e. absurd (none-some (Ballot.Yes f) e); ended = λ into e. absurd (none-some (Merged into) e) }
 
     not_abort : (into : Route) → Some Abort ≡ Some (Merged into) → ⊥
@@ -201,7 +115,7 @@ module _ (Were Come : Draw → ℕ → Type 0) (come : (name : Draw) (node : ℕ
 
     -- ---- what changes no link
 
-    stays : (command : Command) (r : Group × Effect) → r.0.core.succ ≡ s.core.succ → r.0.core.gone ≡ s.core.gone → ((tx : Draw) (y : Story) → stories_after s command r.1 ys tx ≡ Some y → IsToldSo y) → division_of s.core command r.1 ≡ None → Claim command r
+    stays : (command : Command) (r : Group × Effect) → r.0.core.succ ≡ s.core.succ → r.0.core.gone ≡ s.core.gone → ((tx : Draw) (y : Story) → stories_after s command r.1 ys tx ≡ Some y → ToldSo y) → division_of s.core command r.1 ≡ None → Claim command r
     stays command r succ gone tell none after births moves = record { core = same_links r.0.core succ gone; told = tell; born = λ d e. no_child d (sym none ∙ e) }
 
     ordered_links : (gone : Option Route) (why : Option OrderRefusal) (after : Group) → after.core.succ ≡ s.core.succ → after.core.gone ≡ s.core.gone → ((ordered gone why after s).0.core.succ ≡ s.core.succ) × ((ordered gone why after s).0.core.gone ≡ s.core.gone)
@@ -216,17 +130,17 @@ module _ (Were Come : Draw → ℕ → Type 0) (come : (name : Draw) (node : ℕ
 
     split_by : (at : ℕ) (child : Draw) (order : ℕ) (b : Bool) → (let div : Division = record { at = at; child = child } in let after = cond b (left_group s at child) (begun_group s child (At.Split at child) order) in
         Good Were g after.core.members → ((d : Division) → cond b (Some div) None ≡ Some d → Good Were d.child (right_members s.core.members))
-        → IsLinkedSo after.core × ((tx : Draw) (y : Story) → cond (not b) (put ys child (Some (new_story s (At.Split at child)))) ys tx ≡ Some y → IsToldSo y) × ((d : Division) → cond b (Some div) None ≡ Some d → IsLinkedSo (right_core s.core d.at d.child)))
+        → LinkedSo after.core × ((tx : Draw) (y : Story) → cond (not b) (put ys child (Some (new_story s (At.Split at child)))) ys tx ≡ Some y → ToldSo y) × ((d : Division) → cond b (Some div) None ≡ Some d → LinkedSo (right_core s.core d.at d.child)))
     split_by at child order true after births =
         let div : Division = record { at = at; child = child } in
         let right = births div refl in (
-          record { succ = good_come child (right_members s.core.members) right; gone = linked.gone },
+          record { succ = good_come Were Come come child (right_members s.core.members) right; gone = linked.gone },
           λ tx y e. all_told tx y e,
           λ d e. record { succ = right_is after; gone = λ into f. absurd (none-some into f) },
         )
       where
         right_is : Good Were g (left_members s.core.members) → Good Come (right_succ s.core).group (right_succ s.core).members
-        right_is left = cond_both (splits_at_once s.core) (left_link s.core) s.core.succ (λ (l : Link). Good Come l.group l.members) (λ _. good_come s.core.id (left_members s.core.members) (subst (λ n. Good Were n (left_members s.core.members)) (sym named) left)) (λ _. linked.succ)
+        right_is left = cond_both (splits_at_once s.core) (left_link s.core) s.core.succ (λ (l : Link). Good Come l.group l.members) (λ _. good_come Were Come come s.core.id (left_members s.core.members) (subst (λ n. Good Were n (left_members s.core.members)) (sym named) left)) (λ _. linked.succ)
     split_by at child order false after births = (same_links (begun_group s child (At.Split at child) order).core refl refl, λ tx y e. told_put child (new_story s (At.Split at child)) (new_told (At.Split at child)) tx y e, λ d e. no_child d e)
 
     ordered_split : (at : ℕ) (child : Draw) (order : ℕ) (gone : Option Route) (why : Option OrderRefusal) → Claim (Split at child order) (ordered gone why (split_group s at child order) s)
@@ -253,7 +167,7 @@ module _ (Were Come : Draw → ℕ → Type 0) (come : (name : Draw) (node : ℕ
 
     -- ---- votes
 
-    vote_told : (tx : Draw) (offer : Offer) → IsAllowed sources ys g (Prepared tx offer) → (why : Option No) (y : Story) → ys tx ≡ Some y → IsToldSo y → IsToldSo (with_vote (vote_by s (past_of why)) y)
+    vote_told : (tx : Draw) (offer : Offer) → IsAllowed sources ys g (Prepared tx offer) → (why : Option No) (y : Story) → ys tx ≡ Some y → ToldSo y → ToldSo (with_vote (vote_by s (past_of why)) y)
     vote_told tx offer a (Some why) y e k = record { voted = λ f q. absurd (no_yes why f q); ended = k.ended }
     vote_told tx offer a None y e k = record {
       voted = λ f q. (
@@ -274,7 +188,7 @@ module _ (Were Come : Draw → ℕ → Type 0) (come : (name : Draw) (node : ℕ
         cond_both (has_voted s.core tx) (s, Was.NoEffect tx) _ (Claim (Prepared tx offer)) (λ _. stays (Prepared tx offer) (s, Was.NoEffect tx) refl refl (told_on tx (λ y. y) (λ y e k. k)) refl)
         (λ _. stays (Prepared tx offer) _ refl refl (told_on tx (with_vote (vote_by s (past_of why))) (vote_told tx offer a why)) refl)
 
-    watched_told : (past : Past) (y : Story) → IsToldSo y → IsToldSo (with_watch_vote (Some past) y)
+    watched_told : (past : Past) (y : Story) → ToldSo y → ToldSo (with_watch_vote (Some past) y)
     watched_told past y k = record { voted = k.voted; ended = k.ended }
 
     watched_lands : (tx : Draw) (watch : _) (why : Option No) (bond : Lock) → Claim (Watched tx watch) (voted_on why bond s tx)
@@ -284,16 +198,16 @@ module _ (Were Come : Draw → ℕ → Type 0) (come : (name : Draw) (node : ℕ
 
     -- ---- what a coordinator decides
 
-    ends_told : (o : Outcome) → ((into : Route) → Some o ≡ Some (Merged into) → Good Were into.group into.members) → (y : Story) → IsToldSo y → IsToldSo (with_decision (Some o) y)
+    ends_told : (o : Outcome) → ((into : Route) → Some o ≡ Some (Merged into) → Good Were into.group into.members) → (y : Story) → ToldSo y → ToldSo (with_decision (Some o) y)
     ends_told o good y k = record { voted = k.voted; ended = good }
 
-    aborted_told : (y : Story) → IsToldSo y → IsToldSo (with_decision (Some Abort) y)
+    aborted_told : (y : Story) → ToldSo y → ToldSo (with_decision (Some Abort) y)
     aborted_told = ends_told Abort (λ into e. absurd (not_abort into e))
 
     module _ (f : Frozen) (come_behind : Good Come f.succ.group f.succ.members) where
       merged_good : Good Were g (united s.core.members f.members) → Good Come (merged_succ s.core f).group (merged_succ s.core f).members
       merged_good after = cond_both (same_draw f.succ.group s.core.id) (merged_link s.core f) f.succ (λ (l : Link). Good Come l.group l.members)
-          (λ _. good_come s.core.id (united s.core.members f.members) (subst (λ n. Good Were n (united s.core.members f.members)) (sym named) after)) (λ _. come_behind)
+          (λ _. good_come Were Come come s.core.id (united s.core.members f.members) (subst (λ n. Good Were n (united s.core.members f.members)) (sym named) after)) (λ _. come_behind)
 
       route_good : Good Were g (united s.core.members f.members) → (into : Route) → Some (Merged (merged_route s.core f)) ≡ Some (Merged into) → Good Were into.group into.members
       route_good after into e = subst (λ (r : Route). Good Were r.group r.members) (same_into (merged_route s.core f) into e) (subst (λ n. Good Were n (united s.core.members f.members)) (sym named) after)
@@ -316,7 +230,7 @@ module _ (Were Come : Draw → ℕ → Type 0) (come : (name : Draw) (node : ℕ
         part_good : (offer : Offer) → offer_for s.core body ≡ Some offer → Good Were offer.part f.members
         part_good offer e = heard.1 offer (own.offer ∙ e)
 
-      decided_lands : (vote : Vote) (after : Group) (o : Outcome) → (Good Were g after.core.members → ((node : ℕ) → o ≡ Migrated node → Come s.core.succ.group node) → IsLinkedSo after.core) → (Good Were g after.core.members → (into : Route) → Some o ≡ Some (Merged into) → Good Were into.group into.members)
+      decided_lands : (vote : Vote) (after : Group) (o : Outcome) → (Good Were g after.core.members → ((node : ℕ) → o ≡ Migrated node → Come s.core.succ.group node) → LinkedSo after.core) → (Good Were g after.core.members → (into : Route) → Some o ≡ Some (Merged into) → Good Were into.group into.members)
           → vote_lands vote (decided_group after tx o, Was.Decided o)
       decided_lands vote after o core good members births moves = record {
         core = (let k = core members (λ node e. moves tx vote by node refl (ap Was.Decided e)) in record { succ = k.succ; gone = k.gone });
@@ -329,8 +243,8 @@ module _ (Were Come : Draw → ℕ → Type 0) (come : (name : Draw) (node : ℕ
       repart_lands =
           let quiet = quiet_vote tx (At.Repart at) order by own (Ballot.Yes f) in
           let part = part_good tx (At.Repart at) order by own f cast _ refl in
-          let good : (after : Group) → after.core.succ ≡ succ_with s.core f.members → after.core.gone ≡ s.core.gone → IsLinkedSo after.core = λ after succ gone. record {
-            succ = subst (λ (l : Link). Good Come l.group l.members) (sym succ) (good_come s.core.succ.group f.members part);
+          let good : (after : Group) → after.core.succ ≡ succ_with s.core f.members → after.core.gone ≡ s.core.gone → LinkedSo after.core = λ after succ gone. record {
+            succ = subst (λ (l : Link). Good Come l.group l.members) (sym succ) (good_come Were Come come s.core.succ.group f.members part);
             gone = λ into e. linked.gone into (sym gone ∙ e);
           } in
           cond_both (holds s.core.arc at) (giving_plan s at f) (taking_plan s at f) (λ (plan : Plan). Claim (RecordVote tx (Ballot.Yes f) by) (committed plan s tx))
@@ -345,7 +259,7 @@ module _ (Were Come : Draw → ℕ → Type 0) (come : (name : Draw) (node : ℕ
           let part = part_good tx (At.Migrate node) order by own f cast _ refl in
           cond_both (can_migrate s.core node f) (Some (migrated_group s node f, Migrated node)) None (λ (plan : Plan). Claim (RecordVote tx (Ballot.Yes f) by) (committed plan s tx))
           (λ _. decided_lands tx (At.Migrate node) order by own (Ballot.Yes f) (migrated_group s node f) (Migrated node)
-          (λ _ moves. record { succ = more_good s.core.succ.group f.members node (good_come s.core.succ.group f.members part) (moves node refl); gone = linked.gone })
+          (λ _ moves. record { succ = more_good Were Come come s.core.succ.group f.members node (good_come Were Come come s.core.succ.group f.members part) (moves node refl); gone = linked.gone })
           (λ _ into e. absurd (not_migrated node into e)))
           (λ _. quiet_vote tx (At.Migrate node) order by own (Ballot.Yes f))
 
@@ -456,48 +370,8 @@ module _ (Were Come : Draw → ℕ → Type 0) (come : (name : Draw) (node : ℕ
         (λ _. stays (GiveUp tx) (aborted s tx) refl refl (told_on tx (with_decision (Some Abort)) (λ y e k. aborted_told y k)) refl)
         (λ _. stays (GiveUp tx) (s, Was.NoEffect tx) refl refl (told_on tx (λ y. y) (λ y e k. k)) refl)
 
-    -- ---- an outcome
-
-    module _ (tx : Draw) (outcome : Outcome) (a : IsAllowed sources ys g (Finish tx outcome)) where
-      abbrev Ends : Group × Effect → Type 0
-      Ends r = IsLinkedSo r.0.core
-
-      abbrev EndsIn : Option Group → Type 0
-      EndsIn None = Unit {0}
-      EndsIn (Some after) = IsLinkedSo after.core
-
-      made : (b : Bool) (after : Group) → after.core.succ ≡ s.core.succ → after.core.gone ≡ s.core.gone → EndsIn (cond b (Some after) None)
-      made true after e f = same_links after.core e f
-      made false after e f = tt
-
-      by_gift : (gift : Option Gift) (offer : Offer) (at : ℕ) → EndsIn (moved gift s offer at)
-      by_gift (Some gift) offer at = made (can_gain s.core offer at && not (has_key_of s.pairs gift.pairs)) (gained_group s offer at gift) refl refl
-      by_gift None offer at = made (can_cut s.core.arc at) (lost_group s at) refl refl
-
-      ended_in : (o : Outcome) → o ≡ outcome → (offer : Offer) → EndsIn (participant_after o s offer)
-      ended_in Abort e offer = same_links s.core refl refl
-      ended_in (Merged into) e offer = record {
-        succ = linked.succ;
-        gone = λ r q. subst (λ (x : Route). Good Were x.group x.members) (same_Some into r q) ((all_told tx a.0 a.1).ended into (a.2 ∙ ap Some (sym e)));
-      }
-      ended_in (Moved at gift) e offer = by_gift gift offer at
-      ended_in (Migrated node) e offer = made (nat_le (length (united s.core.members (node ∷ []))) 9) (welcomed_group s node) refl refl
-      ended_in Divided e offer = tt
-
-      settled_ends : (o : Option Group) → EndsIn o → Ends (settled_in o s tx outcome)
-      settled_ends None k = same_links s.core refl refl
-      settled_ends (Some after) k = record { succ = k.succ; gone = k.gone }
-
-      finished_ends : (l : Lock) → Ends (finished l s tx outcome)
-      finished_ends Free = same_links s.core refl refl
-      finished_ends (Coordinating t body order h) = same_links s.core refl refl
-      finished_ends (Promised t offer) =
-          cond_both (same_draw t tx) (settled_in (participant_after outcome s offer) s tx outcome) (s, Was.NoEffect tx) Ends (λ _. settled_ends (participant_after outcome s offer) (ended_in outcome refl offer)) (λ _. same_links s.core refl refl)
-      finished_ends (Watching t watch) =
-          cond_both (same_draw t tx) (party_freed (watcher_after outcome s watch) tx, Was.Decided outcome) (s, Was.NoEffect tx) Ends (λ _. same_links (party_freed (watcher_after outcome s watch) tx).core refl refl) (λ _. same_links s.core refl refl)
-
-      finish_lands : Claim (Finish tx outcome) (applied s (Finish tx outcome))
-      finish_lands after births moves = record { core = finished_ends s.core.lock; told = λ t y e. all_told t y e; born = λ d e. no_child d e }
+    finish_lands : (tx : Draw) (outcome : Outcome) → IsAllowed sources ys g (Finish tx outcome) → Claim (Finish tx outcome) (applied s (Finish tx outcome))
+    finish_lands tx outcome a after births moves = record { core = finished_ends Were Come come sources ys g s linked all_told tx outcome a s.core.lock; told = λ t y e. all_told t y e; born = λ d e. no_child d e }
 
     -- ---- each entry
 

@@ -1,5 +1,5 @@
 -- The link of a group that stands in a quiet front is as a quiet journal asks it.
-use Rattle.std.proofs.Common.{◌≡◌, ℕ, ◌+◌, ◌-◌, ◌/◌, ◌%◌, ◌^◌, ◌<◌, ◌≤◌, Bool, true, false, true≢false, List, [], ◌∷◌, length, Option, Some, None, inl, inr, refl, sym, ◌∙◌, ap, subst, arith}
+use Rattle.std.proofs.Common.{◌≡◌, ℕ, ◌+◌, ◌-◌, ◌/◌, ◌%◌, ◌^◌, ◌<◌, ◌≤◌, true, false, List, [], ◌∷◌, Option, Some, None, refl, sym, ◌∙◌, ap, subst, arith}
 use Rattle.std.specs.Prelude.{IsTrue, ◌&&◌, is_none, is_some}
 use Rattle.std.specs.Option.{option_map}
 use Rattle.std.proofs.lemmas.Bool.{lt-ltb}
@@ -7,7 +7,6 @@ use Rattle.std.proofs.lemmas.Option.{none-some, same_Some}
 use Rattle.sc_base.specs.Among.{Among}
 use Rattle.sc_base.specs.Arc.{Arc, IsArc, offset, holds, end_of}
 use Rattle.sc_base.specs.Text.{pos_of}
-use Rattle.sc_base.specs.declared.names.Draw.{Draw}
 use Rattle.sc_base.proofs.NameLemmas.{draw_is}
 use Rattle.sc_cmd.specs.declared.cores.Base.{Base}
 use Rattle.sc_cmd.specs.declared.cores.Lock.TheVariants.{Free}
@@ -22,26 +21,23 @@ use Rattle.sc_log_law.specs.Findings.{AreItsLogs}
 use Rattle.sc_log_law.proofs.Lists.{find_base}
 use Rattle.sc_machine_table.specs.Group.{Group}
 use Rattle.sc_member.specs.Roster.{is_member}
-use Rattle.sc_node_table.specs.Replica.{ReplicaState, next}
 use Rattle.sc_paxos_words.proofs.ListLemmas.{find_found}
 use Rattle.sc_scenario.specs.declared.scenarios.Scenario.{Scenario}
 use Rattle.sc_sound.specs.GroupsOf.{groups_at, birth_at, is_birth_of, world_at}
-use Rattle.sc_sound.specs.Logs.{decided_log, decided_state}
+use Rattle.sc_sound.specs.Logs.{decided_state}
 use Rattle.sc_sound.specs.Players.{as_nodes}
 use Rattle.sc_sound.specs.Soundness.{IsOneMap}
 use Rattle.sc_whole_law.specs.Valid.{ValidJournalsAreSound, ValidEntriesAreLogs}
-use Rattle.sc_calm_law.specs.Quiet.{HasReplica, IsNewest, IsLinked}
-use Rattle.sc_following_law.specs.Following.{Course}
-use Rattle.sc_following_law.specs.Hints.{Tellers}
+use Rattle.sc_calm_law.specs.Quiet.{HasReplica, IsNewest}
 use Rattle.sc_calm_led_law.specs.Led.{over_at}
-use Rattle.sc_calm_rests_law.specs.Rests.{replicas_at, IsQuietGroup}
+use Rattle.sc_calm_rests_law.specs.Rests.{replicas_at}
 use Rattle.sc_calm_rests_law.proofs.Facts.{even, kept, place, states}
 use Rattle.sc_calm_known_law.specs.Arcs.{FreeGroupsHaveArcs}
-use Rattle.sc_calm_known_law.specs.Fronts.{IsQuietFront, FrontsAreFound, QuietLogsAreExecuted}
-use Rattle.sc_calm_known_law.specs.Known.{AreAllThere, FrontsAreLinked}
+use Rattle.sc_calm_known_law.specs.Fronts.{FrontsAreFound, QuietLogsAreExecuted}
+use Rattle.sc_calm_known_law.specs.Known.{FrontsAreLinked}
 use Rattle.sc_calm_known_law.specs.Links.{AreAllFree, LinksWereMembers}
-use Rattle.sc_calm_known_law.proofs.Known.{see, found, most, ends, last_state}
-use Rattle.sc_calm_known_law.proofs.Reaching.{IsLast, last, has_replica, link_of}
+use Rattle.sc_calm_known_law.proofs.Known.{found, most, ends, last_state}
+use Rattle.sc_calm_known_law.proofs.Reaching.{last, has_replica, link_of}
 
 -- ---- a key at a position
 
@@ -98,15 +94,26 @@ module _ (scenario : Scenario) (front : Rows) (map : IsOneMap (world_at as_nodes
     pub stands : (state other).core.gone ≡ None
     pub begins : (state other).core.arc.lo ≡ end_of (state base).core.arc
 
-  pub next_of : (base : Base) → Among base (groups_at as_nodes scenario.groups front) → (state base).core.gone ≡ None → HasNext base
-  next_of base a stands =
+  -- the cut of a group that stands, whose effective record is its own
+  pub record HasCut (base : Base) : Type 0 where
+    pub cut : Cut
+    pub among : Among cut world.ring
+    pub own : effective world cut.group ≡ Some (state base)
+
+  pub cut_of : (base : Base) → Among base (groups_at as_nodes scenario.groups front) → (state base).core.gone ≡ None → HasCut base
+  cut_of base a stands =
       let arc = arcs base a stands in
       let key = key_at (state base).core.arc.lo in
       let held : holds_key (state base).core.arc key ≡ true = ap (holds (state base).core.arc) (key_there (state base).core.arc.lo arc.1) ∙ first_held (state base).core.arc arc in
-      let c = map.serves_apart (state base) (find_found (is_named base.core.id) world.groups (state base) (there_is base a)).0 key (serves_it (state base) key held (free base a) stands) in
-      let p = map.placed c.0 c.1 in
-      let id : (state base).core.id ≡ base.core.id = draw_is (state base).core.id base.core.id (find_found (is_named base.core.id) world.groups (state base) (there_is base a)).1 in
-      let own : p.group ≡ state base = same_Some p.group (state base) (sym p.is ∙ (ap (effective world) (c.2 ∙ id) ∙ effective_is base a)) in
+      let here = find_found (is_named base.core.id) world.groups (state base) (there_is base a) in
+      let c = map.serves_apart (state base) here.0 key (serves_it (state base) key held (free base a) stands) in
+      record { cut = c.0; among = c.1; own = ap (effective world) (c.2 ∙ draw_is (state base).core.id base.core.id here.1) ∙ effective_is base a }
+
+  pub next_of : (base : Base) → Among base (groups_at as_nodes scenario.groups front) → (state base).core.gone ≡ None → HasNext base
+  next_of base a stands =
+      let c = cut_of base a stands in
+      let p = map.placed c.cut c.among in
+      let own : p.group ≡ state base = same_Some p.group (state base) (sym p.is ∙ c.own) in
       let n = p.succ in
       let x = map.placed n.0 n.1 in
       let of = of_cut n.0 x in

@@ -1,7 +1,7 @@
 -- Nothing is asked for beyond the bound of a group's course, row by row.
-use Rattle.std.proofs.Common.{◌≡◌, ℕ, ◌<◌, ◌≤◌, cond, eqb, List, [], ◌∷◌, ◌++◌, drop, Option, Some, None, inl, inr, refl, sym, ◌∙◌, ap, subst, append_assoc, append-nil, arith}
+use Rattle.std.proofs.Common.{◌≡◌, ℕ, ◌≤◌, eqb, List, [], ◌∷◌, ◌++◌, drop, Option, Some, None, inl, inr, refl, sym, ◌∙◌, ap, subst, append_assoc, append-nil, arith}
 use Rattle.std.proofs.lemmas.Bool.{cond-true, eq-eqb}
-use Rattle.sc_base.specs.Among.{Among, Each}
+use Rattle.sc_base.specs.Among.{Among}
 use Rattle.sc_base.specs.Same.{same_draw}
 use Rattle.sc_base.specs.declared.names.Draw.{Draw}
 use Rattle.sc_base.proofs.NameLemmas.{same_name}
@@ -22,15 +22,14 @@ use Rattle.sc_orderly_law.proofs.Resting.{rest-calm}
 use Rattle.sc_paxos_law.proofs.Among.{Among-left, Among-right}
 use Rattle.sc_paxos_words.proofs.ListLemmas.{Among-filter, Each-among, Each-append, Each-from, Each-weaker}
 use Rattle.sc_node_table.specs.Replica.{listed}
-use Rattle.sc_sound.specs.Players.{Player, player_table}
+use Rattle.sc_sound.specs.Players.{Player}
 use Rattle.sc_calm_law.specs.Charts.{players}
 use Rattle.sc_calm_law.specs.Totals.{Rows}
 use Rattle.sc_following_law.specs.Following.{Mark, Asks, mark_of, marks_of, IsKnown, Course, Sets}
 use Rattle.sc_following_law.specs.Hints.{Tellers}
-use Rattle.sc_calm_rows_law.specs.Turns.{IsSeat}
 use Rattle.sc_calm_groups_law.specs.Kinds.{IsGroupRow, RowPasses, RowRests, RowTakes, RowMakes, RowLeads, RowElects}
 use Rattle.sc_calm_groups_law.specs.Led.{Ends, IsWellLed}
-use Rattle.sc_calm_groups_law.specs.Taught.{IsTaughtOn, RowsKeepTaught}
+use Rattle.sc_calm_groups_law.specs.Taught.{RowsKeepTaught}
 use Rattle.sc_calm_groups_law.specs.Through.{AreWellBorn, HasOneLog, IsSentSo, EventsGoOn}
 use Rattle.sc_calm_known_law.specs.Offered.{AsksBelow, AreAskedBelow, IsAskedOn, GroupsAreAskedThrough}
 

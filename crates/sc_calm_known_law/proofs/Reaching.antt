@@ -1,11 +1,9 @@
 -- The groups of a quiet front are known, and links and routes name nodes that have replicas.
-use Rattle.std.proofs.Common.{◌≡◌, ℕ, ◌+◌, ◌<◌, ◌≤◌, true, false, true≢false, List, [], ◌∷◌, length, take, Option, Some, None, inl, inr, refl, sym, ◌∙◌, ap, subst, arith}
-use Rattle.std.proofs.lemmas.Option.{none-some, same_Some}
+use Rattle.std.proofs.Common.{◌≡◌, ℕ, ◌+◌, ◌≤◌, true, length, take, Option, Some, None, refl, sym, ◌∙◌, ap, subst, arith}
+use Rattle.std.proofs.lemmas.Option.{none-some}
 use Rattle.sc_base.specs.Among.{Among}
-use Rattle.sc_base.specs.Arc.{IsArc}
 use Rattle.sc_base.specs.declared.names.Draw.{Draw}
 use Rattle.sc_cmd.specs.declared.cores.Base.{Base}
-use Rattle.sc_cmd.specs.declared.cores.Lock.TheVariants.{Free}
 use Rattle.sc_cmd.specs.declared.links.Route.{Route}
 use Rattle.sc_machine_table.specs.Group.{Group, group_of}
 use Rattle.sc_machine_table.specs.Logs.{state_after}
@@ -14,19 +12,18 @@ use Rattle.sc_scenario.specs.declared.scenarios.Scenario.{Scenario}
 use Rattle.sc_node_table.specs.Replica.{ReplicaState, next}
 use Rattle.sc_sound.specs.GroupsOf.{groups_at}
 use Rattle.sc_sound.specs.Logs.{decided_log, decided_state}
-use Rattle.sc_sound.specs.Players.{births, as_nodes}
+use Rattle.sc_sound.specs.Players.{as_nodes}
 use Rattle.sc_calm_law.specs.Quiet.{HasReplica, IsNewest, StandsQuiet}
 use Rattle.sc_log_law.specs.Descent.{Rows}
 use Rattle.sc_following_law.specs.Following.{Course}
 use Rattle.sc_following_law.specs.Hints.{Tellers}
 use Rattle.sc_calm_led_law.specs.States.{state_at}
 use Rattle.sc_calm_rests_law.specs.Rests.{replicas_at, IsQuietGroup, IsTakenIn}
-use Rattle.sc_calm_scenes_law.specs.Fresh.{IsThere}
 use Rattle.sc_budget_law.specs.AskingQuiet.{replicas_after}
 use Rattle.sc_calm_ring_law.specs.Cuts.{AreKnown}
 use Rattle.sc_calm_settings_law.specs.Settings.{AreReachable}
 use Rattle.sc_calm_known_law.specs.Arcs.{FreeGroupsHaveArcs}
-use Rattle.sc_calm_known_law.specs.Fronts.{IsQuietFront, IsKnownGroup, IsFoundFront, IsOfGroup, FrontsAreFound, QuietLogsAreExecuted}
+use Rattle.sc_calm_known_law.specs.Fronts.{IsQuietFront, IsKnownGroup, IsOfGroup, FrontsAreFound, QuietLogsAreExecuted}
 use Rattle.sc_calm_known_law.specs.Known.{AreAllThere, FrontsAreKnown, FrontsAreReachable, FrontsAreTakenIn}
 use Rattle.sc_calm_known_law.specs.Links.{WasMember, WereMembers, AreAllFree, LinksWereMembers}
 use Rattle.sc_calm_known_law.proofs.Groups.{newest_there}
@@ -82,7 +79,7 @@ module _ (executed : QuietLogsAreExecuted) (finds : FrontsAreFound) (words : ℕ
   mine : (name : Draw) (node : ℕ) (r : ReplicaState) → at name node ≡ Some r → (base : Base) → base.core.id ≡ name → at base.core.id node ≡ Some r
   mine name node r e base named = ap (λ n. at n node) named ∙ e
 
-  newest_of_group : (name : Draw) (r : ReplicaState) (new : IsNewest at name r) → (of : IsOfGroup scenario front name r) × IsLast of.base r.me r
+  pub newest_of_group : (name : Draw) (r : ReplicaState) (new : IsNewest at name r) → (of : IsOfGroup scenario front name r) × IsLast of.base r.me r
   newest_of_group name r new =
       let of = (found executed finds words scenario journal front q).replicas name r.me r new.is_there in
       (of, newest_last of.base of.among r (subst (λ n. IsNewest at n r) (sym of.named) new))

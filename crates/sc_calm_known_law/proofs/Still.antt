@@ -1,5 +1,5 @@
 -- Where nothing of an order is left in a quiet front, no group is bound.
-use Rattle.std.proofs.Common.{◌≡◌, ℕ, ◌+◌, ◌≤◌, true, false, List, [], length, Option, Some, None, refl, sym, ◌∙◌, ap, subst, arith}
+use Rattle.std.proofs.Common.{◌≡◌, ℕ, true, List, Option, Some, None, refl, sym, ◌∙◌, ap, arith}
 use Rattle.sc_base.specs.Among.{Among}
 use Rattle.sc_cmd.specs.declared.cores.Base.{Base}
 use Rattle.sc_cmd.specs.declared.cores.Core.{Core}
@@ -8,9 +8,9 @@ use Rattle.sc_cmd.specs.declared.cores.Lock.TheVariants.{Free, Coordinating, Pro
 use Rattle.sc_actor.specs.System.{numbers_of}
 use Rattle.sc_machine_table.specs.Group.{Group}
 use Rattle.sc_scenario.specs.declared.scenarios.Scenario.{Scenario}
-use Rattle.sc_node_table.specs.Replica.{ReplicaState, next}
+use Rattle.sc_node_table.specs.Replica.{ReplicaState}
 use Rattle.sc_sound.specs.GroupsOf.{groups_at}
-use Rattle.sc_sound.specs.Logs.{decided_log, decided_state}
+use Rattle.sc_sound.specs.Logs.{decided_state}
 use Rattle.sc_sound.specs.Players.{births, as_nodes}
 use Rattle.sc_log_law.specs.Descent.{Rows}
 use Rattle.sc_calm_orders_law.specs.Parts.{bond_in, bond_of}
@@ -22,8 +22,8 @@ use Rattle.sc_calm_scenes_law.proofs.Newest.{IsNewest, newest_is, lead_runs}
 use Rattle.sc_calm_scenes_law.proofs.Viewing.{view_among}
 use Rattle.sc_calm_known_law.specs.Fronts.{IsQuietFront, FrontsAreFound, QuietLogsAreExecuted}
 use Rattle.sc_calm_known_law.specs.Known.{AreAllThere, StillFrontsAreFree}
-use Rattle.sc_calm_known_law.proofs.Known.{see, most, ends, last_state}
-use Rattle.sc_calm_known_law.proofs.Reaching.{IsLast, last}
+use Rattle.sc_calm_known_law.proofs.Known.{most, last_state}
+use Rattle.sc_calm_known_law.proofs.Reaching.{last}
 
 -- what is bound by nothing is free
 unbound_free : (l : Lock) (core : Core) → bond_in l core ≡ Unbound → l ≡ Free

@@ -1,7 +1,6 @@
 -- What is known of groups, links and routes in a quiet front of a calm journal.
 use Rattle.std.specs.Prelude.{◌≡◌, ℕ, ◌+◌, false, length, Some}
 use Rattle.sc_base.specs.Among.{Among}
-use Rattle.sc_base.specs.declared.names.Draw.{Draw}
 use Rattle.sc_cmd.specs.declared.cores.Base.{Base}
 use Rattle.sc_cmd.specs.declared.links.Route.{Route}
 use Rattle.sc_scenario.specs.declared.scenarios.Scenario.{Scenario}

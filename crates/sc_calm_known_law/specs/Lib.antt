@@ -3,3 +3,5 @@ pub mod Offered
 pub mod Arcs
 pub mod Fronts
 pub mod Known
+pub mod Noted
+pub mod Turns

@@ -14,10 +14,16 @@ ghost use Rattle.sc_calm_known_law.specs.Known.{
   StillFrontsAreFree,
 };
 ghost use Rattle.sc_calm_known_law.specs.Links.{LinksWereMembers};
+ghost use Rattle.sc_calm_known_law.specs.Noted.{FrontsAreNoted, IssuedAreBegun};
 ghost use Rattle.sc_calm_known_law.specs.Offered.{GroupsAreAskedThrough};
+ghost use Rattle.sc_calm_known_law.specs.Turns.{FrontsGoInTurn, TurnsGoOn};
 
+use sc_calm_charts_law::led_stand_once;
 use sc_calm_groups_law::{events_go_on, rows_keep_taught, scenarios_are_well_born};
-use sc_calm_led_law::groups_begin_taught;
+use sc_calm_led_law::{groups_begin_taught, replicas_run_logs};
+use sc_calm_logs_law::views_are_replicas;
+use sc_calm_mail_law::{entries_leave_over, replicas_last};
+use sc_calm_requests_law::lawful_replicas_are_named_once;
 use sc_names_law::{names_have_one_owner, orders_are_allowed};
 use sc_scenario::valid_scenarios_are_bounded;
 use sc_whole_law::{valid_entries_are_logs, valid_journals_are_sound, valid_scenarios_begin_well};
@@ -144,4 +150,52 @@ pub fn still_fronts_are_free()
 {
     quiet_logs_are_executed();
     fronts_are_found();
+}
+
+/// Each request that was issued in rows that come in time is begun.
+pub fn issued_are_begun()
+    ensures { IssuedAreBegun }
+{
+    valid_scenarios_are_bounded();
+}
+
+/// So the group of a leader that stands in a quiet front has noted begun requests alone, and all
+/// values that it has come of such.
+pub fn fronts_are_noted()
+    ensures { FrontsAreNoted }
+{
+    valid_scenarios_are_bounded();
+    valid_scenarios_begin_well();
+    orders_are_allowed();
+    names_have_one_owner();
+    valid_journals_are_sound();
+    valid_entries_are_logs();
+    issued_are_begun();
+    free_groups_have_arcs();
+    quiet_logs_are_executed();
+    fronts_are_found();
+}
+
+/// Groups go one after another still, where at most one more is gone, which went into one that
+/// stands.
+pub fn turns_go_on()
+    ensures { TurnsGoOn }
+{}
+
+/// So they do in a quiet front, where they did in an earlier one in which no group was bound, and at
+/// most one went since, into one that stands.
+pub fn fronts_go_in_turn()
+    ensures { FrontsGoInTurn }
+{
+    valid_scenarios_are_bounded();
+    lawful_replicas_are_named_once();
+    led_stand_once();
+    fronts_are_found();
+    quiet_logs_are_executed();
+    fronts_gone_agree();
+    replicas_last();
+    replicas_run_logs();
+    views_are_replicas();
+    entries_leave_over();
+    turns_go_on();
 }
