@@ -2,16 +2,22 @@
 #![tactic(auto)]
 
 ghost use Rattle.sc_calm_over_law.specs.Ending.{QuietFrontsRest};
+ghost use Rattle.sc_calm_over_law.specs.Journals.{QuietJournalsRest, RequestsLeaveResting};
 
+use sc_budget_law::quiet_journals_ask;
 use sc_calm_groups_law::{nodes_are_born_topped, nodes_keep_tops, quiet_groups_are_led};
+use sc_calm_kept_law::chart_hints_rise;
 use sc_calm_known_law::{
     fronts_are_found, fronts_are_known, fronts_are_linked, fronts_are_reachable, fronts_are_taken_in,
     quiet_fronts_have_groups, quiet_logs_are_executed, still_fronts_are_free,
 };
+use sc_calm_requests_law::lawful_lines_leave_quiet;
 use sc_calm_rests_law::{
     quiet_groups_are_gone, quiet_groups_stand, quiet_replicas_are_kept, quiet_replicas_rest,
 };
+use sc_calm_ring_law::{quiet_groups_have_cuts, standing_groups_are_round};
 use sc_calm_sent_law::sent_replicas;
+use sc_calm_settings_law::{quiet_journals_have_frames, quiet_settings_are_linked};
 use sc_scenario::valid_scenarios_are_bounded;
 
 /// A quiet front of a calm journal rests, by what is known of its replicas, clients and notes.
@@ -35,4 +41,28 @@ pub fn quiet_fronts_rest()
     nodes_keep_tops();
     nodes_are_born_topped();
     sent_replicas();
+}
+
+/// So does one whose players are as a quiet journal asks it.
+pub fn quiet_journals_rest()
+    ensures { QuietJournalsRest }
+{
+    fronts_are_found();
+    quiet_fronts_rest();
+}
+
+/// And so does one since whose last quiet front clients asked alone.
+pub fn requests_leave_resting()
+    ensures { RequestsLeaveResting }
+{
+    valid_scenarios_are_bounded();
+    quiet_journals_have_frames();
+    chart_hints_rise();
+    quiet_journals_ask();
+    quiet_groups_have_cuts();
+    standing_groups_are_round();
+    quiet_settings_are_linked();
+    lawful_lines_leave_quiet();
+    fronts_are_found();
+    quiet_journals_rest();
 }

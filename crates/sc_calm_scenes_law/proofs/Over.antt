@@ -63,7 +63,7 @@ module _ (words : ℕ → ℕ → ℕ × ℕ) (births : List (Seat Player)) (nam
       let all : cond (eqb mail.to mail.to) (replicate count mail) [] ≡ [] = left_empty (cond (eqb mail.to mail.to) (replicate count mail) []) tail (empty (goes entry e)) in
       ap (errands_for name) (sym (ap (λ b. cond b (replicate count mail) []) (eq-eqb mail.to mail.to refl)) ∙ all)
 
-  none_left : (sent : List Mail) (counts : List ℕ) → Each (GoesToActor words births) sent → ((who : ℕ) → is_born (players words births) who ≡ true → mail_with (λ mail. eqb mail.to who) sent counts ≡ [])
+  pub none_left : (sent : List Mail) (counts : List ℕ) → Each (GoesToActor words births) sent → ((who : ℕ) → is_born (players words births) who ≡ true → mail_with (λ mail. eqb mail.to who) sent counts ≡ [])
       → errands_for name (mail_with (λ mail. true) sent counts) ≡ []
   none_left [] counts goes empty = refl
   none_left (mail ∷ sent) [] goes empty = refl
