@@ -9,6 +9,7 @@ pub mod Leads
 pub mod Names
 pub mod Numbers
 pub mod Opened
+pub mod Outcomes
 pub mod Parties
 pub mod Pending
 pub mod Quiet

@@ -8,10 +8,11 @@ use Rattle.sc_cmd.specs.declared.bodies.Body.TheVariants as At
 use Rattle.sc_cmd.specs.declared.bodies.Offer.{Offer}
 use Rattle.sc_cmd.specs.declared.bodies.Watch.{Watch}
 use Rattle.sc_cmd.specs.declared.commands.Command.{Command}
-use Rattle.sc_cmd.specs.declared.commands.Command.TheVariants.{Prepared, RecordVote, Watched}
+use Rattle.sc_cmd.specs.declared.commands.Command.TheVariants.{Finish, Prepared, RecordVote, Watched}
 use Rattle.sc_cmd.specs.declared.cores.Base.{Base}
 use Rattle.sc_cmd.specs.declared.links.Route.{Route}
 use Rattle.sc_cmd.specs.declared.votes.Frozen.{Frozen}
+use Rattle.sc_cmd.specs.declared.votes.Outcome.{Outcome}
 use Rattle.sc_cmd.specs.declared.votes.Vote.TheVariants as Vows
 use Rattle.sc_member.specs.Union.{united}
 use Rattle.sc_machine_table.specs.Group.{Group, group_of}
@@ -53,6 +54,8 @@ use Rattle.sc_calm_law.specs.Totals.{Rows}
 use Rattle.sc_calm_logs_law.specs.Logged.{HasReplica, IsGroupOf}
 use Rattle.sc_calm_logs_law.proofs.Along.{IsAlong}
 use Rattle.sc_calm_logs_law.proofs.Journals.{along, flying, found, fronts, part, stay, whole}
+use Rattle.sc_calm_true_law.specs.Outcomes.{IsTakenBy, OutcomesAreTaken}
+use Rattle.sc_calm_true_law.proofs.Outcomes.{outcomes_fit}
 use Rattle.sc_calm_true_law.specs.Told.{IsAllowedBy, LockTells, ReplicasTell, sources_of}
 
 module _ (bounded : ValidScenariosAreBounded) (begin : ValidScenariosBeginWell) (allowed : TakenOrdersAreAllowed) (wishes : TakenWishesAreAllowed) (positions : WishesAreAtPositions) (free : OtherNamesAreFree) where
@@ -124,6 +127,14 @@ module _ (bounded : ValidScenariosAreBounded) (begin : ValidScenariosBeginWell) 
         let same = same_Some v.0 o.0 (sym v.1 ∙ o.1) in
         fit_so tx o.0 o.1 (unsigned offer) o.2 merge frozen (ap (λ (y : Story). y.vote) (sym same) ∙ v.2)
 
+    taken_by : (tx one two three : Draw) (outcome : Outcome) (offer : Offer) (frozen : Frozen) (by : ℕ) → IsAllowedBy scenario journal one (Finish tx outcome) → IsAllowedBy scenario journal two (Prepared tx offer)
+        → IsAllowedBy scenario journal three (RecordVote tx (Vows.Yes frozen) by) → IsTakenBy outcome (unsigned offer) frozen
+    taken_by tx one two three outcome offer frozen by e o v =
+        let ended = same_Some o.0 e.0 (sym o.1 ∙ e.1) in
+        let cast = same_Some v.0 e.0 (sym v.1 ∙ e.1) in
+        outcomes_fit sources scenario.groups (entries_at as_nodes scenario.groups journal) well.place (told_rows sources as_nodes scenario.groups well.place journal all.turn).allowed tx e.0 e.1 outcome e.2
+        (unsigned offer) (ap (λ (y : Story). y.offer) (sym ended) ∙ o.2) frozen (ap (λ (y : Story). y.vote) (sym cast) ∙ v.2)
+
     -- ---- a replica
 
     module _ (rows : Rows) (seat : Seat Player) (node : NodeState) (r : ReplicaState) (has : HasReplica as_nodes scenario journal base rows seat node r) where
@@ -180,3 +191,6 @@ module _ (bounded : ValidScenariosAreBounded) (begin : ValidScenariosBeginWell) 
     apart = λ words scenario journal base group tx one other offer watch o w e. apart_by words scenario journal base group tx one other offer watch o w e;
     fits = λ words scenario journal base group tx one other offer frozen by merge o v. fits_by words scenario journal base group tx one other offer frozen by merge o v;
   }
+
+  pub outcomes_taken : OutcomesAreTaken
+  outcomes_taken words scenario journal base group tx one two three outcome offer frozen by e o v = taken_by words scenario journal base group tx one two three outcome offer frozen by e o v

@@ -3,6 +3,7 @@ pub mod Deeds
 pub mod Entries
 pub mod Going
 pub mod New
+pub mod Outcomes
 pub mod Recorded
 pub mod Told
 pub mod Under

@@ -5,6 +5,7 @@
 ghost use Rattle.sc_calm_true_law.specs.Beginning.{TrueOrdersBegin};
 ghost use Rattle.sc_calm_true_law.specs.Entries.{VotesAreTrue};
 ghost use Rattle.sc_calm_true_law.specs.Going.{AskedGroupsStood, TrueOrdersGoOn};
+ghost use Rattle.sc_calm_true_law.specs.Outcomes.{OutcomesAreTaken};
 ghost use Rattle.sc_calm_true_law.specs.Recorded.{RecordsAreTrue};
 ghost use Rattle.sc_calm_true_law.specs.Told.{ReplicasTell};
 ghost use Rattle.sc_calm_true_law.specs.Unsettled.{MailComesUnsettled};
@@ -17,6 +18,17 @@ use sc_whole_law::{valid_entries_are_logs, valid_journals_are_sound, valid_scena
 /// in its group's log, by what all logs of the journal tell.
 pub fn replicas_tell()
     ensures { ReplicasTell }
+{
+    valid_scenarios_are_bounded();
+    valid_scenarios_begin_well();
+    orders_are_allowed();
+    names_have_one_owner();
+}
+
+/// What a journal tells a transaction to have come to can be carried out by its participant, as it
+/// was when it voted.
+pub fn outcomes_are_taken()
+    ensures { OutcomesAreTaken }
 {
     valid_scenarios_are_bounded();
     valid_scenarios_begin_well();
