@@ -17,3 +17,5 @@ pub mod Noted
 pub mod Turns
 pub mod Going
 pub mod GoingOn
+pub mod Bearing
+pub mod BearingLogs

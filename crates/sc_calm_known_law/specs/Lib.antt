@@ -5,3 +5,4 @@ pub mod Fronts
 pub mod Known
 pub mod Noted
 pub mod Turns
+pub mod Bearing

@@ -3,6 +3,7 @@
 #![tactic(auto)]
 
 ghost use Rattle.sc_calm_known_law.specs.Arcs.{FreeGroupsHaveArcs};
+ghost use Rattle.sc_calm_known_law.specs.Bearing.{EntriesBearChildren};
 ghost use Rattle.sc_calm_known_law.specs.Fronts.{FrontsAreFound, QuietFrontsHaveGroups, QuietLogsAreExecuted};
 ghost use Rattle.sc_calm_known_law.specs.Known.{
   FrontsAreKnown,
@@ -198,4 +199,15 @@ pub fn fronts_go_in_turn()
     views_are_replicas();
     entries_leave_over();
     turns_go_on();
+}
+
+/// A replica makes the child of each entry that it executes as it is told its next one, or by a
+/// vote, if its node is a member of that.
+pub fn entries_bear_children()
+    ensures { EntriesBearChildren }
+{
+    valid_scenarios_are_bounded();
+    valid_scenarios_begin_well();
+    orders_are_allowed();
+    names_have_one_owner();
 }

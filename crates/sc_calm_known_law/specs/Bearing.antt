@@ -1,0 +1,44 @@
+-- The children that the entries of a group's log name, and that who executes one has its child.
+use Rattle.std.specs.Prelude.{◌≡◌, ℕ, ◌-◌, ◌<◌, ◌≤◌, true, List, [], ◌∷◌, ◌++◌, take, Some}
+use Rattle.sc_base.specs.Among.{Among}
+use Rattle.sc_base.specs.declared.names.Ballot.{Ballot}
+use Rattle.sc_cmd.specs.declared.commands.Command.{Command}
+use Rattle.sc_cmd.specs.declared.cores.Base.{Base}
+use Rattle.sc_mail.specs.declared.bodies.Mail.{Mail}
+use Rattle.sc_mail.specs.declared.bodies.MailBody.TheVariants.{Accepted, Learn}
+use Rattle.sc_member.specs.Roster.{is_member}
+use Rattle.sc_actor.specs.declared.actors.Seat.{Seat}
+use Rattle.sc_actor.specs.Mail.{mails, numbered}
+use Rattle.sc_machine_table.specs.Children.{child_by}
+use Rattle.sc_machine_table.specs.Group.{group_of}
+use Rattle.sc_machine_table.specs.Logs.{state_after}
+use Rattle.sc_scenario.specs.declared.scenarios.Scenario.{Scenario}
+use Rattle.sc_node_table.specs.Node.{NodeState}
+use Rattle.sc_node_table.specs.Replica.{ReplicaState, next, last_slot}
+use Rattle.sc_node_table.specs.Rows.{mailed}
+use Rattle.sc_sound.specs.Logs.{decided_log}
+use Rattle.sc_sound.specs.Players.{Ahead, Player}
+use Rattle.sc_log_law.specs.Descent.{Rows}
+use Rattle.sc_calm_logs_law.specs.Logged.{IsGroupOf, HasReplica}
+
+-- the entry at a slot of a group's log makes this child
+pub record IsBirth (all : List Command) (base : Base) (slot : ℕ) (child : Base) : Type 0 where
+  pub front : List Command
+  pub command : Command
+  pub before : take (slot - 1) all ≡ front
+  pub upto : take slot all ≡ front ++ command ∷ []
+  pub child_is : child_by (state_after (group_of base) front) command ≡ Some child
+
+-- A replica makes the child of each entry that it executes, if its node is a member of it ..
+pub record EntriesBearChildren : Type 0 where
+  -- .. of its next one, which it is told
+  pub learnt : (ahead : Ahead) (words : ℕ → ℕ → ℕ × ℕ) (scenario : Scenario) (journal : Rows) (base : Base) → IsGroupOf ahead words scenario journal base
+      → (rows : Rows) (seat : Seat Player) (node : NodeState) (r : ReplicaState) → HasReplica ahead scenario journal base rows seat node r
+      → (number : ℕ) (mail : Mail) (slot : ℕ) (command : Command) → numbered (mails rows) number ≡ Some mail → mail.body ≡ Learn base.core.id slot command → slot ≡ next r → slot ≤ last_slot
+      → (child : Base) → IsBirth (decided_log ahead base journal) base slot child → is_member child.core.members r.me ≡ true → Among child (mailed mail.from mail.body (r, [])).1
+  -- .. and of each that it executes by a vote
+  pub voted : (ahead : Ahead) (words : ℕ → ℕ → ℕ × ℕ) (scenario : Scenario) (journal : Rows) (base : Base) → IsGroupOf ahead words scenario journal base
+      → (rows : Rows) (seat : Seat Player) (node : NodeState) (r : ReplicaState) → HasReplica ahead scenario journal base rows seat node r → r.running ≡ true
+      → (number : ℕ) (mail : Mail) (ballot : Ballot) (slot : ℕ) → numbered (mails rows) number ≡ Some mail → mail.body ≡ Accepted base.core.id ballot slot
+      → (at : ℕ) (child : Base) → next r ≤ at → at < next (mailed mail.from mail.body (r, [])).0.0 → IsBirth (decided_log ahead base journal) base at child → is_member child.core.members r.me ≡ true
+      → Among child (mailed mail.from mail.body (r, [])).1
