@@ -120,7 +120,7 @@ groups_begin born words scenario journal base group t =
 
 -- ---- one row more
 
-calm_of : (words : ℕ → ℕ → ℕ × ℕ) (scenario : Scenario) (rows : Rows) (seat : Seat Player) (event : Event OrderLine) → AreInTime (players words (births as_nodes scenario)) (with_event rows seat event) → IsCalmEvent (players words (births as_nodes scenario)) rows seat.who event
+pub calm_of : (words : ℕ → ℕ → ℕ × ℕ) (scenario : Scenario) (rows : Rows) (seat : Seat Player) (event : Event OrderLine) → AreInTime (players words (births as_nodes scenario)) (with_event rows seat event) → IsCalmEvent (players words (births as_nodes scenario)) rows seat.who event
 calm_of words scenario rows seat event timely =
     let s = players words (births as_nodes scenario) in
     let calm = (last_in_time s rows (row_of player_table seat rows event) timely).0 in

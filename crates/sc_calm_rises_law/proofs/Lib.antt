@@ -3,5 +3,10 @@ pub mod Fates
 pub mod Hinted
 pub mod Rising
 pub mod Topped
+pub mod Even
 pub mod Quiet
 pub mod Journals
+pub mod Stages
+pub mod Acts
+pub mod Rounds
+pub mod Seen

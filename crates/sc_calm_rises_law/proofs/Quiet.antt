@@ -1,12 +1,12 @@
 -- In quiet, hints rise.
-use Rattle.std.proofs.Common.{◌≡◌, ℕ, ◌+◌, ◌<◌, ◌≤◌, Bool, true, false, true≢false, cond, List, [], Option, Some, None, ◌⊎◌, inl, inr, refl, sym, ◌∙◌, ap, subst, arith, append-nil}
+use Rattle.std.proofs.Common.{◌≡◌, ℕ, ◌<◌, ◌≤◌, true, false, true≢false, List, [], Option, Some, None, ◌⊎◌, inl, inr, refl, sym, ◌∙◌, ap, subst, arith, append-nil}
 use Rattle.std.specs.Prelude.{is_some}
 use Rattle.std.proofs.lemmas.Bool.{cases_Bool}
 use Rattle.sc_base.specs.declared.names.Ballot.{Ballot}
 use Rattle.sc_base.specs.declared.names.Draw.{Draw}
 use Rattle.sc_cmd.specs.declared.cores.Base.{Base}
 use Rattle.sc_cmd.specs.declared.links.Route.{Route}
-use Rattle.sc_member.specs.Roster.{is_member, least_of}
+use Rattle.sc_member.specs.Roster.{is_member}
 use Rattle.sc_actor.specs.declared.actors.Seat.{Seat}
 use Rattle.sc_paxos_words.specs.Ballots.{IsAtLeast}
 use Rattle.sc_paxos_words.proofs.BallotLemmas.{same_from_at_least}
@@ -16,11 +16,9 @@ use Rattle.sc_sound.specs.Players.{Player, births, as_nodes}
 use Rattle.sc_calm_law.specs.Charts.{players}
 use Rattle.sc_calm_law.specs.Quiet.{HasReplica, RisesAt}
 use Rattle.sc_calm_law.specs.Totals.{Rows}
-use Rattle.sc_following_law.specs.Following.{Mark, reached, pledged, Course, Progress, Sets, members_at, IsOpen, IsFollowing, IsEven, IsEvenLed}
+use Rattle.sc_following_law.specs.Following.{Mark, reached, pledged, Course, Progress, Sets, IsOpen, IsFollowing}
 use Rattle.sc_following_law.specs.Hints.{Tellers, hinted}
-use Rattle.sc_following_law.proofs.InQuiet.{quiet-even}
-use Rattle.sc_following_law.proofs.Leads.{least_in}
-use Rattle.sc_calm_rows_law.specs.Groups.{view_at, marks_at, next_in, promise_in, progress_at, IsLedBy}
+use Rattle.sc_calm_rows_law.specs.Groups.{view_at, marks_at, next_in, promise_in, progress_at}
 use Rattle.sc_calm_groups_law.specs.Led.{Ends, hint_in, hints_at}
 use Rattle.sc_calm_groups_law.specs.Tops.{IsTopKept}
 use Rattle.sc_calm_groups_law.proofs.Keeping.{replicas_kept, scenarios_kept_born}
@@ -28,6 +26,7 @@ use Rattle.sc_calm_sent_law.specs.Journals.{IsSentThrough}
 use Rattle.sc_calm_rises_law.specs.Fates.{IsPassed, IsFated}
 use Rattle.sc_calm_rises_law.specs.Hinting.{QuietHintsRise}
 use Rattle.sc_calm_rises_law.specs.Rising.{IsRisingOn}
+use Rattle.sc_calm_rises_law.proofs.Even.{has_one as even_has, leader as even_leader, over_then as even_over}
 use Rattle.sc_calm_rises_law.proofs.Lists.{round_most, open_or}
 
 some_is : {X : Type 0} (x y : X) → Some x ≡ Some y → x ≡ y
@@ -58,9 +57,6 @@ module _ (words : ℕ → ℕ → ℕ × ℕ) (at : Sets) (over : Ends) (by : Te
   follows : IsFollowing at now marks
   follows = t.led.followed.follows
 
-  even : IsEven at now × (now.course.gone ≡ false → IsEvenLed at now)
-  even = quiet-even at now marks t.one.log.rosters none follows
-
   topped : (node : ℕ) (r : ReplicaState) → view_at all front base.core.id node ≡ Some r → IsTopKept node r
   topped node r e = (replicas_kept all front name node r (scenarios_kept_born scenario) e).0
 
@@ -73,36 +69,15 @@ module _ (words : ℕ → ℕ → ℕ × ℕ) (at : Sets) (over : Ends) (by : Te
   ends node r e gone last = gone_of r.group.core.gone ((t.one.states front [] node r (sym (append-nil front)) e).ends ∙ (ap over last ∙ (sym t.led.ends ∙ gone)))
 
   has_one : (node : ℕ) → 1 ≤ now.next node → HasReplica (view_at (births as_nodes scenario) front) base.core.id node
-  has_one node some = by_view (view_at all front name node) refl some
-    where
-      first : (b : Bool) → is_member base.core.members node ≡ b → 1 ≤ cond b 1 0 → HasReplica (view_at (births as_nodes scenario) front) base.core.id node
-      first true is low = born node is
-      first false is low = absurd (omega (arith, low))
-
-      by_view : (o : Option ReplicaState) → view_at all front base.core.id node ≡ o → 1 ≤ next_in base node o → HasReplica (view_at (births as_nodes scenario) front) base.core.id node
-      by_view (Some r) e low = (r, e)
-      by_view None e low = first (is_member base.core.members node) refl low
+  has_one = even_has words at over by (births as_nodes scenario) front base t born
 
   -- the one that leads
   leader : course.runs ≡ true → (lead : ReplicaState) × (view_at (births as_nodes scenario) front base.core.id course.ballot.node ≡ Some lead) × (lead.running ≡ true)
-  leader runs = by_view (view_at all front name course.ballot.node) refl (t.led.followed.given.runs runs)
-    where
-      by_view : (o : Option ReplicaState) → view_at all front base.core.id course.ballot.node ≡ o → IsLedBy base course o → (lead : ReplicaState) × (view_at all front base.core.id course.ballot.node ≡ Some lead) × (lead.running ≡ true)
-      by_view (Some lead) e on = (lead, e, on)
-      by_view None e begins =
-          let first : course.ballot.node ≡ base.core.first = ap (λ (c : Course). c.ballot.node) begins in
-          let made = born course.ballot.node (ap (is_member base.core.members) first ∙ t.one.first) in
-          let bad : None ≡ Some made.0 = sym e ∙ made.1 in
-          cc
+  leader = even_leader words at over by (births as_nodes scenario) front base t born
 
   -- where none leads, the group is gone
   over_then : course.runs ≡ false → course.gone ≡ true
-  over_then off = elim (cases_Bool course.gone) [
-    | inl t_ ↦ t_
-    | inr stands ↦ (let low = follows.elects off stands in
-        let all_ = even.0.members (least_of (members_at at course.newest)) (least_in (members_at at course.newest) (t.one.log.rosters (course.newest + 3)).some) in
-        absurd (omega (arith, low, all_)))
-  ]
+  over_then = even_over words at over by (births as_nodes scenario) front base t none
 
   module _ (node : ℕ) (r : ReplicaState) (here : view_at (births as_nodes scenario) front base.core.id node ≡ Some r) (off : r.running ≡ false) (stands : r.group.core.gone ≡ None) where
     hint_here : hints_at all front base node ≡ r.hint

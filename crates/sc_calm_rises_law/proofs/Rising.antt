@@ -166,7 +166,7 @@ module _ (words : ℕ → ℕ → ℕ × ℕ) (at : Sets) (over : Ends) (by : Te
     seen_it : course.ballot.round ≤ r.top.round
     seen_it = round_most r.top course.ballot (subst (IsAtLeast r.top) (sym (ap (promise_in base) row_.was) ∙ promised_it) (topped r row_.was).1)
 
-    next_round : ballot.round ≡ r.top.round + 1
+    pub next_round : ballot.round ≡ r.top.round + 1
     next_round = by_turn (turn words at over by scenario rows seat event base course idle wb one so timely born calm was)
       where
         none_left : view_at all rows base.core.id seat.who ≡ None → ⊥

@@ -1,3 +1,4 @@
 pub mod Fates
 pub mod Rising
 pub mod Hinting
+pub mod Rounds

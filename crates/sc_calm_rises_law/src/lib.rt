@@ -3,6 +3,7 @@
 #![tactic(auto)]
 
 ghost use Rattle.sc_calm_rises_law.specs.Hinting.{GroupsBeginRising, NextRowsRise, QuietHintsRise};
+ghost use Rattle.sc_calm_rises_law.specs.Rounds.{QuietKeepsRound, RowsKeepRound, SameViewsKeepBallot, RoundsAreSeen};
 
 use sc_calm_groups_law::scenarios_are_well_born;
 use sc_calm_mail_law::journals_keep_idle;
@@ -29,4 +30,29 @@ pub fn next_rows_rise()
 /// hints rise.
 pub fn quiet_hints_rise()
     ensures { QuietHintsRise }
+{}
+
+/// In quiet nothing is to come to a leader: one leads with the ballot that the group has, or the
+/// group is gone.
+pub fn quiet_keeps_round()
+    ensures { QuietKeepsRound }
+{}
+
+/// While an order is under way a group begins one round more at most: its leader stops by an act
+/// alone, which ends the group's part in the order.
+pub fn rows_keep_round()
+    ensures { RowsKeepRound }
+{
+    journals_keep_idle();
+    scenarios_are_well_born();
+}
+
+/// A group whose replicas are as they were in quiet has the ballot that it had, where one leads.
+pub fn same_views_keep_ballot()
+    ensures { SameViewsKeepBallot }
+{}
+
+/// No replica saw a later round than its group's ballot has, and in quiet one saw that.
+pub fn rounds_are_seen()
+    ensures { RoundsAreSeen }
 {}
