@@ -3,3 +3,4 @@ pub mod Sending
 pub mod Placing
 pub mod Going
 pub mod Beginning
+pub mod Entering

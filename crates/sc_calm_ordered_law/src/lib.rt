@@ -2,6 +2,7 @@
 //! and laws, no logic.
 #![tactic(auto)]
 
+ghost use Rattle.sc_calm_ordered_law.specs.Entries.{FlightsAreEntries};
 ghost use Rattle.sc_calm_ordered_law.specs.Ordered.{DeliveriesKeepOrdered, OrdersBeginOrdered};
 
 use sc_calm_found_law::{newest_stay, orders_rows_find, well_led_lead_alone};
@@ -11,14 +12,16 @@ use sc_calm_led_law::replicas_run_logs;
 use sc_calm_logs_law::{slots_have_rosters, views_are_replicas};
 use sc_calm_mail_law::{mail_may_come, replicas_last, slots_are_left};
 use sc_calm_requests_law::lawful_replicas_are_named_once;
-use sc_calm_scenes_law::fresh_groups_stay;
+use sc_calm_scenes_law::{fresh_groups_stay, quiet_scenes_are_over};
 use sc_calm_sent_law::{next_rows_are_sent, sent_replicas};
 use sc_calm_true_law::{
-    asked_groups_stood, mail_comes_unsettled, true_orders_begin, true_orders_go_on,
+    asked_groups_stood, mail_comes_unsettled, records_are_true, replicas_tell, true_orders_begin,
+    true_orders_go_on,
 };
 use sc_calm_works_law::{deliveries_keep_work, orders_begin_work, work_stands_alone};
 use sc_calm_young_law::young_groups_stay;
 use sc_scenario::valid_scenarios_are_bounded;
+use sc_whole_law::members_stay_rosters;
 
 /// Each delivery while an order is under way keeps all that holds then, and finds what keeps the
 /// journal calm.
@@ -72,4 +75,18 @@ pub fn orders_begin_ordered()
     orders_begin_work();
     work_stands_alone();
     told_orders_find_calm();
+}
+
+/// Each command that is in flight at a leader while an order is under way is an entry of it, and
+/// leaves at most nine members.
+pub fn flights_are_entries()
+    ensures { FlightsAreEntries }
+{
+    replicas_tell();
+    records_are_true();
+    quiet_scenes_are_over();
+    members_stay_rosters();
+    slots_have_rosters();
+    replicas_run_logs();
+    views_are_replicas();
 }

@@ -48,21 +48,18 @@ module _ (at : ℕ → Option ReplicaState) (rests : (node : ℕ) (r : ReplicaSt
   works_here None k = refl
   works_here (Some r) k = rest_works r (k r refl)
 
+  either_of : (c : Bool) (a b r : ReplicaState) → cond c (Some a) (Some b) ≡ Some r → (Some a ≡ Some r) ⊎ (Some b ≡ Some r)
+  either_of true a b r l = inl l
+  either_of false a b r l = inr l
+
+  later_rests : (o p : Option ReplicaState) → ((r : ReplicaState) → o ≡ Some r → IsAtRest r) → ((r : ReplicaState) → p ≡ Some r → IsAtRest r) → (r : ReplicaState) → later o p ≡ Some r → IsAtRest r
+  later_rests None p k j r l = j r l
+  later_rests (Some a) None k j r l = k r l
+  later_rests (Some a) (Some b) k j r l = elim (either_of (nat_le (next b) (next a)) a b r l) [ inl x ↦ k r x | inr y ↦ j r y ]
+
   newest_rests : (nodes : List ℕ) (r : ReplicaState) → newest_of at nodes ≡ Some r → IsAtRest r
   newest_rests [] r e = cc
-  newest_rests (node ∷ nodes) r e = by (at node) refl (newest_of at nodes) refl e
-    where
-      by : (o : Option ReplicaState) → at node ≡ o → (p : Option ReplicaState) → newest_of at nodes ≡ p → later o p ≡ Some r → IsAtRest r
-      by None i p j l = newest_rests nodes r (j ∙ l)
-      by (Some a) i None j l = rests node r (i ∙ l)
-      by (Some a) i (Some b) j l = (let which = either_of l in elim which [ inl x ↦ rests node r (i ∙ x) | inr y ↦ newest_rests nodes r (j ∙ y) ])
-        where
-          either_of : later (Some a) (Some b) ≡ Some r → (Some a ≡ Some r) ⊎ (Some b ≡ Some r)
-          either_of l = pick (nat_le (next b) (next a)) l
-
-          pick : (c : Bool) → cond c (Some a) (Some b) ≡ Some r → (Some a ≡ Some r) ⊎ (Some b ≡ Some r)
-          pick true l = inl l
-          pick false l = inr l
+  newest_rests (node ∷ nodes) r e = later_rests (at node) (newest_of at nodes) (rests node) (newest_rests nodes) r e
 
   bond_free : (nodes : List ℕ) (o : Option ℕ) → bond_by at nodes o ≡ Unbound
   bond_free nodes None = bond_here (newest_of at nodes) (newest_rests nodes)
