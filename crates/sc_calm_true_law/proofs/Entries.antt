@@ -316,7 +316,7 @@ module _ (tells : ReplicasTell) (sound : ValidJournalsAreSound) (logs : ValidEnt
         where
           vote_no : Records deal.tx (is_watch deal.turn) agreed host ≡ Answers tx coord watch by → ⊥
           vote_no e = cc
-      answers tx coord watch by w (OfOutcome t k) = absurd (end_no (k ∙ w))
+      answers tx coord watch by w (OfOutcome t k ending) = absurd (end_no (k ∙ w))
         where
           end_no : Ends t ≡ Answers tx coord watch by → ⊥
           end_no e = cc

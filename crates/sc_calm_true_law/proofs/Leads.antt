@@ -22,14 +22,15 @@ use Rattle.sc_calm_logs_law.specs.Logged.{IsGroupOf, logged_sets}
 use Rattle.sc_following_law.specs.Following.{members_at}
 use Rattle.sc_calm_mail_law.proofs.FewJournals.{journals_idle}
 use Rattle.sc_calm_orders_law.specs.Parts.{work_by, works, works_flying, works_in, works_ready}
-use Rattle.sc_calm_orders_law.specs.Scenes.{Answers, Ends, Errand, Here, Records, Scene, Turn, Work, is_watch}
-use Rattle.sc_calm_orders_law.specs.Stages.{Asks, Closes, ClosesBoth, Deal, Filed, IsAt, Leg, Mailed, Ordered, Party, Recorded, Replied, SentOn, Stage, Still, Weighs, closing, heard, parties_of}
+use Rattle.sc_calm_orders_law.specs.Scenes.{Answers, Bound, Ends, Errand, Here, Records, Scene, Turn, Work, is_watch}
+use Rattle.sc_calm_orders_law.specs.Stages.{Asks, Closes, ClosesBoth, Deal, Filed, IsAt, Leg, Mailed, Ordered, Party, Recorded, Replied, SentOn, Stage, Still, Weighs, closing, heard, leads_of, parties_of}
 use Rattle.sc_calm_orders_law.proofs.Lists.{among-left, among-right, found, tagged, tokens}
 use Rattle.sc_calm_orders_law.proofs.Moves.{closing-work, no-work, work_of}
 use Rattle.sc_calm_rows_law.specs.Groups.{view_at}
 use Rattle.sc_calm_scenes_law.specs.Fresh.{IsThere}
 use Rattle.sc_calm_scenes_law.specs.Scenes.{scene_at}
 use Rattle.sc_calm_scenes_law.proofs.Viewing.{tell}
+use Rattle.sc_calm_true_law.specs.Deeds.{Voting, doer, doers_of}
 use Rattle.sc_calm_true_law.specs.Entries.{LeadsSince}
 use Rattle.sc_calm_true_law.specs.Told.{ReplicasTell}
 use Rattle.sc_calm_true_law.proofs.Since.{base_of}
@@ -47,15 +48,40 @@ is_work_of r flight work a e =
     among-right work (works_in r.acts) (works_in r.calls ++ (works_flying r.leader.flights ++ works_ready r.ready))
     (among-right work (works_in r.calls) (works_flying r.leader.flights ++ works_ready r.ready) (among-left work (works_flying r.leader.flights) (works_ready r.ready) (flying_work r.leader.flights flight work a e)))
 
+-- a party to which an outcome comes: it voted, it has its leader, and it is bound
+pub record IsEnding (stage : Stage) (name tx : Draw) : Type 0 where
+  pub host : ℕ
+  pub done : Among (doer name host (Voting tx ∷ [])) (doers_of stage)
+  pub lead : Among (name, host) (leads_of stage)
+  pub here : Here
+  pub party : Among (name, here) (parties_of stage)
+  pub bound : here.bond ≡ Bound tx
+
 -- which work of which stage it is
 pub data IsWorkAt (stage : Stage) (name : Draw) (work : Work) : Type 0 where
   OfOrder : (chief : ℕ) → stage ≡ Ordered name chief work → IsWorkAt stage name work
   OfQuestion : (deal : Deal) (host : ℕ) → stage ≡ Weighs deal host → deal.asked ≡ name → Answers deal.tx deal.coord (is_watch deal.turn) deal.chief ≡ work → IsWorkAt stage name work
   OfVote : (deal : Deal) (agreed : Bool) (host : ℕ) → stage ≡ Recorded deal agreed host → deal.coord ≡ name → Records deal.tx (is_watch deal.turn) agreed host ≡ work → IsWorkAt stage name work
-  OfOutcome : (tx : Draw) → Ends tx ≡ work → IsWorkAt stage name work
+  OfOutcome : (tx : Draw) → Ends tx ≡ work → IsEnding stage name tx → IsWorkAt stage name work
 
 abbrev Token : Type 0
 Token = Draw × Work
+
+closing_bound : (tx : Draw) (leg : Leg) (host : ℕ) → (closing tx leg host).bond ≡ Bound tx
+closing_bound tx Mailed host = refl
+closing_bound tx Filed host = refl
+
+ends_one : (tx : Draw) (party : Party) (name : Draw) → party.group ≡ name → IsEnding (Closes tx party) name tx
+ends_one tx party name e =
+    subst (λ n. IsEnding (Closes tx party) n tx) e (record { host = party.host; done = inl refl; lead = inl refl; here = closing tx party.leg party.host; party = inl refl; bound = closing_bound tx party.leg party.host })
+
+ends_first : (tx : Draw) (one two : Party) (name : Draw) → one.group ≡ name → IsEnding (ClosesBoth tx one two) name tx
+ends_first tx one two name e =
+    subst (λ n. IsEnding (ClosesBoth tx one two) n tx) e (record { host = one.host; done = inl refl; lead = inl refl; here = closing tx one.leg one.host; party = inl refl; bound = closing_bound tx one.leg one.host })
+
+ends_second : (tx : Draw) (one two : Party) (name : Draw) → two.group ≡ name → IsEnding (ClosesBoth tx one two) name tx
+ends_second tx one two name e =
+    subst (λ n. IsEnding (ClosesBoth tx one two) n tx) e (record { host = two.host; done = inr (inl refl); lead = inr (inl refl); here = closing tx two.leg two.host; party = inr (inl refl); bound = closing_bound tx two.leg two.host })
 
 work_in : (stage : Stage) (t : Token) → Among t (tokens work_of (parties_of stage)) → IsWorkAt stage t.0 t.1
 work_in Still t a = absurd a
@@ -68,10 +94,16 @@ work_in (Weighs deal host) t (inr a) = absurd (no-work deal.tx deal.turn t a)
 work_in (Replied deal agreed host) t a = absurd (no-work deal.tx deal.turn t a)
 work_in (Recorded deal agreed host) t (inl e) = OfVote deal agreed host refl (ap (λ (x : Token). x.0) e) (ap (λ (x : Token). x.1) e)
 work_in (Recorded deal agreed host) t (inr a) = absurd (no-work deal.tx deal.turn t a)
-work_in (Closes tx party) t a = elim (closing-work tx party.leg party.host party.group [] t a) [ inl is ↦ OfOutcome tx (ap (λ (x : Token). x.1) is.1) | inr none ↦ absurd none ]
+work_in (Closes tx party) t a = elim (closing-work tx party.leg party.host party.group [] t a) [
+  | inl is ↦ OfOutcome tx (ap (λ (x : Token). x.1) is.1) (ends_one tx party t.0 (ap (λ (x : Token). x.0) is.1))
+  | inr none ↦ absurd none
+]
 work_in (ClosesBoth tx one two) t a = elim (closing-work tx one.leg one.host one.group (tagged two.group (closing tx two.leg two.host).work ++ []) t a) [
-  | inl is ↦ OfOutcome tx (ap (λ (x : Token). x.1) is.1)
-  | inr b ↦ elim (closing-work tx two.leg two.host two.group [] t b) [ inl is ↦ OfOutcome tx (ap (λ (x : Token). x.1) is.1) | inr none ↦ absurd none ]
+  | inl is ↦ OfOutcome tx (ap (λ (x : Token). x.1) is.1) (ends_first tx one two t.0 (ap (λ (x : Token). x.0) is.1))
+  | inr b ↦ elim (closing-work tx two.leg two.host two.group [] t b) [
+    | inl is ↦ OfOutcome tx (ap (λ (x : Token). x.1) is.1) (ends_second tx one two t.0 (ap (λ (x : Token). x.0) is.1))
+    | inr none ↦ absurd none
+  ]
 ]
 
 party_there : (P : Draw → Type 0) (named : List (Draw × Here)) (t : Token) → Each (λ party. P party.0) named → Among t (tokens work_of named) → P t.0

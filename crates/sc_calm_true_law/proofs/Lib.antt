@@ -1,6 +1,7 @@
 pub mod Beginning
 pub mod Doers
 pub mod Entries
+pub mod Finishes
 pub mod Fits
 pub mod Going
 pub mod Grants

@@ -406,7 +406,7 @@ module _ (tells : ReplicasTell) (sound : ValidJournalsAreSound) (logs : ValidEnt
         (deal, agreed, host, e, own, same.0, same.1.0, same.1.1)
     voted_at (OfOrder chief e) = absurd (no_order (Records tx watch says by) (subst (λ x. IsAt x (scene_at all rows)) e l.untouched.stands).sound refl)
     voted_at (OfQuestion deal host e own k) = absurd (no_question deal.tx deal.coord (is_watch deal.turn) deal.chief k)
-    voted_at (OfOutcome t k) = absurd (no_outcome t k)
+    voted_at (OfOutcome t k ending) = absurd (no_outcome t k)
 
     it : Voted_at
     it = voted_at (at_stage tells words scenario first journal quiet rows name node r stage l flight among (Records tx watch says by) is)

@@ -154,6 +154,18 @@ module _ (words : ℕ → ℕ → ℕ × ℕ) (scenario : Scenario) (first : Bas
       serves_it : (group : Group) (key : List ℕ) → holds_key group.core.arc key ≡ true → group.core.lock ≡ Free → group.core.gone ≡ None → IsTrue (serves group key)
       serves_it group key held free stands = ap (λ b. (b && is_open group.core.lock) && is_none group.core.gone) held ∙ (ap (λ lock. is_open lock && is_none group.core.gone) free ∙ ap is_none stands)
 
+  has_inside : (group : Group) (cut : Cut) → Among cut world.ring → effective world cut.group ≡ Some group → group.core.arc ≡ cut.arc → InsideOf group.core.arc group.pairs
+  has_inside group cut among is arc =
+      subst (λ a. InsideOf a group.pairs) (sym arc) (subst (InsideOf cut.arc) (sym (map.parts cut among group is)) (inside_part cut.arc (contents_after empty world.history)))
+
+  -- what it has lies on its arc
+  pub keys_of : (name : Draw) (q : StandsQuiet (replicas_after scenario rows) name) → InsideOf q.lead.group.core.arc q.lead.group.pairs
+  keys_of name q =
+      let mine = cut_of name q in
+      let placed = map.placed mine.cut mine.among in
+      let my_group = mine.is placed in
+      has_inside q.lead.group mine.cut mine.among (placed.is ∙ ap Some my_group) (ap (λ (g : Group). g.core.arc) (sym my_group) ∙ placed.arc)
+
   -- ---- two groups, one behind the other
 
   module _ (name : Draw) (q : StandsQuiet (replicas_after scenario rows) name) (s : StandsQuiet (replicas_after scenario rows) q.lead.group.core.succ.group) where
@@ -203,10 +215,6 @@ module _ (words : ℕ → ℕ → ℕ × ℕ) (scenario : Scenario) (first : Bas
 
     held_by : (arc other : Arc) (p : ℕ) → arc ≡ other → Holds arc p → IsTrue (holds other p)
     held_by arc other p e h = subst (λ a. IsTrue (holds a p)) e (lt-ltb (offset arc p) arc.len h)
-
-    has_inside : (group : Group) (cut : Cut) → Among cut world.ring → effective world cut.group ≡ Some group → group.core.arc ≡ cut.arc → InsideOf group.core.arc group.pairs
-    has_inside group cut among is arc =
-        subst (λ a. InsideOf a group.pairs) (sym arc) (subst (InsideOf cut.arc) (sym (map.parts cut among group is)) (inside_part cut.arc (contents_after empty world.history)))
 
     -- where they are two, they meet, and share nothing
     pub meet_so : (name ≡ q.lead.group.core.succ.group → ⊥) → Meets q.lead.group s.lead.group

@@ -1,6 +1,7 @@
 pub mod Beginning
 pub mod Deeds
 pub mod Entries
+pub mod Finished
 pub mod Going
 pub mod New
 pub mod Outcomes

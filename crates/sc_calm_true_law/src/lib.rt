@@ -4,6 +4,7 @@
 
 ghost use Rattle.sc_calm_true_law.specs.Beginning.{TrueOrdersBegin};
 ghost use Rattle.sc_calm_true_law.specs.Entries.{VotesAreTrue};
+ghost use Rattle.sc_calm_true_law.specs.Finished.{EntriesAreTrue, FinishesAreTrue};
 ghost use Rattle.sc_calm_true_law.specs.Going.{AskedGroupsStood, TrueOrdersGoOn};
 ghost use Rattle.sc_calm_true_law.specs.Outcomes.{OutcomesAreTaken};
 ghost use Rattle.sc_calm_true_law.specs.Recorded.{RecordsAreTrue};
@@ -96,4 +97,26 @@ pub fn records_are_true()
     replicas_tell();
     valid_journals_are_sound();
     valid_entries_are_logs();
+}
+
+/// So is an outcome that a party has in flight: it can be taken there.
+pub fn finishes_are_true()
+    ensures { FinishesAreTrue }
+{
+    replicas_tell();
+    valid_journals_are_sound();
+    valid_entries_are_logs();
+    outcomes_are_taken();
+}
+
+/// Each command that a leader has in flight of an order since a quiet journal is true.
+pub fn entries_are_true()
+    ensures { EntriesAreTrue }
+{
+    replicas_tell();
+    valid_journals_are_sound();
+    valid_entries_are_logs();
+    outcomes_are_taken();
+    votes_are_true();
+    records_are_true();
 }
