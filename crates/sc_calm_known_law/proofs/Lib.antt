@@ -19,3 +19,6 @@ pub mod Going
 pub mod GoingOn
 pub mod Bearing
 pub mod BearingLogs
+pub mod BearingRows
+pub mod Births
+pub mod Born
