@@ -22,3 +22,4 @@ pub mod BearingLogs
 pub mod BearingRows
 pub mod Births
 pub mod Born
+pub mod There

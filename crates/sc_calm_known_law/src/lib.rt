@@ -223,3 +223,16 @@ pub fn children_are_made()
     scenarios_are_well_born();
     entries_bear_children();
 }
+
+/// So each group of a quiet front has a replica.
+pub fn fronts_are_there()
+    ensures { FrontsAreThere }
+{
+    valid_scenarios_are_bounded();
+    valid_scenarios_begin_well();
+    orders_are_allowed();
+    names_have_one_owner();
+    fronts_are_found();
+    quiet_logs_are_executed();
+    children_are_made();
+}
