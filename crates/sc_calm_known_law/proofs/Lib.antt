@@ -19,3 +19,7 @@ pub mod Going
 pub mod GoingOn
 pub mod Bearing
 pub mod BearingLogs
+pub mod BearingRows
+pub mod Births
+pub mod Born
+pub mod There

@@ -6,3 +6,4 @@ pub mod Known
 pub mod Noted
 pub mod Turns
 pub mod Bearing
+pub mod There

@@ -17,11 +17,12 @@ ghost use Rattle.sc_calm_known_law.specs.Known.{
 ghost use Rattle.sc_calm_known_law.specs.Links.{LinksWereMembers};
 ghost use Rattle.sc_calm_known_law.specs.Noted.{FrontsAreNoted, IssuedAreBegun};
 ghost use Rattle.sc_calm_known_law.specs.Offered.{GroupsAreAskedThrough};
+ghost use Rattle.sc_calm_known_law.specs.There.{ChildrenAreMade, FrontsAreThere};
 ghost use Rattle.sc_calm_known_law.specs.Turns.{FrontsGoInTurn, TurnsGoOn};
 
 use sc_calm_charts_law::led_stand_once;
 use sc_calm_groups_law::{events_go_on, rows_keep_taught, scenarios_are_well_born};
-use sc_calm_led_law::{groups_begin_taught, replicas_run_logs};
+use sc_calm_led_law::{groups_are_born_or_not, groups_begin_taught, replicas_run_logs};
 use sc_calm_logs_law::views_are_replicas;
 use sc_calm_mail_law::{entries_leave_over, replicas_last};
 use sc_calm_requests_law::lawful_replicas_are_named_once;
@@ -210,4 +211,28 @@ pub fn entries_bear_children()
     valid_scenarios_begin_well();
     orders_are_allowed();
     names_have_one_owner();
+}
+
+/// So each member of a child has a replica of it, or is told of the entry that names it, in a
+/// journal whose rows come in time.
+pub fn children_are_made()
+    ensures { ChildrenAreMade }
+{
+    valid_scenarios_are_bounded();
+    groups_are_born_or_not();
+    scenarios_are_well_born();
+    entries_bear_children();
+}
+
+/// So each group of a quiet front has a replica.
+pub fn fronts_are_there()
+    ensures { FrontsAreThere }
+{
+    valid_scenarios_are_bounded();
+    valid_scenarios_begin_well();
+    orders_are_allowed();
+    names_have_one_owner();
+    fronts_are_found();
+    quiet_logs_are_executed();
+    children_are_made();
 }

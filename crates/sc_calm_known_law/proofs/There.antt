@@ -1,0 +1,93 @@
+-- Each group of a quiet front has a replica: those of a scenario from birth on, and each child since its group's members learnt the entry that names it.
+use Rattle.std.proofs.Common.{◌≡◌, ℕ, zero, suc, ◌+◌, ◌<◌, ◌≤◌, true, List, [], ◌∷◌, ◌++◌, length, Some, None, inl, inr, sym, ◌∙◌, ap, subst, arith}
+use Rattle.std.proofs.lemmas.Bool.{cond-true}
+use Rattle.sc_base.specs.Among.{Among}
+use Rattle.sc_cmd.specs.declared.cores.Base.{Base}
+use Rattle.sc_member.specs.Roster.{is_member}
+use Rattle.sc_orderly_law.specs.Timely.{AreInTime}
+use Rattle.sc_scenario.specs.Valid.{IsBounded, ValidScenariosAreBounded}
+use Rattle.sc_scenario.specs.declared.scenarios.Scenario.{Scenario}
+use Rattle.sc_node_table.specs.Replica.{born_replica, next}
+use Rattle.sc_node_table.specs.Slots.{slots_ahead}
+use Rattle.sc_sound.specs.GroupsOf.{groups_at}
+use Rattle.sc_sound.specs.Logs.{decided_log}
+use Rattle.sc_sound.specs.Players.{births, as_nodes}
+use Rattle.sc_calm_law.specs.Charts.{players}
+use Rattle.sc_log_law.specs.Descent.{Rows, Descends}
+use Rattle.sc_log_law.specs.Findings.{AreFound}
+use Rattle.sc_names_law.specs.Laws.{OtherNamesAreFree, TakenOrdersAreAllowed, TakenWishesAreAllowed, WishesAreAtPositions}
+use Rattle.sc_whole_law.specs.StartLaws.{ValidScenariosBeginWell}
+use Rattle.sc_following_law.specs.Following.{Tells, Mark, reached}
+use Rattle.sc_calm_rows_law.specs.Groups.{view_at, marks_at, next_in}
+use Rattle.sc_calm_rows_law.proofs.Beginning.{view_born}
+use Rattle.sc_calm_mail_law.proofs.Lasting.{replicas_last}
+use Rattle.sc_calm_led_law.specs.Tellers.{tellers_at}
+use Rattle.sc_calm_led_law.proofs.Begins.{begun_first}
+use Rattle.sc_calm_rests_law.proofs.Facts.{none, place}
+use Rattle.sc_calm_scenes_law.specs.Fresh.{IsThere}
+use Rattle.sc_calm_known_law.specs.Bearing.{IsBirth}
+use Rattle.sc_calm_known_law.specs.Fronts.{IsQuietFront, IsFoundFront, FrontsAreFound, QuietLogsAreExecuted}
+use Rattle.sc_calm_known_law.specs.There.{ChildrenAreMade, FrontsAreThere}
+use Rattle.sc_calm_known_law.proofs.Births.{birth_slot}
+use Rattle.sc_calm_known_law.proofs.Groups.{front_timely, newest_there}
+use Rattle.sc_calm_known_law.proofs.LinkFronts.{found}
+
+module _ (bounded : ValidScenariosAreBounded) (begin : ValidScenariosBeginWell) (allowed : TakenOrdersAreAllowed) (wishes : TakenWishesAreAllowed) (positions : WishesAreAtPositions) (free : OtherNamesAreFree)
+    (finds : FrontsAreFound) (executed : QuietLogsAreExecuted) (made : ChildrenAreMade) (words : ℕ → ℕ → ℕ × ℕ) (scenario : Scenario) (journal front : Rows) (q : IsQuietFront words scenario journal front) where
+  bound : IsBounded scenario
+  bound = bounded scenario q.calm.valid
+
+  seen : IsFoundFront words scenario journal front
+  seen = finds words scenario journal front q.calm.valid q.calm.lawful q.begins q.homes
+
+  are_found : AreFound as_nodes scenario.groups front
+  are_found = found bounded begin allowed wishes positions free words scenario front q.calm.valid seen.lawful
+
+  timely : AreInTime (players words (births as_nodes scenario)) front
+  timely = front_timely words scenario journal front q
+
+  first_member : (base : Base) → Among base (groups_at as_nodes scenario.groups front) → is_member base.core.members base.core.first ≡ true
+  first_member base a = begun_first as_nodes scenario bound front base a
+
+  -- a group of the scenario has one from birth on
+  from_birth : (base : Base) → Among base scenario.groups → IsThere (births as_nodes scenario) front base.core.id
+  from_birth base a =
+      let who = base.core.first in
+      let one = view_born scenario bound base a who ∙ cond-true (is_member base.core.members who) (Some (born_replica slots_ahead who base)) None (first_member base (are_found.first base a)) in
+      let later = replicas_last words scenario [] front base.core.id who (born_replica slots_ahead who base) timely one in
+      (who, later.0, later.1)
+
+  -- and a child since it was learnt of
+  child_there : (parent base : Base) → Among parent (groups_at as_nodes scenario.groups front) → IsThere (births as_nodes scenario) front parent.core.id → Among base (groups_at as_nodes scenario.groups front)
+      → (slot : ℕ) → slot ≤ length (decided_log as_nodes parent front) → IsBirth (decided_log as_nodes parent journal) parent slot base → IsThere (births as_nodes scenario) front base.core.id
+  child_there parent base here there among slot low b =
+      let k = executed words scenario journal front parent q here there in
+      let by = tellers_at as_nodes scenario parent journal in
+      let t = q.sent parent (seen.later parent here) in
+      let on = made words by scenario journal front q.begins.more parent k.0.quiet.group q.begins.is timely t.one t.so in
+      let last = newest_there by words scenario journal front parent k.0.course k.0.quiet in
+      let silent : (who_ : ℕ) → marks_at (players words (births as_nodes scenario)) front parent.core.id who_ ≡ [] = λ who_. none by words scenario journal front parent k.0.course k.0.quiet who_ in
+      let within : next_in parent last.0 (view_at (births as_nodes scenario) front parent.core.id last.0) ≤ on.course.newest =
+      subst (λ (ms : List Mark). reached (next_in parent last.0 (view_at (births as_nodes scenario) front parent.core.id last.0)) ms ≤ on.course.newest) (silent last.0) (on.led.followed.follows.within last.0) in
+      let is = ap (next_in parent last.0) last.2 in
+      let top = last.3 in
+      let log = k.1 in
+      let who = base.core.first in
+      elim (on.born slot base who b (omega (arith, within, is, top, log, low)) (first_member base among)) [
+        | inl has ↦ (who, has.0, has.1)
+        | inr a ↦ absurd (subst (Among (Tells slot)) (silent who) a)
+      ]
+
+  descends : (depth : ℕ) (base : Base) → Descends as_nodes scenario.groups front depth base → IsThere (births as_nodes scenario) front base.core.id
+  descends zero base a = from_birth base a
+  descends (suc depth) base (parent, d, a) =
+      let here = are_found.all parent (depth, d) in
+      let on = seen.goes_on parent here in
+      let s = birth_slot parent (decided_log as_nodes parent front) on.0 (decided_log as_nodes parent journal) base on.1 a in
+      child_there parent base here (descends depth parent d) (are_found.all base (suc depth, (parent, d, a))) s.0 s.1 s.2
+
+  pub all_there : (base : Base) → Among base (groups_at as_nodes scenario.groups front) → IsThere (births as_nodes scenario) front base.core.id
+  all_there base a = (let f = are_found.only base a in descends f.0 base f.1)
+
+pub fronts_are_there : ValidScenariosAreBounded → ValidScenariosBeginWell → TakenOrdersAreAllowed → TakenWishesAreAllowed → WishesAreAtPositions → OtherNamesAreFree → FrontsAreFound → QuietLogsAreExecuted → ChildrenAreMade → FrontsAreThere
+fronts_are_there = all_there
