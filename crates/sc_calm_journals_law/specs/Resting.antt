@@ -1,5 +1,5 @@
 -- What holds of a quiet front of a calm journal.
-use Rattle.std.specs.Prelude.{◌≡◌, ℕ, ◌≤◌, true, Some}
+use Rattle.std.specs.Prelude.{◌≡◌, ℕ, ◌+◌, ◌≤◌, true, Some}
 use Rattle.sc_base.specs.Among.{Among}
 use Rattle.sc_base.specs.declared.names.Draw.{Draw}
 use Rattle.sc_cmd.specs.declared.cores.Base.{Base}
@@ -25,7 +25,7 @@ use Rattle.sc_calm_requests_law.specs.OneLog.{AllMayPump}
 use Rattle.sc_calm_settings_law.specs.Settings.{AreReachable}
 use Rattle.sc_calm_journals_law.specs.Journal.{IsFront, AreSent}
 
--- The players are as a quiet journal asks it; all groups are well led, and the first members of each that is there have a replica; nothing of an order is left; links and routes name nodes that have replicas; no more rounds were begun than orders told; and groups went one after another.
+-- The players are as a quiet journal asks it; all groups are well led, and the first members of each that is there have a replica; nothing of an order is left; links and routes name nodes that have replicas; rounds are counted from 1 on, and no more were begun behind the first than orders told; and groups went one after another.
 pub record RestsAt (words : ℕ → ℕ → ℕ × ℕ) (scenario : Scenario) (first : Base) (journal quiet : Rows) : Type 0 where
   pub front : IsFront journal quiet
   pub calm : is_quiet (players words (births as_nodes scenario)) quiet ≡ true
@@ -37,6 +37,6 @@ pub record RestsAt (words : ℕ → ℕ → ℕ × ℕ) (scenario : Scenario) (f
   pub known : AreKnown scenario quiet
   pub reach : AreReachable (replicas_after scenario quiet)
   pub pumps : AllMayPump (replicas_after scenario quiet)
-  pub rounds : (name : Draw) (node : ℕ) (r : ReplicaState) → view_at (births as_nodes scenario) quiet name node ≡ Some r → r.top.round ≤ orders quiet
+  pub rounds : (name : Draw) (node : ℕ) (r : ReplicaState) → view_at (births as_nodes scenario) quiet name node ≡ Some r → (1 ≤ r.top.round) × (r.top.round ≤ orders quiet + 1)
   pub turn : Draw → ℕ
   pub turns : GoInTurn (names_at (births as_nodes scenario) quiet) (all_replicas (births as_nodes scenario) quiet) turn

@@ -45,22 +45,22 @@ some_left : (most latest : ℕ) (r : ReplicaState) → (r.running || is_some r.g
 some_left most latest r f = cond-false (r.running || is_some r.group.core.gone) 0 (min most (1 + latest - r.top.round)) f
 
 -- one that is named is nearer
-nearer : (most latest : ℕ) (r there : ReplicaState) → latest + 1 ≤ most → r.top.round ≤ latest → there.top.round ≤ latest → r.running ≡ false → r.group.core.gone ≡ None
+nearer : (most latest : ℕ) (r there : ReplicaState) → (latest ≤ most) × (1 ≤ most) → (1 ≤ r.top.round) × (r.top.round ≤ latest) → there.top.round ≤ latest → r.running ≡ false → r.group.core.gone ≡ None
     → (there.running ≡ true) ⊎ (((into : Route) × (there.group.core.gone ≡ Some into)) ⊎ (r.top.round < there.top.round)) → way_by most latest (Some there) + 1 ≤ way_by most latest (Some r)
-nearer most latest r there room low high stops stands near =
+nearer most latest r there (room, some_most) (first, low) high stops stands near =
     let mine = some_left most latest r (or_from r.running (is_some r.group.core.gone) stops (ap is_some stands)) in
     by mine near
   where
     by : way_by most latest (Some r) ≡ min most (1 + latest - r.top.round) → (there.running ≡ true) ⊎ (((into : Route) × (there.group.core.gone ≡ Some into)) ⊎ (r.top.round < there.top.round)) → way_by most latest (Some there) + 1 ≤ way_by most latest (Some r)
-    by mine (inl runs) = (let zero_ = none_left most latest there (or_left there.running (is_some there.group.core.gone) runs) in omega (arith, zero_, mine, low, room))
-    by mine (inr (inl gone)) = (let zero_ = none_left most latest there (or_right there.running (is_some there.group.core.gone) (ap is_some gone.1)) in omega (arith, zero_, mine, low, room))
+    by mine (inl runs) = (let zero_ = none_left most latest there (or_left there.running (is_some there.group.core.gone) runs) in omega (arith, zero_, mine, low, room, some_most))
+    by mine (inr (inl gone)) = (let zero_ = none_left most latest there (or_right there.running (is_some there.group.core.gone) (ap is_some gone.1)) in omega (arith, zero_, mine, low, room, some_most))
     by mine (inr (inr later)) = elim (cases_Bool (there.running || is_some there.group.core.gone)) [
-      | inl t ↦ (let zero_ = none_left most latest there t in omega (arith, zero_, mine, low, room))
-      | inr f ↦ (let some = some_left most latest there f in omega (arith, some, mine, low, high, later, room))
+      | inl t ↦ (let zero_ = none_left most latest there t in omega (arith, zero_, mine, low, room, some_most))
+      | inr f ↦ (let some = some_left most latest there f in omega (arith, some, mine, first, low, high, later, room))
     ]
 
 -- where there is no replica, or one that does not run and is not gone, some way is left
-some_way : (most latest : ℕ) (o : Option ReplicaState) → latest + 1 ≤ most → ((r : ReplicaState) → o ≡ Some r → (r.top.round ≤ latest) × ((r.running || is_some r.group.core.gone) ≡ false)) → 1 ≤ way_by most latest o
+some_way : (most latest : ℕ) (o : Option ReplicaState) → 1 ≤ most → ((r : ReplicaState) → o ≡ Some r → (r.top.round ≤ latest) × ((r.running || is_some r.group.core.gone) ≡ false)) → 1 ≤ way_by most latest o
 some_way most latest None room k = omega (arith, room)
 some_way most latest (Some r) room k = (let is = k r refl in let low = is.0 in let some = some_left most latest r is.1 in omega (arith, low, some, room))
 
@@ -114,11 +114,14 @@ module _ (all_bounded : ValidScenariosAreBounded) (named : LawfulReplicasAreName
   round_low : (group : Draw) (node : ℕ) (r : ReplicaState) → at group node ≡ Some r → r.top.round ≤ latest_in group all
   round_low group node r e = latest_high group all r (seen_all all_bounded named words scenario first others quiet valid groups lawful rests.is homes group node r e) (rests.is.kept group node r e).name_is
 
-  latest_few : (group : Draw) → latest_in group all + 1 ≤ far
+  some_far : 1 ≤ far
+  some_far = omega (arith, room)
+
+  latest_few : (group : Draw) → latest_in group all ≤ far
   latest_few group =
-      let low = latest_low group (orders quiet) all (λ r a same. (
+      let low = latest_low group (orders quiet + 1) all (λ r a same. (
           let v = all_seen all_bounded named words scenario first others quiet valid groups lawful rests.is homes r a in
-          rests.rounds (name_of r) v.0 r (agree (name_of r) v.0 ∙ v.1))) in
+          (rests.rounds (name_of r) v.0 r (agree (name_of r) v.0 ∙ v.1)).1)) in
       omega (arith, low, room)
 
   lead_zero : (group : Draw) (q : StandsQuiet at group) → ways.far group q.lead.me ≡ 0
@@ -129,7 +132,7 @@ module _ (all_bounded : ValidScenariosAreBounded) (named : LawfulReplicasAreName
     leads = λ group q node ne. (
         let zero_ = lead_zero group q in
         let is = far_is group node in
-        let some = some_way far (latest_in group all) (at group node) (latest_few group) (λ r e. (round_low group node r e, stopped group q node r ne e)) in
+        let some = some_way far (latest_in group all) (at group node) some_far (λ r e. (round_low group node r e, stopped group q node r ne e)) in
         omega (arith, zero_, is, some));
     hints = λ group node hint r there stops stands h. (
         let rises = rests.is.quiet.rises group node r there stops stands in
@@ -137,7 +140,7 @@ module _ (all_bounded : ValidScenariosAreBounded) (named : LawfulReplicasAreName
         let mine = far_is group node ∙ ap (way_by far (latest_in group all)) there in
         let is_there : at group hint ≡ Some rises.there = ap (at group) (sym same) ∙ rises.is_there in
         let theirs = far_is group hint ∙ ap (way_by far (latest_in group all)) is_there in
-        let near = nearer far (latest_in group all) r rises.there (latest_few group) (round_low group node r there) (round_low group hint rises.there is_there) stops stands rises.nearer in
+        let near = nearer far (latest_in group all) r rises.there (latest_few group, some_far) ((rests.rounds group node r (agree group node ∙ there)).0, round_low group node r there) (round_low group hint rises.there is_there) stops stands rises.nearer in
         omega (arith, mine, theirs, near));
   }
     where

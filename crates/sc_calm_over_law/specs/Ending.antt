@@ -1,5 +1,5 @@
 -- That a quiet front of a calm journal rests, by what is known of its replicas, its clients and its notes.
-use Rattle.std.specs.Prelude.{◌≡◌, ℕ, ◌≤◌, Bool, true, false, List, [], None, Some}
+use Rattle.std.specs.Prelude.{◌≡◌, ℕ, ◌+◌, ◌≤◌, Bool, true, false, List, [], None, Some}
 use Rattle.sc_base.specs.Among.{Among, Each}
 use Rattle.sc_base.specs.Limits.{client_actor}
 use Rattle.sc_base.specs.declared.names.Draw.{Draw}
@@ -35,7 +35,7 @@ pub record EndsQuietly (scenario : Scenario) (first : Base) (front : Rows) : Typ
   pub still : IsAt Still (scene_at (births as_nodes scenario) front)
   pub done : (name : Draw) (node : ℕ) (r : ReplicaState) → view_at (births as_nodes scenario) front name node ≡ Some r → r.running ≡ true → (r.acts ≡ []) × (r.calls ≡ [])
   pub rises : (name : Draw) (node : ℕ) (r : ReplicaState) → replicas_after scenario front name node ≡ Some r → r.running ≡ false → r.group.core.gone ≡ None → RisesAt (replicas_after scenario front) name r
-  pub rounds : (name : Draw) (node : ℕ) (r : ReplicaState) → view_at (births as_nodes scenario) front name node ≡ Some r → r.top.round ≤ orders front
+  pub rounds : (name : Draw) (node : ℕ) (r : ReplicaState) → view_at (births as_nodes scenario) front name node ≡ Some r → (1 ≤ r.top.round) × (r.top.round ≤ orders front + 1)
   pub noted : (group : Draw) (stands : StandsQuiet (replicas_after scenario front) group) → IsPlainGroup (IsBegun scenario front) (frame_at_rest stands.lead) stands.lead.group
   pub clients : List (Bool × ClientState)
   pub answered : Each (λ client. IsAnswered client.0 (route_of first) client.1) clients

@@ -1,5 +1,5 @@
 -- That a quiet front of a calm journal rests, where its players are as a quiet journal asks it.
-use Rattle.std.specs.Prelude.{◌≡◌, ℕ, ◌≤◌, List, ◌∷◌, ◌++◌, Some}
+use Rattle.std.specs.Prelude.{◌≡◌, ℕ, ◌+◌, ◌≤◌, List, ◌∷◌, ◌++◌, Some}
 use Rattle.sc_base.specs.Among.{Each}
 use Rattle.sc_base.specs.declared.names.Draw.{Draw}
 use Rattle.sc_cmd.specs.declared.cores.Base.{Base}
@@ -19,11 +19,11 @@ use Rattle.sc_calm_known_law.specs.Known.{AreAllThere}
 use Rattle.sc_calm_journals_law.specs.Resting.{RestsAt}
 use Rattle.sc_calm_between_law.specs.Requested.{IsKnownFront, IsRequested}
 
--- Each group after the front has a replica, errands went to players, no more rounds were begun than orders told, and groups went one after another.
+-- Each group after the front has a replica, errands went to players, rounds are counted from 1 on, and no more were begun behind the first than orders told, and groups went one after another.
 pub record RestsBesides (words : ℕ → ℕ → ℕ × ℕ) (scenario : Scenario) (front : Rows) : Type 0 where
   pub there : AreAllThere scenario front
   pub errands : Each (GoesToActor words (births as_nodes scenario)) (mails front)
-  pub rounds : (name : Draw) (node : ℕ) (r : ReplicaState) → view_at (births as_nodes scenario) front name node ≡ Some r → r.top.round ≤ orders front
+  pub rounds : (name : Draw) (node : ℕ) (r : ReplicaState) → view_at (births as_nodes scenario) front name node ≡ Some r → (1 ≤ r.top.round) × (r.top.round ≤ orders front + 1)
   pub turn : Draw → ℕ
   pub turns : GoInTurn (names_at (births as_nodes scenario) front) (all_replicas (births as_nodes scenario) front) turn
 
