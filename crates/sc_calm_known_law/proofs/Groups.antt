@@ -6,7 +6,7 @@ use Rattle.std.proofs.lemmas.Bool.{cases_Bool, cases_lt}
 use Rattle.sc_base.specs.Among.{Among}
 use Rattle.sc_cmd.specs.declared.commands.Command.{Command}
 use Rattle.sc_cmd.specs.declared.cores.Base.{Base}
-use Rattle.sc_member.specs.Roster.{least_of}
+use Rattle.sc_member.specs.Roster.{is_member, least_of}
 use Rattle.sc_paxos_words.specs.declared.flights.Flight.{Flight}
 use Rattle.sc_paxos_words.specs.Leaders.{flight_at}
 use Rattle.sc_orderly_law.specs.Timely.{AreInTime}
@@ -18,11 +18,13 @@ use Rattle.sc_sound.specs.Logs.{decided_log}
 use Rattle.sc_sound.specs.Players.{births, as_nodes}
 use Rattle.sc_sound.specs.Soundness.{HasRun}
 use Rattle.sc_calm_law.specs.Charts.{players}
+use Rattle.sc_calm_law.specs.Quiet.{HasReplica}
 use Rattle.sc_log_law.specs.Descent.{Rows}
 use Rattle.sc_following_law.specs.Following.{Course, members_at}
 use Rattle.sc_following_law.specs.Hints.{Tellers}
 use Rattle.sc_following_law.proofs.Leads.{least_in}
 use Rattle.sc_calm_logs_law.specs.Logged.{logged_sets, IsGroupOf}
+use Rattle.sc_calm_rows_law.specs.Groups.{view_at}
 use Rattle.sc_calm_groups_law.specs.Through.{ScenariosAreWellBorn}
 use Rattle.sc_calm_groups_law.proofs.Keeping.{kept_leaders_rest, scenarios_kept_born}
 use Rattle.sc_calm_groups_law.proofs.Resting.{quiet_groups_led}
@@ -31,9 +33,9 @@ use Rattle.sc_calm_led_law.specs.Taught.{GroupsBeginTaught}
 use Rattle.sc_calm_led_law.specs.Tellers.{tellers_at}
 use Rattle.sc_calm_rests_law.specs.Rests.{IsQuietGroup}
 use Rattle.sc_calm_rests_law.proofs.Facts.{at, over, all, view, members_have, newest_next, place, room}
-use Rattle.sc_calm_scenes_law.specs.Fresh.{IsThere}
 use Rattle.sc_calm_known_law.specs.Fronts.{IsQuietFront, IsKnownGroup, IsFoundFront, FrontsAreFound, QuietFrontsHaveGroups, QuietLogsAreExecuted}
 use Rattle.sc_calm_known_law.specs.Offered.{GroupsAreAskedThrough}
+use Rattle.sc_calm_known_law.specs.There.{FrontsHaveMembers}
 use Rattle.sc_calm_known_law.proofs.Chosen.{log_short}
 
 -- nothing is taken where nothing is in flight or ready
@@ -79,8 +81,12 @@ pub front_timely : (words : ℕ → ℕ → ℕ × ℕ) (scenario : Scenario) (j
 front_timely words scenario journal front q = λ before row after e. q.calm.timely before row (after ++ q.begins.more) (q.begins.is ∙ (ap (λ rows. rows ++ q.begins.more) e ∙ append_assoc before (row ∷ after) q.begins.more))
 
 module _ (wb : ScenariosAreWellBorn) (begin : GroupsBeginTaught) (through : GroupsAreAskedThrough) (words : ℕ → ℕ → ℕ × ℕ) (scenario : Scenario) (journal front : Rows) (base : Base) (q : IsQuietFront words scenario journal front) where
-  pub known_group : Among base (groups_at as_nodes scenario.groups journal) → IsThere (births as_nodes scenario) front base.core.id → IsKnownGroup words scenario journal front base
-  known_group a there =
+  -- its first members have replicas
+  abbrev pub HasMembers : Type 0
+  HasMembers = (node : ℕ) → is_member base.core.members node ≡ true → HasReplica (view_at (births as_nodes scenario) front) base.core.id node
+
+  pub known_group : Among base (groups_at as_nodes scenario.groups journal) → HasMembers → IsKnownGroup words scenario journal front base
+  known_group a has =
       let group : IsGroupOf as_nodes words scenario journal base = record { open_slots = refl; valid = q.calm.valid; lawful = q.calm.lawful; stands = a } in
       let by = tellers_at as_nodes scenario base journal in
       let t = q.sent base a in
@@ -101,7 +107,7 @@ module _ (wb : ScenariosAreWellBorn) (begin : GroupsBeginTaught) (through : Grou
           led = on.led;
           taught = on.taught;
           one = t.one;
-          born = q.members base a there;
+          born = has;
         };
         asked = on.asked;
       }
@@ -110,9 +116,9 @@ module _ (wb : ScenariosAreWellBorn) (begin : GroupsBeginTaught) (through : Grou
     found : IsFoundFront words scenario journal front
     found = finds words scenario journal front q.calm.valid q.calm.lawful q.begins q.homes
 
-    pub executed : Among base (groups_at as_nodes scenario.groups front) → IsThere (births as_nodes scenario) front base.core.id → (known : IsKnownGroup words scenario journal front base) × (length (decided_log as_nodes base front) + 1 ≡ known.course.newest)
-    executed a there =
-        let k = known_group (found.later base a) there in
+    pub executed : Among base (groups_at as_nodes scenario.groups front) → HasMembers → (known : IsKnownGroup words scenario journal front base) × (length (decided_log as_nodes base front) + 1 ≡ known.course.newest)
+    executed a has =
+        let k = known_group (found.later base a) has in
         let by = tellers_at as_nodes scenario base journal in
         let follows = k.quiet.led.followed.follows in
         let some = follows.some in
@@ -128,8 +134,10 @@ module _ (wb : ScenariosAreWellBorn) (begin : GroupsBeginTaught) (through : Grou
         let newest = last.3 in
         (k, omega (arith, high, short, within, next_is, newest))
 
-pub quiet_fronts_have_groups : ScenariosAreWellBorn → GroupsBeginTaught → GroupsAreAskedThrough → QuietFrontsHaveGroups
-quiet_fronts_have_groups = known_group
+pub quiet_fronts_have_groups : ScenariosAreWellBorn → GroupsBeginTaught → GroupsAreAskedThrough → FrontsHaveMembers → QuietFrontsHaveGroups
+quiet_fronts_have_groups wb begin through members words scenario journal front base q a there = known_group wb begin through words scenario journal front base q a (members words scenario journal front base q a there)
 
-pub quiet_logs_are_executed : ScenariosAreWellBorn → GroupsBeginTaught → GroupsAreAskedThrough → FrontsAreFound → QuietLogsAreExecuted
-quiet_logs_are_executed wb begin through finds words scenario journal front base q = executed wb begin through words scenario journal front base q finds
+pub quiet_logs_are_executed : ScenariosAreWellBorn → GroupsBeginTaught → GroupsAreAskedThrough → FrontsAreFound → FrontsHaveMembers → QuietLogsAreExecuted
+quiet_logs_are_executed wb begin through finds members words scenario journal front base q a there =
+    let f = finds words scenario journal front q.calm.valid q.calm.lawful q.begins q.homes in
+    executed wb begin through words scenario journal front base q finds a (members words scenario journal front base q (f.later base a) there)

@@ -36,6 +36,7 @@ use Rattle.sc_calm_known_law.specs.Arcs.{FreeGroupsHaveArcs}
 use Rattle.sc_calm_known_law.specs.Fronts.{FrontsAreFound, QuietLogsAreExecuted}
 use Rattle.sc_calm_known_law.specs.Known.{FrontsAreLinked}
 use Rattle.sc_calm_known_law.specs.Links.{AreAllFree, LinksWereMembers}
+use Rattle.sc_calm_known_law.specs.There.{FrontsAreThere}
 use Rattle.sc_calm_known_law.proofs.Known.{found, most, ends, last_state}
 use Rattle.sc_calm_known_law.proofs.Reaching.{last, has_replica, link_of}
 
@@ -125,9 +126,10 @@ module _ (scenario : Scenario) (front : Rows) (map : IsOneMap (world_at as_nodes
         begins = ap (λ (g : Group). g.core.arc.lo) (sym of.3) ∙ (ap (λ (r : Arc). r.lo) x.arc ∙ (n.2 ∙ ap end_of (sym p.arc ∙ ap (λ (g : Group). g.core.arc) own)));
       }
 
-module _ (executed : QuietLogsAreExecuted) (finds : FrontsAreFound) (haves : FreeGroupsHaveArcs) (links : LinksWereMembers) (sounds : ValidJournalsAreSound) (entries : ValidEntriesAreLogs) where
+module _ (executed : QuietLogsAreExecuted) (finds : FrontsAreFound) (all_there : FrontsAreThere) (haves : FreeGroupsHaveArcs) (links : LinksWereMembers) (sounds : ValidJournalsAreSound) (entries : ValidEntriesAreLogs) where
   pub fronts_are_linked : FrontsAreLinked
-  fronts_are_linked words scenario journal front by base course lead q there free a k stands here =
+  fronts_are_linked words scenario journal front by base course lead q free a k stands here =
+      let there = all_there words scenario journal front q in
       let f = found executed finds words scenario journal front q in
       let end = ends executed finds words scenario journal front q base a by course k in
       let leads = (even by words scenario journal front base course k).led stands in

@@ -45,6 +45,7 @@ use Rattle.sc_calm_known_law.specs.Fronts.{IsQuietFront, FrontsAreFound, QuietLo
 use Rattle.sc_calm_known_law.specs.Known.{AreAllThere}
 use Rattle.sc_calm_known_law.specs.Links.{AreAllFree}
 use Rattle.sc_calm_known_law.specs.Noted.{IssuedAreBegun, FrontsAreNoted}
+use Rattle.sc_calm_known_law.specs.There.{FrontsAreThere}
 use Rattle.sc_calm_known_law.proofs.Groups.{front_timely}
 use Rattle.sc_calm_known_law.proofs.Known.{found}
 use Rattle.sc_calm_known_law.proofs.LinkFronts.{sources, ready, well, turn}
@@ -187,5 +188,6 @@ module _ (bounded : ValidScenariosAreBounded) (begin : ValidScenariosBeginWell) 
         stored = λ key value e. value_stored base new.0.among (ap (λ (g : Group). g.core.gone) (sym state) ∙ stands.stands) key value (ap (λ (g : Group). get g.pairs key) (sym state) ∙ e);
       }
 
-pub fronts_are_noted : ValidScenariosAreBounded → ValidScenariosBeginWell → TakenOrdersAreAllowed → TakenWishesAreAllowed → WishesAreAtPositions → OtherNamesAreFree → ValidJournalsAreSound → ValidEntriesAreLogs → IssuedAreBegun → FreeGroupsHaveArcs → QuietLogsAreExecuted → FrontsAreFound → FrontsAreNoted
-fronts_are_noted = plain
+pub fronts_are_noted : ValidScenariosAreBounded → ValidScenariosBeginWell → TakenOrdersAreAllowed → TakenWishesAreAllowed → WishesAreAtPositions → OtherNamesAreFree → ValidJournalsAreSound → ValidEntriesAreLogs → IssuedAreBegun → FreeGroupsHaveArcs → QuietLogsAreExecuted → FrontsAreFound → FrontsAreThere → FrontsAreNoted
+fronts_are_noted bounded begin allowed wishes positions free_names sounds entries begun haves executed finds there words scenario journal front q free =
+    plain bounded begin allowed wishes positions free_names sounds entries begun haves executed finds words scenario journal front q (there words scenario journal front q) free

@@ -26,6 +26,7 @@ use Rattle.sc_calm_known_law.specs.Arcs.{FreeGroupsHaveArcs}
 use Rattle.sc_calm_known_law.specs.Fronts.{IsQuietFront, IsKnownGroup, IsOfGroup, FrontsAreFound, QuietLogsAreExecuted}
 use Rattle.sc_calm_known_law.specs.Known.{AreAllThere, FrontsAreKnown, FrontsAreReachable, FrontsAreTakenIn}
 use Rattle.sc_calm_known_law.specs.Links.{WasMember, WereMembers, AreAllFree, LinksWereMembers}
+use Rattle.sc_calm_known_law.specs.There.{FrontsAreThere}
 use Rattle.sc_calm_known_law.proofs.Groups.{newest_there}
 use Rattle.sc_calm_known_law.proofs.Known.{see, found, seen, shown, most, last_state, ends, gone_last, was_there, newest_state}
 
@@ -128,11 +129,11 @@ module _ (executed : QuietLogsAreExecuted) (finds : FrontsAreFound) (words : ℕ
           let same = newest_state executed finds words scenario journal front q base a by course k in
           has_replica into.group node ((route_of base into a (ap (λ (g : Group). g.core.gone) (sym same) ∙ gone)).each node m)
 
-pub fronts_are_known : QuietLogsAreExecuted → FrontsAreFound → FreeGroupsHaveArcs → FrontsAreKnown
-fronts_are_known executed finds arcs words scenario journal front q there free = front_known executed finds words scenario journal front q there free arcs
+pub fronts_are_known : QuietLogsAreExecuted → FrontsAreFound → FrontsAreThere → FreeGroupsHaveArcs → FrontsAreKnown
+fronts_are_known executed finds there arcs words scenario journal front q free = front_known executed finds words scenario journal front q (there words scenario journal front q) free arcs
 
-pub fronts_are_reachable : QuietLogsAreExecuted → FrontsAreFound → LinksWereMembers → FrontsAreReachable
-fronts_are_reachable executed finds links words scenario journal front q there free = front_reachable executed finds words scenario journal front q there free links
+pub fronts_are_reachable : QuietLogsAreExecuted → FrontsAreFound → FrontsAreThere → LinksWereMembers → FrontsAreReachable
+fronts_are_reachable executed finds there links words scenario journal front q free = front_reachable executed finds words scenario journal front q (there words scenario journal front q) free links
 
-pub fronts_are_taken_in : QuietLogsAreExecuted → FrontsAreFound → LinksWereMembers → FrontsAreTakenIn
-fronts_are_taken_in executed finds links words scenario journal front by base course into q there free = front_taken_in executed finds words scenario journal front q there free links by base course into
+pub fronts_are_taken_in : QuietLogsAreExecuted → FrontsAreFound → FrontsAreThere → LinksWereMembers → FrontsAreTakenIn
+fronts_are_taken_in executed finds there links words scenario journal front by base course into q free = front_taken_in executed finds words scenario journal front q (there words scenario journal front q) free links by base course into

@@ -22,6 +22,7 @@ use Rattle.sc_calm_scenes_law.proofs.Newest.{IsNewest, newest_is, lead_runs}
 use Rattle.sc_calm_scenes_law.proofs.Viewing.{view_among}
 use Rattle.sc_calm_known_law.specs.Fronts.{IsQuietFront, FrontsAreFound, QuietLogsAreExecuted}
 use Rattle.sc_calm_known_law.specs.Known.{AreAllThere, StillFrontsAreFree}
+use Rattle.sc_calm_known_law.specs.There.{FrontsAreThere}
 use Rattle.sc_calm_known_law.proofs.Known.{most, last_state}
 use Rattle.sc_calm_known_law.proofs.Reaching.{last}
 
@@ -70,5 +71,5 @@ module _ (executed : QuietLogsAreExecuted) (finds : FrontsAreFound) (words : ℕ
   pub still_free : IsAt Still (scene_at (births as_nodes scenario) front) → (decided_state as_nodes base front).core.lock ≡ Free
   still_free still = unbound_free (decided_state as_nodes base front).core.lock (decided_state as_nodes base front).core (sym (bond_is (lead_of view nodes) refl) ∙ ap (λ (h : Here). h.bond) (still.parties.1 base.core.id tt))
 
-pub still_fronts_are_free : QuietLogsAreExecuted → FrontsAreFound → StillFrontsAreFree
-still_fronts_are_free executed finds words scenario journal front q there still base a = still_free executed finds words scenario journal front q there base a still
+pub still_fronts_are_free : QuietLogsAreExecuted → FrontsAreFound → FrontsAreThere → StillFrontsAreFree
+still_fronts_are_free executed finds there words scenario journal front q still base a = still_free executed finds words scenario journal front q (there words scenario journal front q) base a still

@@ -3,7 +3,6 @@ use Rattle.std.specs.Prelude.{◌≡◌, ℕ, ◌+◌, true, false, [], length, 
 use Rattle.sc_base.specs.Among.{Among}
 use Rattle.sc_base.specs.declared.names.Draw.{Draw}
 use Rattle.sc_cmd.specs.declared.cores.Base.{Base}
-use Rattle.sc_member.specs.Roster.{is_member}
 use Rattle.sc_actor.specs.Mail.{mails}
 use Rattle.sc_actor.specs.Walk.{is_quiet}
 use Rattle.sc_orderly_law.specs.Orderly.{is_born}
@@ -17,7 +16,6 @@ use Rattle.sc_sound.specs.Logs.{rule_of, decided_log}
 use Rattle.sc_sound.specs.Players.{Lawful, births, as_nodes}
 use Rattle.sc_sound.specs.Soundness.{Continues, HasRun}
 use Rattle.sc_calm_law.specs.Charts.{players}
-use Rattle.sc_calm_law.specs.Quiet.{HasReplica}
 use Rattle.sc_calm_law.specs.Totals.{Rows}
 use Rattle.sc_following_law.specs.Following.{Course}
 use Rattle.sc_calm_rows_law.specs.Groups.{view_at, marks_at}
@@ -51,14 +49,12 @@ abbrev pub FrontsAreFound : Type 0
 FrontsAreFound =
     (words : ℕ → ℕ → ℕ × ℕ) (scenario : Scenario) (journal front : Rows) → IsValid scenario → Lawful as_nodes words scenario journal → IsFront journal front → AreAtNodes scenario front → IsFoundFront words scenario journal front
 
--- A quiet front of a calm journal, whose groups are well led, each with a replica at each of its first members, if it has one at all; no mail of a group is for who is no actor, and all replicas are at nodes of the scenario.
+-- A quiet front of a calm journal, whose groups are well led; no mail of a group is for who is no actor, and all replicas are at nodes of the scenario.
 pub record IsQuietFront (words : ℕ → ℕ → ℕ × ℕ) (scenario : Scenario) (journal front : Rows) : Type 0 where
   pub calm : IsCalmJournal words scenario journal
   pub begins : IsFront journal front
   pub quiet : is_quiet (players words (births as_nodes scenario)) front ≡ true
   pub sent : AreSent words scenario journal front
-  pub members : (base : Base) → Among base (groups_at as_nodes scenario.groups journal) → IsThere (births as_nodes scenario) front base.core.id
-      → (node : ℕ) → is_member base.core.members node ≡ true → HasReplica (view_at (births as_nodes scenario) front) base.core.id node
   pub strangers : (name : Draw) (who : ℕ) → is_born (players words (births as_nodes scenario)) who ≡ false → marks_at (players words (births as_nodes scenario)) front name who ≡ []
   pub homes : AreAtNodes scenario front
 

@@ -41,24 +41,24 @@ QuietCoursesEnd =
 -- Where nothing of an order is left, no group is bound by its log.
 abbrev pub StillFrontsAreFree : Type 0
 StillFrontsAreFree =
-    (words : ℕ → ℕ → ℕ × ℕ) (scenario : Scenario) (journal front : Rows) → IsQuietFront words scenario journal front → AreAllThere scenario front → IsAt Still (scene_at (births as_nodes scenario) front) → AreAllFree scenario front
+    (words : ℕ → ℕ → ℕ × ℕ) (scenario : Scenario) (journal front : Rows) → IsQuietFront words scenario journal front → IsAt Still (scene_at (births as_nodes scenario) front) → AreAllFree scenario front
 
 -- Then the groups of the front are known ..
 abbrev pub FrontsAreKnown : Type 0
-FrontsAreKnown = (words : ℕ → ℕ → ℕ × ℕ) (scenario : Scenario) (journal front : Rows) → IsQuietFront words scenario journal front → AreAllThere scenario front → AreAllFree scenario front → AreKnown scenario front
+FrontsAreKnown = (words : ℕ → ℕ → ℕ × ℕ) (scenario : Scenario) (journal front : Rows) → IsQuietFront words scenario journal front → AreAllFree scenario front → AreKnown scenario front
 
 -- .. links and routes name nodes that have replicas ..
 abbrev pub FrontsAreReachable : Type 0
-FrontsAreReachable = (words : ℕ → ℕ → ℕ × ℕ) (scenario : Scenario) (journal front : Rows) → IsQuietFront words scenario journal front → AreAllThere scenario front → AreAllFree scenario front → AreReachable (replicas_after scenario front)
+FrontsAreReachable = (words : ℕ → ℕ → ℕ × ℕ) (scenario : Scenario) (journal front : Rows) → IsQuietFront words scenario journal front → AreAllFree scenario front → AreReachable (replicas_after scenario front)
 
 -- .. also those of the route by which a group went, whatever its course ..
 abbrev pub FrontsAreTakenIn : Type 0
 FrontsAreTakenIn =
-    (words : ℕ → ℕ → ℕ × ℕ) (scenario : Scenario) (journal front : Rows) (by : Tellers) (base : Base) (course : Course) (into : Route) → IsQuietFront words scenario journal front → AreAllThere scenario front → AreAllFree scenario front
+    (words : ℕ → ℕ → ℕ × ℕ) (scenario : Scenario) (journal front : Rows) (by : Tellers) (base : Base) (course : Course) (into : Route) → IsQuietFront words scenario journal front → AreAllFree scenario front
     → Among base (groups_at as_nodes scenario.groups front) → IsQuietGroup by words scenario journal front base course → (state_at as_nodes base journal course.newest).core.gone ≡ Some into → IsTakenIn (replicas_at scenario front) into
 
 -- .. and of a group that stands the link is as a quiet journal asks it.
 abbrev pub FrontsAreLinked : Type 0
 FrontsAreLinked =
-    (words : ℕ → ℕ → ℕ × ℕ) (scenario : Scenario) (journal front : Rows) (by : Tellers) (base : Base) (course : Course) (lead : ReplicaState) → IsQuietFront words scenario journal front → AreAllThere scenario front → AreAllFree scenario front
+    (words : ℕ → ℕ → ℕ × ℕ) (scenario : Scenario) (journal front : Rows) (by : Tellers) (base : Base) (course : Course) (lead : ReplicaState) → IsQuietFront words scenario journal front → AreAllFree scenario front
     → Among base (groups_at as_nodes scenario.groups front) → IsQuietGroup by words scenario journal front base course → course.gone ≡ false → replicas_at scenario front base.core.id course.ballot.node ≡ Some lead → IsLinked (replicas_at scenario front) lead

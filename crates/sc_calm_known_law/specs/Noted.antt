@@ -18,7 +18,6 @@ use Rattle.sc_budget_law.specs.AtRest.{frame_at_rest}
 use Rattle.sc_budget_law.specs.PlainClient.{IsBegun, begun_of}
 use Rattle.sc_budget_law.specs.PlainNode.{IsPlainGroup}
 use Rattle.sc_calm_known_law.specs.Fronts.{IsQuietFront}
-use Rattle.sc_calm_known_law.specs.Known.{AreAllThere}
 use Rattle.sc_calm_known_law.specs.Links.{AreAllFree}
 
 -- In rows that come in time each request that was issued is begun.
@@ -30,5 +29,5 @@ IssuedAreBegun =
 -- So the group of a leader that stands in a quiet front has noted begun requests alone, and all values that it has come of such.
 abbrev pub FrontsAreNoted : Type 0
 FrontsAreNoted =
-    (words : ℕ → ℕ → ℕ × ℕ) (scenario : Scenario) (journal front : Rows) → IsQuietFront words scenario journal front → AreAllThere scenario front → AreAllFree scenario front
+    (words : ℕ → ℕ → ℕ × ℕ) (scenario : Scenario) (journal front : Rows) → IsQuietFront words scenario journal front → AreAllFree scenario front
     → (group : Draw) (stands : StandsQuiet (replicas_after scenario front) group) → IsPlainGroup (IsBegun scenario front) (frame_at_rest stands.lead) stands.lead.group

@@ -5,6 +5,7 @@ use Rattle.sc_cmd.specs.declared.cores.Base.{Base}
 use Rattle.sc_member.specs.Roster.{is_member}
 use Rattle.sc_orderly_law.specs.Timely.{AreInTime}
 use Rattle.sc_scenario.specs.declared.scenarios.Scenario.{Scenario}
+use Rattle.sc_sound.specs.GroupsOf.{groups_at}
 use Rattle.sc_sound.specs.Logs.{decided_log}
 use Rattle.sc_sound.specs.Players.{births, as_nodes}
 use Rattle.sc_calm_law.specs.Charts.{players}
@@ -18,6 +19,7 @@ use Rattle.sc_calm_groups_law.specs.Taught.{AreTaughtAt, IsTaughtOn}
 use Rattle.sc_calm_groups_law.specs.Through.{HasOneLog, IsSentSo}
 use Rattle.sc_calm_logs_law.specs.Logged.{logged_sets, IsGroupOf}
 use Rattle.sc_calm_led_law.specs.Led.{over_at}
+use Rattle.sc_calm_scenes_law.specs.Fresh.{IsThere}
 use Rattle.sc_calm_known_law.specs.Bearing.{IsBirth}
 use Rattle.sc_calm_known_law.specs.Fronts.{IsQuietFront}
 use Rattle.sc_calm_known_law.specs.Known.{AreAllThere}
@@ -43,3 +45,9 @@ ChildrenAreMade =
 -- So each group of a quiet front has a replica.
 abbrev pub FrontsAreThere : Type 0
 FrontsAreThere = (words : ℕ → ℕ → ℕ × ℕ) (scenario : Scenario) (journal front : Rows) → IsQuietFront words scenario journal front → AreAllThere scenario front
+
+-- .. and each of the group's first members has one.
+abbrev pub FrontsHaveMembers : Type 0
+FrontsHaveMembers =
+    (words : ℕ → ℕ → ℕ × ℕ) (scenario : Scenario) (journal front : Rows) (base : Base) → IsQuietFront words scenario journal front → Among base (groups_at as_nodes scenario.groups journal) → IsThere (births as_nodes scenario) front base.core.id
+    → (node : ℕ) → is_member base.core.members node ≡ true → HasReplica (view_at (births as_nodes scenario) front) base.core.id node

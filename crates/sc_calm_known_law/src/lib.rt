@@ -17,7 +17,7 @@ ghost use Rattle.sc_calm_known_law.specs.Known.{
 ghost use Rattle.sc_calm_known_law.specs.Links.{LinksWereMembers};
 ghost use Rattle.sc_calm_known_law.specs.Noted.{FrontsAreNoted, IssuedAreBegun};
 ghost use Rattle.sc_calm_known_law.specs.Offered.{GroupsAreAskedThrough};
-ghost use Rattle.sc_calm_known_law.specs.There.{ChildrenAreMade, FrontsAreThere};
+ghost use Rattle.sc_calm_known_law.specs.There.{ChildrenAreMade, FrontsAreThere, FrontsHaveMembers};
 ghost use Rattle.sc_calm_known_law.specs.Turns.{FrontsGoInTurn, TurnsGoOn};
 
 use sc_calm_charts_law::led_stand_once;
@@ -79,6 +79,7 @@ pub fn quiet_fronts_have_groups()
     scenarios_are_well_born();
     groups_begin_taught();
     groups_are_asked_through();
+    fronts_have_members();
 }
 
 /// And all that was decided is executed.
@@ -89,6 +90,7 @@ pub fn quiet_logs_are_executed()
     groups_begin_taught();
     groups_are_asked_through();
     fronts_are_found();
+    fronts_have_members();
 }
 
 /// Replicas of one group that are gone know the same route in a quiet front.
@@ -114,6 +116,7 @@ pub fn fronts_are_known()
     quiet_logs_are_executed();
     fronts_are_found();
     free_groups_have_arcs();
+    fronts_are_there();
 }
 
 /// Then links and routes name nodes that have replicas.
@@ -123,6 +126,7 @@ pub fn fronts_are_reachable()
     quiet_logs_are_executed();
     fronts_are_found();
     links_were_members();
+    fronts_are_there();
 }
 
 /// So the nodes of the group that a group went into have a replica of that.
@@ -132,6 +136,7 @@ pub fn fronts_are_taken_in()
     quiet_logs_are_executed();
     fronts_are_found();
     links_were_members();
+    fronts_are_there();
 }
 
 /// And the link of a group that stands is as a quiet journal asks it.
@@ -144,6 +149,7 @@ pub fn fronts_are_linked()
     links_were_members();
     valid_journals_are_sound();
     valid_entries_are_logs();
+    fronts_are_there();
 }
 
 /// Where nothing of an order is left, no group is bound by its log.
@@ -152,6 +158,7 @@ pub fn still_fronts_are_free()
 {
     quiet_logs_are_executed();
     fronts_are_found();
+    fronts_are_there();
 }
 
 /// Each request that was issued in rows that come in time is begun.
@@ -176,6 +183,7 @@ pub fn fronts_are_noted()
     free_groups_have_arcs();
     quiet_logs_are_executed();
     fronts_are_found();
+    fronts_are_there();
 }
 
 /// Groups go one after another still, where at most one more is gone, which went into one that
@@ -232,7 +240,24 @@ pub fn fronts_are_there()
     valid_scenarios_begin_well();
     orders_are_allowed();
     names_have_one_owner();
+    scenarios_are_well_born();
+    groups_begin_taught();
+    groups_are_asked_through();
     fronts_are_found();
-    quiet_logs_are_executed();
+    children_are_made();
+}
+
+/// And what has a replica then has one at each of its first members.
+pub fn fronts_have_members()
+    ensures { FrontsHaveMembers }
+{
+    valid_scenarios_are_bounded();
+    valid_scenarios_begin_well();
+    orders_are_allowed();
+    names_have_one_owner();
+    scenarios_are_well_born();
+    groups_begin_taught();
+    groups_are_asked_through();
+    fronts_are_found();
     children_are_made();
 }
