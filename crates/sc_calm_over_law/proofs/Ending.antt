@@ -52,6 +52,8 @@ use Rattle.sc_budget_law.specs.Between.{Other, mark}
 use Rattle.sc_calm_known_law.specs.Fronts.{IsQuietFront, IsKnownGroup, IsFoundFront, FrontsAreFound, QuietFrontsHaveGroups, QuietLogsAreExecuted}
 use Rattle.sc_calm_known_law.specs.Known.{FrontsAreKnown, FrontsAreReachable, FrontsAreTakenIn, FrontsAreLinked, StillFrontsAreFree}
 use Rattle.sc_calm_known_law.specs.Links.{AreAllFree}
+use Rattle.sc_calm_known_law.specs.Noted.{FrontsAreNoted}
+use Rattle.sc_calm_known_law.specs.There.{FrontsAreThere, FrontsHaveMembers}
 use Rattle.sc_calm_known_law.proofs.Known.{newest_state}
 use Rattle.sc_calm_scenes_law.specs.Fresh.{IsThere}
 use Rattle.sc_calm_journals_law.specs.Resting.{RestsAt}
@@ -62,7 +64,7 @@ use Rattle.sc_calm_over_law.proofs.Desk.{desk_marks}
 use Rattle.sc_calm_over_law.proofs.Nodes.{node_value}
 
 module _ (all_bounded : ValidScenariosAreBounded) (found_law : FrontsAreFound) (groups_law : QuietFrontsHaveGroups) (executed_law : QuietLogsAreExecuted) (known_law : FrontsAreKnown) (reach_law : FrontsAreReachable) (taken_law : FrontsAreTakenIn) (linked_law : FrontsAreLinked) (free_law : StillFrontsAreFree)
-    (stand_law : QuietGroupsStand) (gone_law : QuietGroupsAreGone) (rest_law : QuietReplicasRest) (kept_law : QuietReplicasAreKept) (led_law : QuietGroupsAreLed) (keep_law : NodesKeepTops) (topped_law : NodesAreBornTopped) (sent_law : SentReplicas) (words : ℕ → ℕ → ℕ × ℕ) (scenario : Scenario) (first : Base) (journal front : Rows)
+    (stand_law : QuietGroupsStand) (gone_law : QuietGroupsAreGone) (rest_law : QuietReplicasRest) (kept_law : QuietReplicasAreKept) (led_law : QuietGroupsAreLed) (keep_law : NodesKeepTops) (topped_law : NodesAreBornTopped) (sent_law : SentReplicas) (there_law : FrontsAreThere) (members_law : FrontsHaveMembers) (noted_law : FrontsAreNoted) (words : ℕ → ℕ → ℕ × ℕ) (scenario : Scenario) (first : Base) (journal front : Rows)
     (q : IsQuietFront words scenario journal front) (ends : EndsQuietly scenario first front) where
   abbrev at : Draw → ℕ → Option ReplicaState
   at = replicas_after scenario front
@@ -74,14 +76,14 @@ module _ (all_bounded : ValidScenariosAreBounded) (found_law : FrontsAreFound) (
   found = found_law words scenario journal front q.calm.valid q.calm.lawful q.begins q.homes
 
   free : AreAllFree scenario front
-  free = free_law words scenario journal front q ends.there ends.still
+  free = free_law words scenario journal front q ends.still
 
   module _ (base : Base) (a : Among base (groups_at as_nodes scenario.groups front)) where
     t : IsSentThrough (logged_sets as_nodes base journal) (over_at as_nodes base journal) (tellers_at as_nodes scenario base journal) words (births as_nodes scenario) front base
     t = q.sent base (found.later base a)
 
     known : IsKnownGroup words scenario journal front base
-    known = groups_law words scenario journal front base q (found.later base a) (ends.there base a)
+    known = groups_law words scenario journal front base q (found.later base a) (there_law words scenario journal front q base a)
 
     abbrev course : Course
     course = known.course
@@ -132,13 +134,13 @@ module _ (all_bounded : ValidScenariosAreBounded) (found_law : FrontsAreFound) (
       quiet_stands =
           stands_as (replicas_at scenario front) at (λ name node. found.views name node) base.core.id
           (stand_law (tellers_at as_nodes scenario base journal) words scenario journal front base course known.quiet stands saw
-          (λ r e. linked_law words scenario journal front (tellers_at as_nodes scenario base journal) base course r q ends.there free a known.quiet stands e)).0
+          (λ r e. linked_law words scenario journal front (tellers_at as_nodes scenario base journal) base course r q free a known.quiet stands e)).0
 
     quiet_gone : course.gone ≡ true → IsGoneQuiet at base.core.id
     quiet_gone gone =
         gone_as (replicas_at scenario front) at (λ name node. found.views name node) base.core.id
         (gone_law (tellers_at as_nodes scenario base journal) words scenario journal front base course known.quiet gone
-        (λ into e. taken_law words scenario journal front (tellers_at as_nodes scenario base journal) base course into q ends.there free a known.quiet e))
+        (λ into e. taken_law words scenario journal front (tellers_at as_nodes scenario base journal) base course into q free a known.quiet e))
 
     group_quiet : StandsQuiet at base.core.id ⊎ IsGoneQuiet at base.core.id
     group_quiet = elim (cases_Bool course.gone) [ inl gone ↦ inr (quiet_gone gone) | inr stands ↦ inl (quiet_stands stands) ]
@@ -179,7 +181,7 @@ module _ (all_bounded : ValidScenariosAreBounded) (found_law : FrontsAreFound) (
       answered = ends.answered;
     };
     kept = by_name (λ n w r. IsKept n w r) kept_here;
-    noted = ends.noted;
+    noted = noted_law words scenario journal front q free;
     nodes = λ me one most. node_value keep_law topped_law scenario front me;
     players = ends.players;
     reached = ends.reached;
@@ -193,10 +195,10 @@ module _ (all_bounded : ValidScenariosAreBounded) (found_law : FrontsAreFound) (
     calm = q.quiet;
     is = journal_is;
     sent = q.sent;
-    members = q.members;
+    members = λ base among there. members_law words scenario journal front base q among there;
     still = ends.still;
-    known = known_law words scenario journal front q ends.there free;
-    reach = reach_law words scenario journal front q ends.there free;
+    known = known_law words scenario journal front q free;
+    reach = reach_law words scenario journal front q free;
     pumps = by_name (λ n w r. MayPump r) pump_here;
     rounds = ends.rounds;
     turn = ends.turn;
@@ -204,5 +206,5 @@ module _ (all_bounded : ValidScenariosAreBounded) (found_law : FrontsAreFound) (
   }
 
 pub quiet_fronts_rest : ValidScenariosAreBounded → FrontsAreFound → QuietFrontsHaveGroups → QuietLogsAreExecuted → FrontsAreKnown → FrontsAreReachable → FrontsAreTakenIn → FrontsAreLinked → StillFrontsAreFree → QuietGroupsStand → QuietGroupsAreGone → QuietReplicasRest → QuietReplicasAreKept
-    → QuietGroupsAreLed → NodesKeepTops → NodesAreBornTopped → SentReplicas → QuietFrontsRest
+    → QuietGroupsAreLed → NodesKeepTops → NodesAreBornTopped → SentReplicas → FrontsAreThere → FrontsHaveMembers → FrontsAreNoted → QuietFrontsRest
 quiet_fronts_rest = rests

@@ -106,12 +106,10 @@ module _ (found_law : FrontsAreFound) (rest_law : QuietFrontsRest) (words : ℕ 
 
   rests : RestsAt words scenario first journal front
   rests = rest_law words scenario first journal front q (record {
-    there = besides.there;
     still = still;
     done = λ name node r e runs. (let k = at_rest name node r e in (k.acts, k.calls));
     rises = λ name node r e off stands. is.quiet.rises name node r e off stands;
     rounds = besides.rounds;
-    noted = is.noted;
     clients = is.clients;
     answered = is.quiet.answered;
     players = is.players;

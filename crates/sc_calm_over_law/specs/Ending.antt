@@ -14,7 +14,7 @@ use Rattle.sc_scenario.specs.declared.scenarios.Asks.{Asks}
 use Rattle.sc_scenario.specs.declared.scenarios.Scenario.{Scenario}
 use Rattle.sc_node_table.specs.Replica.{ReplicaState}
 use Rattle.sc_sound.specs.Players.{player_table, births, client_seat, route_of, as_nodes}
-use Rattle.sc_calm_law.specs.Quiet.{HasReplica, StandsQuiet, RisesAt, IsAnswered}
+use Rattle.sc_calm_law.specs.Quiet.{HasReplica, RisesAt, IsAnswered}
 use Rattle.sc_calm_law.specs.Totals.{Rows}
 use Rattle.sc_calm_rows_law.specs.Groups.{view_at}
 use Rattle.sc_calm_orders_law.specs.Stages.{Still, IsAt}
@@ -22,21 +22,15 @@ use Rattle.sc_calm_scenes_law.specs.Scenes.{scene_at}
 use Rattle.sc_calm_charts_law.specs.Charting.{names_at, all_replicas}
 use Rattle.sc_calm_charts_law.specs.Ends.{GoInTurn}
 use Rattle.sc_budget_law.specs.AskingQuiet.{replicas_after}
-use Rattle.sc_budget_law.specs.AtRest.{frame_at_rest}
-use Rattle.sc_budget_law.specs.PlainClient.{IsBegun}
-use Rattle.sc_budget_law.specs.PlainNode.{IsPlainGroup}
 use Rattle.sc_calm_known_law.specs.Fronts.{IsQuietFront}
-use Rattle.sc_calm_known_law.specs.Known.{AreAllThere}
 use Rattle.sc_calm_journals_law.specs.Resting.{RestsAt}
 
--- Each group after the front has a replica; nothing of an order is left, and a replica that runs waits for nothing; hints rise, rounds are few, notes are begun; a client that was told to go has all replies, and all others are as at their births; the scenario's first group has a replica where clients ask first; and groups went one after another.
+-- Nothing of an order is left, and a replica that runs waits for nothing; hints rise, and rounds are few; a client that was told to go has all replies, and all others are as at their births; the scenario's first group has a replica where clients ask first; and groups went one after another.
 pub record EndsQuietly (scenario : Scenario) (first : Base) (front : Rows) : Type 0 where
-  pub there : AreAllThere scenario front
   pub still : IsAt Still (scene_at (births as_nodes scenario) front)
   pub done : (name : Draw) (node : ℕ) (r : ReplicaState) → view_at (births as_nodes scenario) front name node ≡ Some r → r.running ≡ true → (r.acts ≡ []) × (r.calls ≡ [])
   pub rises : (name : Draw) (node : ℕ) (r : ReplicaState) → replicas_after scenario front name node ≡ Some r → r.running ≡ false → r.group.core.gone ≡ None → RisesAt (replicas_after scenario front) name r
   pub rounds : (name : Draw) (node : ℕ) (r : ReplicaState) → view_at (births as_nodes scenario) front name node ≡ Some r → (1 ≤ r.top.round) × (r.top.round ≤ orders front + 1)
-  pub noted : (group : Draw) (stands : StandsQuiet (replicas_after scenario front) group) → IsPlainGroup (IsBegun scenario front) (frame_at_rest stands.lead) stands.lead.group
   pub clients : List (Bool × ClientState)
   pub answered : Each (λ client. IsAnswered client.0 (route_of first) client.1) clients
   pub players : (asks : Asks) → Among asks scenario.clients → (client : ClientState) × (value player_table (client_seat (route_of first) asks) front ≡ Client client) × (client.me ≡ asks.client) × (client.requests ≡ asks.ops)

@@ -15,13 +15,11 @@ use Rattle.sc_calm_charts_law.specs.Charting.{names_at, all_replicas}
 use Rattle.sc_calm_charts_law.specs.Ends.{GoInTurn}
 use Rattle.sc_budget_law.specs.AskingQuiet.{IsQuietJournal}
 use Rattle.sc_calm_known_law.specs.Fronts.{IsQuietFront}
-use Rattle.sc_calm_known_law.specs.Known.{AreAllThere}
 use Rattle.sc_calm_journals_law.specs.Resting.{RestsAt}
 use Rattle.sc_calm_between_law.specs.Requested.{IsKnownFront, IsRequested}
 
--- Each group after the front has a replica, errands went to players, rounds are counted from 1 on, and no more were begun behind the first than orders told, and groups went one after another.
+-- Errands went to players, rounds are counted from 1 on, and no more were begun behind the first than orders told, and groups went one after another.
 pub record RestsBesides (words : ℕ → ℕ → ℕ × ℕ) (scenario : Scenario) (front : Rows) : Type 0 where
-  pub there : AreAllThere scenario front
   pub errands : Each (GoesToActor words (births as_nodes scenario)) (mails front)
   pub rounds : (name : Draw) (node : ℕ) (r : ReplicaState) → view_at (births as_nodes scenario) front name node ≡ Some r → (1 ≤ r.top.round) × (r.top.round ≤ orders front + 1)
   pub turn : Draw → ℕ

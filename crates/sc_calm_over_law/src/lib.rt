@@ -8,8 +8,8 @@ use sc_budget_law::quiet_journals_ask;
 use sc_calm_groups_law::{nodes_are_born_topped, nodes_keep_tops, quiet_groups_are_led};
 use sc_calm_kept_law::chart_hints_rise;
 use sc_calm_known_law::{
-    fronts_are_found, fronts_are_known, fronts_are_linked, fronts_are_reachable, fronts_are_taken_in,
-    quiet_fronts_have_groups, quiet_logs_are_executed, still_fronts_are_free,
+    fronts_are_found, fronts_are_known, fronts_are_linked, fronts_are_noted, fronts_are_reachable,
+    fronts_are_taken_in, fronts_are_there, fronts_have_members, quiet_fronts_have_groups, quiet_logs_are_executed, still_fronts_are_free,
 };
 use sc_calm_requests_law::lawful_lines_leave_quiet;
 use sc_calm_rests_law::{
@@ -41,6 +41,9 @@ pub fn quiet_fronts_rest()
     nodes_keep_tops();
     nodes_are_born_topped();
     sent_replicas();
+    fronts_are_there();
+    fronts_have_members();
+    fronts_are_noted();
 }
 
 /// So does one whose players are as a quiet journal asks it.
