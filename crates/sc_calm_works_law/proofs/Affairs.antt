@@ -37,8 +37,6 @@ pub record Affair : Type 1 where
       → Parts ⊎ ((node : ℕ) → is_member (applied group command).0.core.members node ≡ true → is_member group.core.members node ≡ true)
   pub asks : (name : Draw) (core : Core) (tx : Draw) (body : Body) (order : ℕ) (heard : Option Heard) → Is name core → core.lock ≡ Coordinating tx body order heard → Parts ⊎ ((at : ℕ) × (child : Draw) × (body ≡ At.Split at child))
   pub renamed : (name id : Draw) (core : Core) → Is name core → Is name (record core { id = id })
-  pub free : (name : Draw) (core : Core) → core.lock ≡ Free → Is name core
-  pub young : (name : Draw) (base : Base) → Bears name base → base.core.lock ≡ Free
   pub begins : (name tx : Draw) (body : Body) (order : ℕ) → Does name (Begin tx body order) → Parts
   pub votes : (name tx : Draw) (offer : Offer) → Does name (Prepared tx offer) → Parts
   pub offer : (name tx : Draw) (offer : Offer) → Parts → Does name (Prepared tx offer)
@@ -46,6 +44,11 @@ pub record Affair : Type 1 where
   pub finish : (name tx : Draw) (outcome : Outcome) → Does name (Finish tx outcome)
   pub watched : (name tx : Draw) (watch : Watch) → Does name (Watched tx watch)
   pub watch : (name tx : Draw) (vote : Past) (by : ℕ) → Does name (RecordWatch tx vote by)
+
+-- .. in which a group that is free is in such a state, and children begin free
+pub record BeginsFree (a : Affair) : Type 0 where
+  pub free : (name : Draw) (core : Core) → core.lock ≡ Free → a.Is name core
+  pub young : (name : Draw) (base : Base) → a.Bears name base → base.core.lock ≡ Free
 
 -- what a mail may say then: no client asks or is answered, an entry is one that stands, and a state, an offer and a vote of a participant come only where other groups have a part
 abbrev pub Says : Affair → MailBody → Type 0

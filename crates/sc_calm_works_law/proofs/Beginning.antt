@@ -48,12 +48,12 @@ use Rattle.sc_calm_scenes_law.proofs.Fresh.{client_leaves}
 use Rattle.sc_calm_scenes_law.proofs.Taking.{now_is, all_sent}
 use Rattle.sc_calm_works_law.specs.Tasks.{Task, is_split}
 use Rattle.sc_calm_works_law.specs.Works.{AreAtWork, IsTaskOf, OrdersBeginWork}
-use Rattle.sc_calm_works_law.proofs.Affairs.{Affair, AreGood}
+use Rattle.sc_calm_works_law.proofs.Affairs.{Affair, BeginsFree, AreGood}
 use Rattle.sc_calm_works_law.proofs.Rows.{HeldSo, RowHolds}
-use Rattle.sc_calm_works_law.proofs.Tasks.{affair_by}
+use Rattle.sc_calm_works_law.proofs.Tasks.{affair_by, begins_free}
 use Rattle.sc_calm_works_law.proofs.Ordered.{order_fine}
 use Rattle.sc_calm_works_law.proofs.Fronts.{AreHeld, goes_on, held_work}
-use Rattle.sc_calm_works_law.proofs.Drawn.{drawn_nowhere}
+use Rattle.sc_calm_works_law.proofs.Drawn.{drawn_nowhere, drawn_unknown}
 
 some_is : {X : Type 0} (x y : X) → Some x ≡ Some y → x ≡ y
 some_is x y e = cc
@@ -80,13 +80,13 @@ replay_client who (row ∷ rows) player sent k =
     (either_way IsClient (eqb row.who who) (acted player_table player (input_of sent row.event)).0 player (acted_client player (input_of sent row.event) k) k)
 
 -- at one that rests nothing stands
-rest_so : (a : Affair) (name : Draw) (r : ReplicaState) → IsAtRest r → HeldSo a name r
-rest_so a name r rest = (
+rest_so : (a : Affair) (begins : BeginsFree a) (name : Draw) (r : ReplicaState) → IsAtRest r → HeldSo a name r
+rest_so a begins name r rest = (
   rest.calls,
   subst (Each (a.Does name)) (sym rest.acts) tt,
   subst (Each (λ flight. a.Does name flight.value)) (sym rest.flights) tt,
   subst (Each (λ (entry : ℕ × Command). a.Does name entry.1)) (sym rest.ready) tt,
-  a.free name r.group.core rest.free,
+  begins.free name r.group.core rest.free,
 )
 
 -- an order that splits takes a name
@@ -111,9 +111,9 @@ module _ (well : ScenariosAreWellBorn) (words : ℕ → ℕ → ℕ × ℕ) (sce
   Begins a = RowHolds a words (births as_nodes scenario) quiet seat (Told line)
 
   -- in the quiet nothing stands
-  quiet_held : (a : Affair) → AreHeld a words (births as_nodes scenario) quiet
-  quiet_held a = record {
-    replicas = λ name who r v. rest_so a name r (rests name who r v).0;
+  quiet_held : (a : Affair) → BeginsFree a → AreHeld a words (births as_nodes scenario) quiet
+  quiet_held a b = record {
+    replicas = λ name who r v. rest_so a b name r (rests name who r v).0;
     mail = λ who is.
         subst (AreGood a) (sym (quiet-empty (players words all) quiet who (in_time_tidy (players words all) quiet (in_time_before (players words all) quiet (row_of player_table seat quiet (Told line)) timely)) is calm)) tt;
   }
@@ -123,16 +123,16 @@ module _ (well : ScenariosAreWellBorn) (words : ℕ → ℕ → ℕ × ℕ) (sce
 
   finish : (task : Task) → IsTaskOf (births as_nodes scenario) quiet line task → Begins (affair_by task.splits task.group task.name) → Done
   finish task of b =
-      (task, of, held_work task words (births as_nodes scenario) (with_event quiet seat (Told line)) (goes_on (affair_by task.splits task.group task.name) words (births as_nodes scenario) quiet seat (Told line) timely b (quiet_held (affair_by task.splits task.group task.name))))
+      (task, of, held_work task words (births as_nodes scenario) (with_event quiet seat (Told line)) (goes_on (affair_by task.splits task.group task.name) words (births as_nodes scenario) quiet seat (Told line) timely b (quiet_held (affair_by task.splits task.group task.name) (begins_free task.splits task.group task.name))))
 
   -- an order of which nothing comes
   nothing : Begins (affair_by false group group) → Done
-  nothing b = finish (record { group = group; name = group; splits = false }) (record { group = refl; new = λ t. absurd (true≢false (sym t)) }) b
+  nothing b = finish (record { group = group; name = group; splits = false }) (record { group = refl; there = λ t. absurd (true≢false (sym t)); new = λ t. absurd (true≢false (sym t)); unknown = λ t. absurd (true≢false (sym t)) }) b
 
   client_begins : (client : ClientState) → value player_table seat quiet ≡ Client client → Done
   client_begins client is =
       nothing (record {
-        views = λ name r v. rest_so (affair_by false group group) name r
+        views = λ name r v. rest_so (affair_by false group group) (begins_free false group group) name r
             (rests name seat.who r (sym (client_leaves words all quiet seat (Told line) seated timely client is name (ToldInput line) refl refl).view ∙ v)).0;
         good = subst (AreGood (affair_by false group group)) (sym (sent_is all quiet seat (Told line) group seated (Client client) is (Some (ToldInput line)) refl)) tt;
       })
@@ -153,7 +153,7 @@ module _ (well : ScenariosAreWellBorn) (words : ℕ → ℕ → ℕ × ℕ) (sce
     none_begins : replica_of group node.replicas ≡ None → Done
     none_begins here =
         nothing (record {
-          views = λ name r v. rest_so (affair_by false group group) name r
+          views = λ name r v. rest_so (affair_by false group group) (begins_free false group group) name r
               (rests name seat.who r (view_of name (Some r) (sym (now_is all quiet seat (Told line) node seated is (node, told_desk node.me line.number (Refused (NotLeader None)) []) (Some (ToldInput line)) refl
               (ap (λ (x : NodeState × List Mail). (Node x.0, x.1)) (ap (λ o. ordered_of o line node) here)) name) ∙ v))).0;
           good = subst (AreGood (affair_by false group group)) (sym (all_sent all quiet seat (Told line) node seated is (node, told_desk node.me line.number (Refused (NotLeader None)) []) (Some (ToldInput line)) refl
@@ -177,11 +177,11 @@ module _ (well : ScenariosAreWellBorn) (words : ℕ → ℕ → ℕ × ℕ) (sce
       kept = subst (Found seat.who) here (found_well seat.who group node.replicas plays.1)
 
       -- what its table leaves is what stands
-      begins : (a : Affair) → HeldSo a group after.0 → AreGood a after.1 → Begins a
-      begins a h m = record {
+      begins : (a : Affair) → BeginsFree a → HeldSo a group after.0 → AreGood a after.1 → Begins a
+      begins a b h m = record {
         views = λ name x v. elim (cases-draw name group) [
           | inl i ↦ subst (HeldSo a name) (some_is after.0 x (sym row.is ∙ (ap (λ n. view_at all (with_event quiet seat (Told line)) n seat.who) (sym i) ∙ v))) (subst (λ n. HeldSo a n after.0) (sym i) h)
-          | inr ne ↦ rest_so a name x
+          | inr ne ↦ rest_so a b name x
               (rests name seat.who x (view_of name (Some x) (sym (put_others group name after.0 node.replicas (names_stay.ordered node.draws line r ∙ own) ne)
               ∙ (sym (now_is all quiet seat (Told line) node seated is (ordered_of (Some r) line node) (Some (ToldInput line)) refl (ap (λ (s : NodeState × List Mail). (Node s.0, s.1)) (ap (λ o. ordered_of o line node) here)) name) ∙ v)))).0
         ];
@@ -195,14 +195,14 @@ module _ (well : ScenariosAreWellBorn) (words : ℕ → ℕ → ℕ × ℕ) (sce
       by_taken : (o : Option OrderRefusal) → untaken node.draws line r ≡ o → Done
       by_taken (Some why) e =
           let is_ : after ≡ (r, told_desk r.me line.number (Refused why) []) = refused why e in
-          nothing (begins (affair_by false group group) (subst (λ (p : Place). HeldSo (affair_by false group group) group p.0) (sym is_) (rest_so (affair_by false group group) group r rest.0))
+          nothing (begins (affair_by false group group) (begins_free false group group) (subst (λ (p : Place). HeldSo (affair_by false group group) group p.0) (sym is_) (rest_so (affair_by false group group) (begins_free false group group) group r rest.0))
           (subst (λ (p : Place). AreGood (affair_by false group group) p.1) (sym is_) (tt, tt)))
       by_taken None e =
           let fine = order_fine node.draws line r rest.0 own rest.1 rest.2 kept.1 in
           let born = born_node seat.actor refl in
           finish (record { group = group; name = next_name node.draws; splits = is_split line.order })
-          (record { group = refl; new = λ t. drawn_nowhere words scenario quiet bounded lawful seat line born.0 born.1 seated node is r here e (split_names line.order t) })
-          (begins (affair_by (is_split line.order) group (next_name node.draws)) (fine.0.1, fine.0.2, fine.0.3, fine.0.4, fine.0.5) fine.1)
+          (record { group = refl; there = λ t. (seat.who, r, view_of group (Some r) here); unknown = λ t. drawn_unknown words scenario quiet bounded lawful seat line born.0 born.1 seated node is r here e (split_names line.order t); new = λ t. drawn_nowhere words scenario quiet bounded lawful seat line born.0 born.1 seated node is r here e (split_names line.order t) })
+          (begins (affair_by (is_split line.order) group (next_name node.draws)) (begins_free (is_split line.order) group (next_name node.draws)) (fine.0.1, fine.0.2, fine.0.3, fine.0.4, fine.0.5) fine.1)
 
     node_begins : (o : Option ReplicaState) → replica_of group node.replicas ≡ o → Done
     node_begins None here = none_begins here

@@ -1,8 +1,10 @@
 -- The name that an order draws is that of no group before it.
-use Rattle.std.proofs.Common.{◌≡◌, ℕ, zero, suc, ◌+◌, ◌≤◌, ◌&&◌, nat_le, eqb, true, List, [], ◌∷◌, map, length, Option, Some, None, inl, refl, sym, ◌∙◌, ap, subst, arith}
+use Rattle.std.proofs.Common.{◌≡◌, ℕ, zero, suc, ◌+◌, ◌≤◌, ◌&&◌, ◌||◌, nat_le, eqb, true, List, [], ◌∷◌, map, length, Option, Some, None, inl, refl, sym, ◌∙◌, ap, subst, arith, false, inr}
 use Rattle.std.specs.Prelude.{is_none}
-use Rattle.std.specs.List.{find}
-use Rattle.std.proofs.lemmas.Bool.{cond-true, le-leb, and_from}
+use Rattle.std.specs.List.{find, list_any}
+use Rattle.std.proofs.lemmas.Bool.{cases_Bool, cond-true, le-leb, and_from}
+use Rattle.sc_base.proofs.NameLemmas.{draw_is}
+use Rattle.sc_base.specs.declared.names.Draw.{Draw}
 use Rattle.sc_base.specs.Among.{Among, Each}
 use Rattle.sc_base.specs.Drawing.{next_name}
 use Rattle.sc_base.specs.Same.{same_draw}
@@ -29,7 +31,7 @@ use Rattle.sc_node_table.specs.Replica.{ReplicaState, name_of}
 use Rattle.sc_node_table.specs.Slots.{numbers_from}
 use Rattle.sc_sound.specs.Players.{Player, player_table, node_seat, client_seat, client_seats, route_of, births, as_nodes, Lawful}
 use Rattle.sc_calm_law.specs.Totals.{Rows}
-use Rattle.sc_calm_rows_law.specs.Groups.{replicas_of, replica_in}
+use Rattle.sc_calm_rows_law.specs.Groups.{view_at, replicas_of, replica_in}
 use Rattle.sc_calm_rows_law.specs.Turns.{IsSeat}
 use Rattle.sc_calm_rows_law.proofs.Turning.{found_name}
 use Rattle.sc_calm_scenes_law.specs.Fresh.{IsNowhere}
@@ -121,3 +123,23 @@ module _ (words : ℕ → ℕ → ℕ × ℕ) (scenario : Scenario) (quiet : Row
       by : (o : Option (Seat Player)) → find (λ other. eqb other.who who) (births as_nodes scenario) ≡ o → replica_in (next_name node.draws) quiet o ≡ None
       by None e = refl
       by (Some other) e = player_none (value player_table other quiet) (new.players other (find_found (λ (x : Seat Player). eqb x.who who) (births as_nodes scenario) other e).0)
+
+  -- nor does any group know it
+  none_known : (born : List Draw) → Each (λ name. name ≡ next_name node.draws → ⊥) born → list_any (λ other. same_draw other (next_name node.draws)) born ≡ false
+  none_known [] k = refl
+  none_known (name ∷ born) k = elim (cases_Bool (same_draw name (next_name node.draws))) [
+    | inl t ↦ absurd (k.0 (draw_is name (next_name node.draws) t))
+    | inr f ↦ ap (λ b. b || list_any (λ other. same_draw other (next_name node.draws)) born) f ∙ none_known born k.1
+  ]
+
+  in_player : (name : Draw) (x : ReplicaState) (player : Player) → PlayerNames (λ n. n ≡ next_name node.draws → ⊥) player → replica_of name (replicas_of player) ≡ Some x → list_any (λ other. same_draw other (next_name node.draws)) x.group.core.born ≡ false
+  in_player name x (Node other) all e =
+      none_known x.group.core.born (Each-among (ReplicaNames (λ n. n ≡ next_name node.draws → ⊥)) other.replicas x all (find_found (λ (s : ReplicaState). same_draw (name_of s) name) other.replicas x e).0).core.born
+  in_player name x (Client client) all e = cc
+
+  pub drawn_unknown : (name : Draw) (who : ℕ) (x : ReplicaState) → view_at (births as_nodes scenario) quiet name who ≡ Some x → list_any (λ other. same_draw other (next_name node.draws)) x.group.core.born ≡ false
+  drawn_unknown name who x view = by (find (λ other. eqb other.who who) (births as_nodes scenario)) refl view
+    where
+      by : (o : Option (Seat Player)) → find (λ other. eqb other.who who) (births as_nodes scenario) ≡ o → replica_in name quiet o ≡ Some x → list_any (λ other. same_draw other (next_name node.draws)) x.group.core.born ≡ false
+      by None e v = cc
+      by (Some other) e v = in_player name x (value player_table other quiet) (new.players other (find_found (λ (s : Seat Player). eqb s.who who) (births as_nodes scenario) other e).0) v

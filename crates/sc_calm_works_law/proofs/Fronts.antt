@@ -39,12 +39,13 @@ use Rattle.sc_calm_groups_law.specs.Through.{ScenariosAreWellBorn}
 use Rattle.sc_calm_scenes_law.specs.Quiet.{IsWork}
 use Rattle.sc_calm_scenes_law.specs.Taken.{IsTaking}
 use Rattle.sc_calm_scenes_law.proofs.Turning.{calm_is}
-use Rattle.sc_calm_works_law.specs.Tasks.{Task, Does, DoesBy, Bears, IsAtWork, SaysWork}
+use Rattle.sc_calm_works_law.specs.Tasks.{Task, Does, DoesBy, BearsBy, IsAtWork, SaysWork}
 use Rattle.sc_calm_works_law.specs.Works.{AreAtWork, IsGuidedRow, DeliveriesKeepWork, WorkStandsAlone}
-use Rattle.sc_calm_works_law.proofs.Affairs.{Affair, Says, IsGood, AreGood}
+use Rattle.sc_calm_works_law.proofs.Affairs.{Affair, BeginsFree, Says, IsGood, AreGood}
 use Rattle.sc_calm_works_law.proofs.Places.{Kids}
-use Rattle.sc_calm_works_law.proofs.Rows.{HeldSo, RowHolds, delivery_holds, delivery_bears}
-use Rattle.sc_calm_works_law.proofs.Tasks.{affair_by}
+use Rattle.sc_calm_works_law.proofs.Rows.{HeldSo, RowHolds, delivery_holds, delivery_bears, delivery_unborn}
+use Rattle.sc_calm_works_law.proofs.Unborn.{IsUnborn, kid_unborn}
+use Rattle.sc_calm_works_law.proofs.Tasks.{affair_by, begins_free}
 
 some_is : {X : Type 0} (x y : X) → Some x ≡ Some y → x ≡ y
 some_is x y e = cc
@@ -95,7 +96,7 @@ module _ (words : ℕ → ℕ → ℕ × ℕ) (births : List (Seat Player)) (row
   pub taken_mail : (mail : Mail) × (numbered (mails rows) number ≡ Some mail)
   taken_mail = (first.mail, first.sent)
 
-module _ (well : ScenariosAreWellBorn) (a : Affair) (words : ℕ → ℕ → ℕ × ℕ) (scenario : Scenario) (rows : Rows) (seat : Seat Player) (number : ℕ) (g : IsGuidedRow words scenario rows seat number) (k : AreHeld a words (births as_nodes scenario) rows) where
+module _ (well : ScenariosAreWellBorn) (a : Affair) (begins : BeginsFree a) (words : ℕ → ℕ → ℕ × ℕ) (scenario : Scenario) (rows : Rows) (seat : Seat Player) (number : ℕ) (g : IsGuidedRow words scenario rows seat number) (k : AreHeld a words (births as_nodes scenario) rows) where
   abbrev all : List (Seat Player)
   all = births as_nodes scenario
 
@@ -106,11 +107,11 @@ module _ (well : ScenariosAreWellBorn) (a : Affair) (words : ℕ → ℕ → ℕ
   keeps =
       let t = taken_mail words (births as_nodes scenario) rows seat number g.seated g.timely in
       goes_on a words (births as_nodes scenario) rows seat (Deliver number) g.timely
-      (delivery_holds well a words scenario rows seat number g.seated g.timely g.finds g.groups (λ name r v. k.replicas name seat.who r v) t.0 t.1 (good_mail t.0 t.1)) k
+      (delivery_holds well a begins words scenario rows seat number g.seated g.timely g.finds g.groups (λ name r v. k.replicas name seat.who r v) t.0 t.1 (good_mail t.0 t.1)) k
 
   pub bears : (mail : Mail) (group : Draw) (node : NodeState) (r : ReplicaState) → IsTaking words (births as_nodes scenario) rows seat number mail group node → replica_of group node.replicas ≡ Some r → Kids a group (mailed mail.from mail.body (r, [])).1
   bears mail group node r t here =
-      delivery_bears well a words scenario rows seat number g.seated g.timely g.finds g.groups (λ name r v. k.replicas name seat.who r v) mail t.sent (good_mail mail t.sent) group node r t here
+      delivery_bears well a begins words scenario rows seat number g.seated g.timely g.finds g.groups (λ name r v. k.replicas name seat.who r v) mail t.sent (good_mail mail t.sent) group node r t here
 
 -- ---- of a task
 
@@ -195,9 +196,16 @@ held_back : (b : Bool) (told child name : Draw) (r : ReplicaState) → HeldSo (a
 held_back true told child name r k = record { calls = k.0; acts = k.1; flights = k.2; ready = k.3; state = k.4 }
 held_back false told child name r k = record { calls = k.0; acts = k.1; flights = k.2; ready = k.3; state = k.4 }
 
-kids_back : (b : Bool) (told child name : Draw) (made : List Base) → Kids (affair_by b told child) name made → Each (Bears (record { group = told; name = child; splits = b }) name) made
-kids_back true told child name made k = k
-kids_back false told child name made k = k
+-- .. which its group did not know
+module _ (well : ScenariosAreWellBorn) (words : ℕ → ℕ → ℕ × ℕ) (scenario : Scenario) (rows : Rows) (seat : Seat Player) (number : ℕ) (g : IsGuidedRow words scenario rows seat number) where
+  unborn_by : (b : Bool) (told child : Draw) → AreHeld (affair_by b told child) words (births as_nodes scenario) rows → (mail : Mail) (group : Draw) (node : NodeState) (r : ReplicaState) → IsTaking words (births as_nodes scenario) rows seat number mail group node
+      → replica_of group node.replicas ≡ Some r → Each (λ (kid : Base). BearsBy b told child group kid × IsUnborn r.group.core.born kid) (mailed mail.from mail.body (r, [])).1
+  unborn_by true told child k mail group node r t here =
+      delivery_unborn well (affair_by true told child) (begins_free true told child) words scenario rows seat number g.seated g.timely g.finds g.groups (λ name x v. k.replicas name seat.who x v) mail t.sent (good_mail well (affair_by true told child) (begins_free true told child) words scenario rows seat number g k mail t.sent)
+      (λ name x command kid s e. kid_unborn told child name x command kid s e) group node r t here
+  unborn_by false told child k mail group node r t here =
+      Each-weaker (λ (kid : Base). BearsBy false told child group kid) (λ (kid : Base). BearsBy false told child group kid × IsUnborn r.group.core.born kid) (λ kid bad. absurd bad) (mailed mail.from mail.body (r, [])).1
+      (bears well (affair_by false told child) (begins_free false told child) words scenario rows seat number g k mail group node r t here)
 
 module _ (task : Task) (words : ℕ → ℕ → ℕ × ℕ) (births : List (Seat Player)) (rows : Rows) where
   pub work_held : AreAtWork task words births rows → AreHeld (affair_by task.splits task.group task.name) words births rows
@@ -215,10 +223,9 @@ module _ (task : Task) (words : ℕ → ℕ → ℕ × ℕ) (births : List (Seat
 pub deliveries_keep : ScenariosAreWellBorn → DeliveriesKeepWork
 deliveries_keep well = record {
   keeps = λ words scenario rows seat number task g k.
-      held_work task words (births as_nodes scenario) (with_event rows seat (Deliver number)) (keeps well (affair_by task.splits task.group task.name) words scenario rows seat number g (work_held task words (births as_nodes scenario) rows k));
+      held_work task words (births as_nodes scenario) (with_event rows seat (Deliver number)) (keeps well (affair_by task.splits task.group task.name) (begins_free task.splits task.group task.name) words scenario rows seat number g (work_held task words (births as_nodes scenario) rows k));
   bears = λ words scenario rows seat number task g k mail group node r t here.
-      kids_back task.splits task.group task.name group (mailed mail.from mail.body (r, [])).1
-      (bears well (affair_by task.splits task.group task.name) words scenario rows seat number g (work_held task words (births as_nodes scenario) rows k) mail group node r t here);
+      unborn_by well words scenario rows seat number g task.splits task.group task.name (work_held task words (births as_nodes scenario) rows k) mail group node r t here;
   unasked = λ words births rows seat number task born timely k mail group client seq op at e.
       subst (SaysWork task) e (takes_one words births rows seat number born timely (λ (m : Mail). SaysWork task m.body) (k.mail seat.who (is_born-from (players words births) seat.who seat born)) mail at);
   unanswered = λ words births rows seat number task born timely k mail group seq answer at e.

@@ -3,6 +3,8 @@ pub mod Saying
 pub mod Places
 pub mod Taking
 pub mod Tasks
+pub mod Births
+pub mod Unborn
 pub mod Rows
 pub mod Ordered
 pub mod Fronts

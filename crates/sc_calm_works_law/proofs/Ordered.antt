@@ -30,10 +30,10 @@ use Rattle.sc_node_table.specs.Replica.{ReplicaState, Place, name_of, next, sett
 use Rattle.sc_node_table.specs.Slots.{slots_ahead, at_slot}
 use Rattle.sc_calm_law.specs.Quiet.{IsAtRest}
 use Rattle.sc_calm_works_law.specs.Tasks.{is_split}
-use Rattle.sc_calm_works_law.proofs.Affairs.{Affair}
+use Rattle.sc_calm_works_law.proofs.Affairs.{Affair, BeginsFree}
 use Rattle.sc_calm_works_law.proofs.Saying.{one_sent}
 use Rattle.sc_calm_works_law.proofs.Places.{Held, Fine, must_open, slot_offered, from_pumps}
-use Rattle.sc_calm_works_law.proofs.Tasks.{affair_by}
+use Rattle.sc_calm_works_law.proofs.Tasks.{affair_by, begins_free}
 
 -- its command stands at its group
 pub order_does : (name : Draw) (number : ℕ) (order : Order) → (affair_by (is_split order) (group_of_order order) name).Does (group_of_order order) (ordered_command name number order)
@@ -77,7 +77,7 @@ one_found me idle core command mails N w t n =
     subst (λ b. N (cond b (None, command ∷ [], mails) (elim (turned_down core command) [ None ↦ (Some command, [], mails) | Some answer ↦ next_call me idle core [] (answered me core.id answer command mails) ]))) (sym w)
     (subst (λ (o : Option AnswerBody). N (elim o [ None ↦ (Some command, [], mails) | Some answer ↦ next_call me idle core [] (answered me core.id answer command mails) ])) (sym t) n)
 
-module _ (a : Affair) (g : Draw) (r : ReplicaState) (rest : IsAtRest r) (named : name_of r ≡ g) (plain : r.running ≡ true → r.leader.reports ≡ []) (low : next r ≤ last_slot) (many : length r.sets ≡ slots_ahead) (command : Command) (does : a.Does g command)
+module _ (a : Affair) (begins : BeginsFree a) (g : Draw) (r : ReplicaState) (rest : IsAtRest r) (named : name_of r ≡ g) (plain : r.running ≡ true → r.leader.reports ≡ []) (low : next r ≤ last_slot) (many : length r.sets ≡ slots_ahead) (command : Command) (does : a.Does g command)
     (goes : (waits true Free command ≡ false) × (turned_down r.group.core command ≡ None)) where
   held : Held a g r
   held = (
@@ -86,7 +86,7 @@ module _ (a : Affair) (g : Draw) (r : ReplicaState) (rest : IsAtRest r) (named :
     subst (Each (a.Does g)) (sym rest.acts) tt,
     subst (Each (λ flight. a.Does g flight.value)) (sym rest.flights) tt,
     subst (Each (λ (entry : ℕ × Command). a.Does g entry.1)) (sym rest.ready) tt,
-    a.free g r.group.core rest.free,
+    begins.free g r.group.core rest.free,
     plain,
   )
 
@@ -166,10 +166,10 @@ order_fine drawer line r rest named plain low many = by (untaken drawer line r) 
 
     by : (o : Option OrderRefusal) → untaken drawer line r ≡ o → Fine (affair_by (is_split line.order) (group_of_order line.order) (next_name drawer)) (group_of_order line.order) (taken_or_told o line.number (ordered_command (next_name drawer) line.number line.order) (r, []))
     by (Some why) e = (
-      held (affair_by (is_split line.order) (group_of_order line.order) (next_name drawer)) (group_of_order line.order) r rest named plain low many (ordered_command (next_name drawer) line.number line.order) (order_does (next_name drawer) line.number line.order)
+      held (affair_by (is_split line.order) (group_of_order line.order) (next_name drawer)) (begins_free (is_split line.order) (group_of_order line.order) (next_name drawer)) (group_of_order line.order) r rest named plain low many (ordered_command (next_name drawer) line.number line.order) (order_does (next_name drawer) line.number line.order)
           (order_goes (next_name drawer) line.number line.order r.group.core),
       one_sent (affair_by (is_split line.order) (group_of_order line.order) (next_name drawer)) r.me 0 (Told line.number (Refused why)) [] tt tt,
     )
     by None e =
-        pump_offers (affair_by (is_split line.order) (group_of_order line.order) (next_name drawer)) (group_of_order line.order) r rest named plain low many (ordered_command (next_name drawer) line.number line.order) (order_does (next_name drawer) line.number line.order)
+        pump_offers (affair_by (is_split line.order) (group_of_order line.order) (next_name drawer)) (begins_free (is_split line.order) (group_of_order line.order) (next_name drawer)) (group_of_order line.order) r rest named plain low many (ordered_command (next_name drawer) line.number line.order) (order_does (next_name drawer) line.number line.order)
         (order_goes (next_name drawer) line.number line.order r.group.core) (settled_by (is_some r.group.core.gone) (settled r) (NotLeader r.hint) _ e)

@@ -57,8 +57,11 @@ use Rattle.sc_calm_scenes_law.specs.Found.{FindsOrder, FindsReplica, AtLeader, A
 use Rattle.sc_calm_scenes_law.specs.Taken.{IsTaking}
 use Rattle.sc_calm_scenes_law.proofs.Fresh.{client_leaves, got_nothing, unknown_apart}
 use Rattle.sc_calm_scenes_law.proofs.Taking.{OneOf, all_children, all_sent, each_is, now_is}
-use Rattle.sc_calm_works_law.proofs.Affairs.{Affair, Says, IsGood, AreGood}
+use Rattle.sc_calm_works_law.proofs.Affairs.{Affair, BeginsFree, Says, IsGood, AreGood}
 use Rattle.sc_calm_works_law.proofs.Places.{Held, AllDo, Fly, Wait, Fine, Kids}
+use Rattle.sc_machine_table.specs.Children.{child_by}
+use Rattle.sc_machine_table.specs.Group.{Group}
+use Rattle.sc_calm_works_law.proofs.Unborn.{IsUnborn, made_unborn}
 use Rattle.sc_calm_works_law.proofs.Taking.{Hears, mailed_fine, mailed_kids, made_fine}
 
 none_some : {X : Type 0} {x : X} → None ≡ Some x → ⊥
@@ -108,7 +111,7 @@ module _ (a : Affair) (words : ℕ → ℕ → ℕ × ℕ) (births : List (Seat 
   abbrev pub Holds : Type 0
   Holds = (name : Draw) (r : ReplicaState) → view_at births rows name seat.who ≡ Some r → HeldSo a name r
 
-module _ (well : ScenariosAreWellBorn) (a : Affair) (words : ℕ → ℕ → ℕ × ℕ) (scenario : Scenario) (rows : Rows) (seat : Seat Player) (number : ℕ) (born : IsSeat (births as_nodes scenario) seat) (timely : AreInTime (players words (births as_nodes scenario)) (with_event rows seat (Deliver number)))
+module _ (well : ScenariosAreWellBorn) (a : Affair) (begins : BeginsFree a) (words : ℕ → ℕ → ℕ × ℕ) (scenario : Scenario) (rows : Rows) (seat : Seat Player) (number : ℕ) (born : IsSeat (births as_nodes scenario) seat) (timely : AreInTime (players words (births as_nodes scenario)) (with_event rows seat (Deliver number)))
     (finds : FindsOrder words (births as_nodes scenario) rows seat (Deliver number))
     (groups : (name : Draw) (node : ℕ) (r : ReplicaState) → view_at (births as_nodes scenario) rows name node ≡ Some r → IsNamedGuide words (births as_nodes scenario) rows seat (Deliver number) name)
     (has : Holds a words (births as_nodes scenario) rows seat (Deliver number)) (mail : Mail) (at : numbered (mails rows) number ≡ Some mail) (good : IsGood a mail) where
@@ -245,6 +248,9 @@ module _ (well : ScenariosAreWellBorn) (a : Affair) (words : ℕ → ℕ → ℕ
         pub kids : Kids a group made.1
         kids = mailed_kids a group mail.from mail.body r [] (hears mail.body refl good) (held, tt)
 
+        pub new_kids : ((name : Draw) (x : Group) (command : Command) (kid : Base) → a.Is name x.core → child_by x command ≡ Some kid → IsUnborn x.core.born kid) → Each (λ (kid : Base). a.Bears group kid × IsUnborn r.group.core.born kid) made.1
+        new_kids unborn = made_unborn a unborn group r mail.from mail.body (hears mail.body refl good) held
+
         abbrev put : NodeState
         put = record node { replicas = with_replica group made.0.0 node.replicas }
 
@@ -257,8 +263,8 @@ module _ (well : ScenariosAreWellBorn) (a : Affair) (words : ℕ → ℕ → ℕ
             by : OneOf name seat.who made.1 (replica_of name (with_children made.1 put).replicas) (replica_of name put.replicas) → HeldSo a name x
             by (inl e) = had name x (sym (put_others group name made.0.0 node.replicas (names_stay.mailed mail.from mail.body r ∙ own) ne) ∙ (sym e ∙ v))
             by (inr (child, among, id, none, made_so)) =
-                let free = a.young group child (each_is (a.Bears group) made.1 child kids among) in
-                subst (HeldSo a name) (some_is (born_replica slots_ahead seat.who child) x (sym made_so ∙ v)) (refl, tt, tt, tt, a.free name child.core free)
+                let free = begins.young group child (each_is (a.Bears group) made.1 child kids among) in
+                subst (HeldSo a name) (some_is (born_replica slots_ahead seat.who child) x (sym made_so ∙ v)) (refl, tt, tt, tt, begins.free name child.core free)
 
         takes_it : Done
         takes_it = record {
@@ -345,3 +351,8 @@ module _ (well : ScenariosAreWellBorn) (a : Affair) (words : ℕ → ℕ → ℕ
   -- and each child that a replica makes is one that it may bear
   pub delivery_bears : (group : Draw) (node : NodeState) (r : ReplicaState) (t : IsTaking words (births as_nodes scenario) rows seat number mail group node) → replica_of group node.replicas ≡ Some r → Kids a group (mailed mail.from mail.body (r, [])).1
   delivery_bears group node r t here = kids node t.is_node group t r here (groups group seat.who r (view_of node t.is_node group (Some r) here))
+
+  -- .. of a name that the group did not know
+  pub delivery_unborn : ((name : Draw) (x : Group) (command : Command) (kid : Base) → a.Is name x.core → child_by x command ≡ Some kid → IsUnborn x.core.born kid)
+      → (group : Draw) (node : NodeState) (r : ReplicaState) (t : IsTaking words (births as_nodes scenario) rows seat number mail group node) → replica_of group node.replicas ≡ Some r → Each (λ (kid : Base). a.Bears group kid × IsUnborn r.group.core.born kid) (mailed mail.from mail.body (r, [])).1
+  delivery_unborn unborn group node r t here = new_kids node t.is_node group t r here (groups group seat.who r (view_of node t.is_node group (Some r) here)) unborn

@@ -39,7 +39,7 @@ use Rattle.sc_machine_table.specs.Votes.{has_voted, bound_by, watched, vote_of, 
 use Rattle.sc_paxos_law.proofs.Among.{among-member, member-among}
 use Rattle.sc_group_law.proofs.Rosters.{ordered_if}
 use Rattle.sc_calm_works_law.specs.Tasks.{IsNoSplit, DoesSplit, DoesOther, DoesBy, SplitsInto, LockSplits, LockOther, IsBy, BearsBy}
-use Rattle.sc_calm_works_law.proofs.Affairs.{Affair}
+use Rattle.sc_calm_works_law.proofs.Affairs.{Affair, BeginsFree}
 
 none_some : {X P : Type 0} {x : X} → None ≡ Some x → P
 none_some e = absurd (let bad : None ≡ Some _ = e in cc)
@@ -382,8 +382,6 @@ affair_by true told child = record {
   adds = λ name group command s d. inr (split_adds group told child name command s d);
   asks = λ name core tx body order heard s e. inr (split_asks told child name core.born tx body order heard core.lock s e);
   renamed = λ name id core s. s;
-  free = λ name core e. lock_free told child name core e;
-  young = λ name base b. b.2;
   begins = λ name tx body order d. d;
   votes = λ name tx offer d. d;
   offer = λ name tx offer p. absurd p;
@@ -403,8 +401,6 @@ affair_by false told child = record {
   adds = λ name group command s d. inl tt;
   asks = λ name core tx body order heard s e. inl tt;
   renamed = λ name id core s. s;
-  free = λ name core e. subst LockOther (sym e) tt;
-  young = λ name base b. absurd b;
   begins = λ name tx body order d. tt;
   votes = λ name tx offer d. tt;
   offer = λ name tx offer p. tt;
@@ -413,3 +409,7 @@ affair_by false told child = record {
   watched = λ name tx watch. tt;
   watch = λ name tx vote by. tt;
 }
+
+pub begins_free : (b : Bool) (told child : Draw) → BeginsFree (affair_by b told child)
+begins_free true told child = record { free = λ name core e. lock_free told child name core e; young = λ name base b. b.2 }
+begins_free false told child = record { free = λ name core e. subst LockOther (sym e) tt; young = λ name base b. absurd b }

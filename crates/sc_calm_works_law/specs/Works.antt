@@ -1,5 +1,7 @@
 -- What stands at groups in each front while an order is under way, from the order on.
-use Rattle.std.specs.Prelude.{◌≡◌, ℕ, ◌≤◌, true, List, [], Some}
+use Rattle.std.specs.Prelude.{◌≡◌, ℕ, ◌≤◌, true, false, List, [], Some}
+use Rattle.std.specs.List.{list_any}
+use Rattle.sc_base.specs.Same.{same_draw}
 use Rattle.sc_base.specs.Among.{Each}
 use Rattle.sc_base.specs.declared.names.Draw.{Draw}
 use Rattle.sc_base.specs.declared.ops.Op.{Op}
@@ -25,7 +27,7 @@ use Rattle.sc_calm_law.specs.Totals.{Rows}
 use Rattle.sc_calm_rows_law.specs.Groups.{view_at}
 use Rattle.sc_calm_rows_law.specs.Turns.{IsSeat, with_event}
 use Rattle.sc_calm_scenes_law.specs.Found.{FindsOrder}
-use Rattle.sc_calm_scenes_law.specs.Fresh.{IsNowhere}
+use Rattle.sc_calm_scenes_law.specs.Fresh.{IsThere, IsNowhere}
 use Rattle.sc_calm_scenes_law.specs.Taken.{IsTaking}
 use Rattle.sc_calm_found_law.specs.Guided.{IsNamedGuide, WaitsForFlights}
 use Rattle.sc_calm_found_law.specs.Votes.{IsOrdersAlone}
@@ -36,10 +38,12 @@ pub record AreAtWork (task : Task) (words : ℕ → ℕ → ℕ × ℕ) (births 
   pub replicas : (name : Draw) (who : ℕ) (r : ReplicaState) → view_at births rows name who ≡ Some r → IsAtWork task name r
   pub mail : (who : ℕ) → is_born (players words births) who ≡ true → Each (λ mail. SaysWork task mail.body) (rest (players words births) rows who)
 
--- what an order that is told after these rows is to do: at its own group; and where it splits that, no group had the name that it draws
+-- what an order that is told after these rows is to do: at its own group; and where it splits that, the group is there, and no group had the name that it draws, or knew it for a child's
 pub record IsTaskOf (births : List (Seat Player)) (quiet : Rows) (line : OrderLine) (task : Task) : Type 0 where
   pub group : task.group ≡ group_of_order line.order
+  pub there : task.splits ≡ true → IsThere births quiet task.group
   pub new : task.splits ≡ true → IsNowhere births quiet task.name
+  pub unknown : task.splits ≡ true → (name : Draw) (who : ℕ) (r : ReplicaState) → view_at births quiet name who ≡ Some r → list_any (λ other. same_draw other task.name) r.group.core.born ≡ false
 
 -- An order is told in a quiet journal, in which each replica rests, and one that runs has counted no reports and has slots left: so it stands at its group, or is refused.
 abbrev pub OrdersBeginWork : Type 0
@@ -56,13 +60,13 @@ pub record IsGuidedRow (words : ℕ → ℕ → ℕ × ℕ) (scenario : Scenario
   pub finds : FindsOrder words (births as_nodes scenario) rows seat (Deliver number)
   pub groups : (name : Draw) (node : ℕ) (r : ReplicaState) → view_at (births as_nodes scenario) rows name node ≡ Some r → IsNamedGuide words (births as_nodes scenario) rows seat (Deliver number) name
 
--- So it does after each delivery; children that are made are those that the order may make; and no request and no answer is delivered.
+-- So it does after each delivery; children that are made are those that the order may make, which their group did not know; and no request and no answer is delivered.
 pub record DeliveriesKeepWork : Type 0 where
   pub keeps : (words : ℕ → ℕ → ℕ × ℕ) (scenario : Scenario) (rows : Rows) (seat : Seat Player) (number : ℕ) (task : Task) → IsGuidedRow words scenario rows seat number → AreAtWork task words (births as_nodes scenario) rows
       → AreAtWork task words (births as_nodes scenario) (with_event rows seat (Deliver number))
   pub bears : (words : ℕ → ℕ → ℕ × ℕ) (scenario : Scenario) (rows : Rows) (seat : Seat Player) (number : ℕ) (task : Task) → IsGuidedRow words scenario rows seat number → AreAtWork task words (births as_nodes scenario) rows
       → (mail : Mail) (group : Draw) (node : NodeState) (r : ReplicaState) → IsTaking words (births as_nodes scenario) rows seat number mail group node → replica_of group node.replicas ≡ Some r
-      → Each (Bears task group) (mailed mail.from mail.body (r, [])).1
+      → Each (λ child. Bears task group child × (list_any (λ other. same_draw other child.core.id) r.group.core.born ≡ false)) (mailed mail.from mail.body (r, [])).1
   pub unasked : (words : ℕ → ℕ → ℕ × ℕ) (births : List (Seat Player)) (rows : Rows) (seat : Seat Player) (number : ℕ) (task : Task) → IsSeat births seat → AreInTime (players words births) (with_event rows seat (Deliver number)) → AreAtWork task words births rows
       → (mail : Mail) (group : Draw) (client seq : ℕ) (op : Op) → numbered (mails rows) number ≡ Some mail → mail.body ≡ Request group client seq op → ⊥
   pub unanswered : (words : ℕ → ℕ → ℕ × ℕ) (births : List (Seat Player)) (rows : Rows) (seat : Seat Player) (number : ℕ) (task : Task) → IsSeat births seat → AreInTime (players words births) (with_event rows seat (Deliver number)) → AreAtWork task words births rows

@@ -1,6 +1,6 @@
 -- What is under way for groups while an order is, and which children it makes.
 use Rattle.std.proofs.Common.{◌≡◌, ◌⊎◌, ℕ, eqb, Bool, true, false, List, [], ◌∷◌, ◌++◌, Option, Some, None, inl, inr, refl, sym, ◌∙◌, ap, subst, append_assoc, cond}
-use Rattle.std.specs.List.{find}
+use Rattle.std.specs.List.{find, list_any}
 use Rattle.std.proofs.lemmas.Bool.{cases_Bool, eqb-true}
 use Rattle.sc_base.specs.Among.{Each}
 use Rattle.sc_base.specs.Same.{same_draw}
@@ -13,7 +13,7 @@ use Rattle.sc_mail.specs.declared.bodies.MailBody.TheVariants.{Request, Answer, 
 use Rattle.sc_actor.specs.declared.actors.Seat.{Seat}
 use Rattle.sc_orderly_law.specs.Orderly.{is_born, rest}
 use Rattle.sc_orderly_law.specs.Timely.{AreInTime}
-use Rattle.sc_paxos_words.proofs.ListLemmas.{Each-among, find_found}
+use Rattle.sc_paxos_words.proofs.ListLemmas.{Each-among, Each-weaker, find_found}
 use Rattle.sc_node_table.specs.Node.{group_of_mail}
 use Rattle.sc_node_table.specs.Replica.{ReplicaState, listed}
 use Rattle.sc_node_table.specs.Rows.{mailed}
@@ -24,7 +24,7 @@ use Rattle.sc_following_law.specs.Following.{Mark, named_mark, mark_of, marks_of
 use Rattle.sc_calm_mail_law.specs.Lasting.{ReplicasLast}
 use Rattle.sc_calm_rows_law.specs.Groups.{view_at, replica_in, marks_at}
 use Rattle.sc_calm_scenes_law.specs.Fresh.{IsThere, IsNowhere}
-use Rattle.sc_calm_works_law.specs.Tasks.{BearsBy}
+use Rattle.sc_calm_works_law.specs.Tasks.{Bears, BearsBy}
 use Rattle.sc_calm_works_law.specs.Works.{DeliveriesKeepWork}
 use Rattle.sc_calm_young_law.specs.Children.{GroupsAreQuietWhileYoung, ChildrenWereNowhere}
 use Rattle.sc_calm_young_law.proofs.Staying.{IsNoneFor}
@@ -119,4 +119,5 @@ children_of false told child name P p (base ∷ made) k = absurd k.0
 pub children_were : DeliveriesKeepWork → ChildrenWereNowhere
 children_were keeps words scenario quiet rows seat number line task of row work mail group node r t here =
     children_of task.splits task.group task.name group (λ child. IsNowhere (births as_nodes scenario) quiet child.core.id) (λ on base is. subst (IsNowhere (births as_nodes scenario) quiet) (sym is) (of.new on)) (mailed mail.from mail.body (r, [])).1
-    (keeps.bears words scenario rows seat number task row work mail group node r t here)
+    (Each-weaker (λ (child : Base). Bears task group child × (list_any (λ other. same_draw other child.core.id) r.group.core.born ≡ false)) (λ (child : Base). BearsBy task.splits task.group task.name group child) (λ child k. k.0) (mailed mail.from mail.body (r, [])).1
+    (keeps.bears words scenario rows seat number task row work mail group node r t here))
