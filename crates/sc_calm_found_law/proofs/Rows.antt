@@ -17,7 +17,7 @@ use Rattle.sc_calm_found_law.proofs.Votes.{votes_found}
 use Rattle.sc_calm_found_law.specs.Beside.{IsHere}
 use Rattle.sc_calm_found_law.specs.Guided.{IsGuided, IsNamedGuide}
 use Rattle.sc_calm_found_law.specs.Missed.{IsYoung}
-use Rattle.sc_calm_found_law.specs.Rows.{IsOrdersRow, IsToldCalmly, OrdersRowsFind}
+use Rattle.sc_calm_found_law.specs.Rows.{IsOrdersRow, IsToldCalmly, MakesYoung, OrdersRowsFind, OrdersRowsMeet}
 use Rattle.sc_calm_groups_law.proofs.Keeping.{replicas_kept, scenarios_kept_born}
 use Rattle.sc_calm_groups_law.specs.Kept.{IsKeptPlayer}
 use Rattle.sc_calm_groups_law.specs.Slots.{IsSlotKept}
@@ -116,16 +116,13 @@ module _ (words : ℕ → ℕ → ℕ × ℕ) (scenario : Scenario) (rows : Rows
           | inr off ↦ AtAnother (besides_found.beside words all rows seat number mail base node r h off) (besides_found.finds words all rows seat number mail base node r h off (sent_so number mail t.sent) u)
         ]
 
-    here_found : (group : Draw) → IsTaking words (births as_nodes scenario) rows seat number mail group node → replica_of group node.replicas ≡ Some r
-        → Each (MayBear (births as_nodes scenario) rows seat) (mailed mail.from mail.body (r, [])).1 × FindsReplica (births as_nodes scenario) rows seat number mail group r
+    here_found : (group : Draw) → IsTaking words (births as_nodes scenario) rows seat number mail group node → replica_of group node.replicas ≡ Some r → FindsReplica (births as_nodes scenario) rows seat number mail group r
     here_found group t here =
         let view : view_at all rows group seat.who ≡ Some r = view_was all rows seat Go group t.seated (Node node) t.is_node ∙ here in
         let guide : IsNamedGuide words all rows seat (Deliver number) group = subst (λ e. IsNamedGuide words all rows seat e group) is (q.groups group seat.who r view) in
-        let name = sym guide.named in (
-          each_so (IsYoung words all rows seat) (MayBear all rows seat) (λ child. young_may words all rows seat child) (mailed mail.from mail.body (r, [])).1 (q.children number mail group node r is t here),
-          subst (λ n. FindsReplica all rows seat number mail n r) guide.named
-              (at_base guide.base guide.guided (subst (λ n. IsTaking words all rows seat number mail n node) name t) (subst (λ n. replica_of n node.replicas ≡ Some r) name here)),
-        )
+        let name = sym guide.named in
+        subst (λ n. FindsReplica all rows seat number mail n r) guide.named
+        (at_base guide.base guide.guided (subst (λ n. IsTaking words all rows seat number mail n node) name t) (subst (λ n. replica_of n node.replicas ≡ Some r) name here))
 
   missed : (number : ℕ) (mail : Mail) (group : Draw) (node : NodeState) → event ≡ Deliver number → IsTaking words (births as_nodes scenario) rows seat number mail group node → NodeFinds (births as_nodes scenario) rows seat number mail group mail.body
   missed number mail group node is t =
@@ -156,15 +153,24 @@ module _ (words : ℕ → ℕ → ℕ × ℕ) (scenario : Scenario) (rows : Rows
         | inr off ↦ (let b = besides_found.told words all rows seat line node guide.base r g o guide.named off in ByAnother b.1.0 b.0 b.1.1)
       ]
 
-  finds : FindsOrder words (births as_nodes scenario) rows seat event
-  finds = record {
+  finds : MakesYoung words scenario rows seat event → FindsOrder words (births as_nodes scenario) rows seat event
+  finds young = record {
     client = q.clients;
     me_is = me_is;
     barred = λ node number mail is at sent none. absurd (true≢false (sym (may_so number mail sent) ∙ none));
-    here = λ number mail group node r is t here. here_found number mail node r is group t here;
+    here = λ number mail group node r is t here. (
+      each_so (IsYoung words all rows seat) (MayBear all rows seat) (λ child. young_may words all rows seat child) (mailed mail.from mail.body (r, [])).1 (young number mail group node r is t here),
+      here_found number mail node r is group t here,
+    );
     missed = λ number mail group node is t none. missed number mail group node is t;
     told = told;
   }
 
+pub orders_rows_meet : OrdersRowsMeet
+orders_rows_meet words scenario rows seat number q = record {
+  here = λ mail group node r t here. here_found words scenario rows seat (Deliver number) q number mail node r refl group t here;
+  missed = λ mail group node t none. missed words scenario rows seat (Deliver number) q number mail group node refl t;
+}
+
 pub orders_rows_find : OrdersRowsFind
-orders_rows_find words scenario rows seat event q = finds words scenario rows seat event q
+orders_rows_find words scenario rows seat event q young = finds words scenario rows seat event q young

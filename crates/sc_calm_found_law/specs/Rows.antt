@@ -19,7 +19,7 @@ use Rattle.sc_calm_law.specs.Totals.{Rows}
 use Rattle.sc_calm_orders_law.specs.Stages.{IsUnderWay}
 use Rattle.sc_calm_rows_law.specs.Groups.{marks_at, view_at}
 use Rattle.sc_calm_rows_law.specs.Turns.{IsSeat, with_event}
-use Rattle.sc_calm_scenes_law.specs.Found.{FindsOrder}
+use Rattle.sc_calm_scenes_law.specs.Found.{FindsOrder, FindsReplica, NodeFinds}
 use Rattle.sc_calm_scenes_law.specs.Fresh.{IsThere}
 use Rattle.sc_calm_scenes_law.specs.Quiet.{GoesToActor}
 use Rattle.sc_calm_scenes_law.specs.Scenes.{errand_taken, scene_at}
@@ -47,7 +47,7 @@ pub record IsToldCalmly (words : ℕ → ℕ → ℕ × ℕ) (births : List (Sea
   pub strangers : (name : Draw) (who : ℕ) → is_born (players words births) who ≡ false → marks_at (players words births) rows name who ≡ []
   pub room : (name : Draw) (node : ℕ) (r : ReplicaState) → view_at births rows name node ≡ Some r → r.running ≡ true → (next r ≤ last_slot) × WaitsForFlights r
 
--- A row of a bounded scenario that comes in time while an order is under way: each group that has a replica is guided at it, and so is one of which a state comes; children that it makes are young; mail of transactions comes unsettled, and no request comes; a leader that takes a vote has only work in flight, and true entries; an order is told calmly; and no client takes an errand.
+-- A row of a bounded scenario that comes in time while an order is under way: each group that has a replica is guided at it, and so is one of which a state comes; mail of transactions comes unsettled, and no request comes; a leader that takes a vote has only work in flight, and true entries; an order is told calmly; and no client takes an errand.
 pub record IsOrdersRow (words : ℕ → ℕ → ℕ × ℕ) (scenario : Scenario) (rows : Rows) (seat : Seat Player) (event : Event OrderLine) : Type 0 where
   pub bounded : IsBounded scenario
   pub seated : IsSeat (births as_nodes scenario) seat
@@ -56,8 +56,6 @@ pub record IsOrdersRow (words : ℕ → ℕ → ℕ × ℕ) (scenario : Scenario
   pub groups : (name : Draw) (node : ℕ) (r : ReplicaState) → view_at (births as_nodes scenario) rows name node ≡ Some r → IsNamedGuide words (births as_nodes scenario) rows seat event name
   pub states : (number : ℕ) (mail : Mail) (group : Draw) (slot : ℕ) (state : Base) (sets : List (List ℕ)) → event ≡ Deliver number → numbered (mails rows) number ≡ Some mail → mail.body ≡ Install group slot state sets
       → IsNamedGuide words (births as_nodes scenario) rows seat event group × IsThere (births as_nodes scenario) rows group
-  pub children : (number : ℕ) (mail : Mail) (group : Draw) (node : NodeState) (r : ReplicaState) → event ≡ Deliver number → IsTaking words (births as_nodes scenario) rows seat number mail group node → replica_of group node.replicas ≡ Some r
-      → Each (IsYoung words (births as_nodes scenario) rows seat) (mailed mail.from mail.body (r, [])).1
   pub unsettled : (number : ℕ) (mail : Mail) (group : Draw) (node : NodeState) (r : ReplicaState) → event ≡ Deliver number → IsTaking words (births as_nodes scenario) rows seat number mail group node → replica_of group node.replicas ≡ Some r
       → IsUnsettled r mail.body
   pub requests : (number : ℕ) (mail : Mail) (named : Draw) (client seq : ℕ) (op : Op) → event ≡ Deliver number → numbered (mails rows) number ≡ Some mail → mail.body ≡ Request named client seq op → ⊥
@@ -67,6 +65,21 @@ pub record IsOrdersRow (words : ℕ → ℕ → ℕ × ℕ) (scenario : Scenario
   pub told : (line : OrderLine) → event ≡ Told line → IsToldCalmly words (births as_nodes scenario) rows
   pub clients : (client : ClientState) → value player_table seat rows ≡ Client client → errand_taken (mails rows) event ≡ None
 
--- It finds what an order needs.
+-- the children that it makes are young
+abbrev pub MakesYoung : (ℕ → ℕ → ℕ × ℕ) → Scenario → Rows → Seat Player → Event OrderLine → Type 0
+MakesYoung words scenario rows seat event =
+    (number : ℕ) (mail : Mail) (group : Draw) (node : NodeState) (r : ReplicaState) → event ≡ Deliver number → IsTaking words (births as_nodes scenario) rows seat number mail group node → replica_of group node.replicas ≡ Some r
+    → Each (IsYoung words (births as_nodes scenario) rows seat) (mailed mail.from mail.body (r, [])).1
+
+-- A mail that is delivered meets a replica of its group, or a node without one, as an order needs it.
+pub record MeetsOrder (words : ℕ → ℕ → ℕ × ℕ) (births : List (Seat Player)) (rows : Rows) (seat : Seat Player) (number : ℕ) : Type 0 where
+  pub here : (mail : Mail) (group : Draw) (node : NodeState) (r : ReplicaState) → IsTaking words births rows seat number mail group node → replica_of group node.replicas ≡ Some r → FindsReplica births rows seat number mail group r
+  pub missed : (mail : Mail) (group : Draw) (node : NodeState) → IsTaking words births rows seat number mail group node → replica_of group node.replicas ≡ None → NodeFinds births rows seat number mail group mail.body
+
+-- So it does at such a row ..
+abbrev pub OrdersRowsMeet : Type 0
+OrdersRowsMeet = (words : ℕ → ℕ → ℕ × ℕ) (scenario : Scenario) (rows : Rows) (seat : Seat Player) (number : ℕ) → IsOrdersRow words scenario rows seat (Deliver number) → MeetsOrder words (births as_nodes scenario) rows seat number
+
+-- .. and the row finds what an order needs, where the children that it makes are young.
 abbrev pub OrdersRowsFind : Type 0
-OrdersRowsFind = (words : ℕ → ℕ → ℕ × ℕ) (scenario : Scenario) (rows : Rows) (seat : Seat Player) (event : Event OrderLine) → IsOrdersRow words scenario rows seat event → FindsOrder words (births as_nodes scenario) rows seat event
+OrdersRowsFind = (words : ℕ → ℕ → ℕ × ℕ) (scenario : Scenario) (rows : Rows) (seat : Seat Player) (event : Event OrderLine) → IsOrdersRow words scenario rows seat event → MakesYoung words scenario rows seat event → FindsOrder words (births as_nodes scenario) rows seat event

@@ -7,7 +7,7 @@ ghost use Rattle.sc_calm_found_law.specs.Beside.{BesidesAreFound};
 ghost use Rattle.sc_calm_found_law.specs.Guided.{NewestStay, QuietLeadersHaveNothing, WellLedLeadAlone};
 ghost use Rattle.sc_calm_found_law.specs.Leader.{LeadersAreFound, StagesLeaveOneWork};
 ghost use Rattle.sc_calm_found_law.specs.Missed.{MissedAreFound, YoungMayBear};
-ghost use Rattle.sc_calm_found_law.specs.Rows.{OrdersRowsFind};
+ghost use Rattle.sc_calm_found_law.specs.Rows.{OrdersRowsFind, OrdersRowsMeet};
 ghost use Rattle.sc_calm_found_law.specs.Votes.{StagesExpectWork, VotesAreFound};
 
 use sc_calm_groups_law::{events_go_on, scenarios_are_well_born};
@@ -79,8 +79,13 @@ pub fn votes_are_found()
     ensures { VotesAreFound }
 {}
 
-/// Each row of a calm journal in which an order is under way finds what an order needs, where its
-/// groups are guided, and by what is said of its mail.
+/// Each mail that is delivered in a calm journal in which an order is under way meets what an order
+/// needs, where groups are guided, and by what is said of the mail.
+pub fn orders_rows_meet()
+    ensures { OrdersRowsMeet }
+{}
+
+/// Each row of such a journal finds what an order needs, where the children that it makes are young.
 pub fn orders_rows_find()
     ensures { OrdersRowsFind }
 {}

@@ -117,7 +117,6 @@ module _ (all_bounded : ValidScenariosAreBounded) (few_law : SlotsAreLeft) (logs
     under = (Still, rests.still);
     groups = λ name node r e. guide_of name (named name (node, r, e));
     states = λ n mail group_ slot state sets e at body. cc;
-    children = λ n mail group_ node r e taking here. cc;
     unsettled = λ n mail group_ node r e taking here. cc;
     requests = λ n mail group_ client seq op e at body. cc;
     votes = λ n mail group_ node r named_ ballot slot e taking here runs body. cc;
@@ -131,7 +130,7 @@ module _ (all_bounded : ValidScenariosAreBounded) (few_law : SlotsAreLeft) (logs
   }
 
   finds : FindsOrder words all quiet seat (Told line)
-  finds = finds_law words scenario quiet seat (Told line) orders_row
+  finds = finds_law words scenario quiet seat (Told line) orders_row (λ n mail group_ node r e taking here. cc)
 
   told_so : IsToldInQuiet words all quiet seat line
   told_so = record { seated = seated; timely = timely; still = rests.still; calm = rests.calm; finds = finds }

@@ -43,7 +43,7 @@ use Rattle.sc_calm_scenes_law.specs.Scenes.{scene_at}
 use Rattle.sc_calm_scenes_law.specs.Taken.{IsTaking}
 use Rattle.sc_calm_found_law.specs.Beside.{IsUnsettled}
 use Rattle.sc_calm_found_law.specs.Guided.{IsGuided, IsNamedGuide, NewestStay, WellLedLeadAlone}
-use Rattle.sc_calm_found_law.specs.Rows.{IsOrdersRow, OrdersRowsFind}
+use Rattle.sc_calm_found_law.specs.Rows.{IsOrdersRow, OrdersRowsFind, OrdersRowsMeet}
 use Rattle.sc_calm_sent_law.specs.Journals.{IsQuietWhileYoung, NextRowsAreSent, SentReplicas}
 use Rattle.sc_calm_finds_law.specs.Meeting.{IsNoRequest, IsPlainAt}
 use Rattle.sc_calm_charts_law.specs.Charting.{chart_at, all_replicas}
@@ -56,6 +56,7 @@ use Rattle.sc_calm_journals_law.specs.Under.{IsUnder, IsYoungAt}
 use Rattle.sc_calm_kept_law.specs.Asking.{AllLeadAlone}
 use Rattle.sc_calm_kept_law.specs.Finding.{CountsEntries, IsKnownMail, IsKnownDelivery, OrderRowsFindCalm}
 use Rattle.sc_calm_kept_law.specs.Viewing.{ViewsAgree}
+use Rattle.sc_calm_young_law.specs.Children.{ChildrenWereNowhere}
 use Rattle.sc_calm_young_law.specs.Young.{IsUnanswered, YoungGroupsStay}
 use Rattle.sc_calm_true_law.specs.Under.{AreSeen, IsTrueSince}
 use Rattle.sc_calm_true_law.specs.Unsettled.{MailComesUnsettled}
@@ -113,9 +114,9 @@ no_request (TxWatched tx coord part vote) none = tt
 no_request (Told order result) none = tt
 
 module _ (all_bounded : ValidScenariosAreBounded) (few_law : SlotsAreLeft) (logs_law : ReplicasRunLogs) (views_law : ViewsAreReplicas) (rosters_law : SlotsHaveRosters) (last_law : ReplicasLast) (next_law : NextRowsAreSent) (newest_law : NewestStay) (found_law : FrontsAreFound)
-    (agree_law : ViewsAgree) (alone_law : WellLedLeadAlone) (plain_law : SentReplicas) (finds_law : OrdersRowsFind) (fresh_law : FreshGroupsStay) (young_law : YoungGroupsStay) (unsettled_law : MailComesUnsettled) (asked_law : AskedGroupsStood) (true_law : TrueOrdersGoOn)
+    (agree_law : ViewsAgree) (alone_law : WellLedLeadAlone) (plain_law : SentReplicas) (meets_law : OrdersRowsMeet) (finds_law : OrdersRowsFind) (nowhere_law : ChildrenWereNowhere) (fresh_law : FreshGroupsStay) (young_law : YoungGroupsStay) (unsettled_law : MailComesUnsettled) (asked_law : AskedGroupsStood) (true_law : TrueOrdersGoOn)
     (work_law : DeliveriesKeepWork) (stands_law : WorkStandsAlone) (calm_law : OrderRowsFindCalm) (come_law : MailMayCome) (once_law : LawfulReplicasAreNamedOnce) (words : ℕ → ℕ → ℕ × ℕ) (scenario : Scenario) (first : Base) (journal quiet rows : Rows) (seat : Seat Player) (number : ℕ) (calm : IsCalmJournal words scenario journal)
-    (home : IsHomelyJournal words scenario journal) (o : IsOrderedSince words scenario first journal quiet rows) (on : GoesOnBy words scenario journal rows seat number) (given : IsGivenBesides words scenario quiet rows seat number) where
+    (home : IsHomelyJournal words scenario journal) (o : IsOrderedSince words scenario first journal quiet rows) (on : GoesOnBy words scenario journal rows seat number) (given : IsGivenBesides words scenario rows seat number) where
   abbrev all : List (Seat Player)
   all = births as_nodes scenario
 
@@ -188,7 +189,6 @@ module _ (all_bounded : ValidScenariosAreBounded) (few_law : SlotsAreLeft) (logs
         let of : group_of_mail mail.body ≡ Some group = ap group_of_mail body in
         let k = mail_known mail (subst (λ m. numbered (mails rows) m ≡ Some mail) same at) in
         (guide_of group (k.0 group of), k.1 group of));
-    children = λ n mail group node r e taking here. (let same : n ≡ number = cc in (given.children mail group node r (subst (λ m. IsTaking words all rows seat m mail group node) same taking) here).0);
     unsettled = λ n mail group node r e taking here. (let same : n ≡ number = cc in unsettled mail group node r (subst (λ m. IsTaking words all rows seat m mail group node) same taking) here);
     requests = λ n mail group client seq op e at body.
         (let same : n ≡ number = cc in
@@ -200,8 +200,14 @@ module _ (all_bounded : ValidScenariosAreBounded) (few_law : SlotsAreLeft) (logs
     clients = λ client is. absurd (given.nodes client is);
   }
 
+  -- what is delivered meets what an order needs; and children were nowhere
+  guided_row : IsGuidedRow words scenario rows seat number
+  guided_row = record { seated = on.seated; timely = on.timely; meets = meets_law words scenario rows seat number orders_row; groups = λ name node r e. guide_of name (named name (node, r, e)) }
+
   finds : FindsOrder words all rows seat (Deliver number)
-  finds = finds_law words scenario rows seat (Deliver number) orders_row
+  finds =
+      finds_law words scenario rows seat (Deliver number) orders_row
+      (λ n mail group node r e taking here. (let same : n ≡ number = cc in given.children mail group node r (subst (λ m. IsTaking words all rows seat m mail group node) same taking) here))
 
   unanswered : IsUnanswered rows number
   unanswered = work_law.unanswered words all rows seat number o.task on.seated on.timely o.work
@@ -215,7 +221,7 @@ module _ (all_bounded : ValidScenariosAreBounded) (few_law : SlotsAreLeft) (logs
     timely = on.timely;
     finds = finds;
     unanswered = unanswered;
-    children = λ mail group node r taking here. (given.children mail group node r taking here).1;
+    children = λ mail group node r taking here. nowhere_law words scenario quiet rows seat number o.line o.task o.is_task guided_row o.work mail group node r taking here;
     asked = λ deal to at. (asked_law words scenario first journal quiet rows seat number under.stage goes_since deal to at).1;
   }
   next_stage : (later : Stage) × AreUntouched words all quiet then later × ((later ≡ under.stage) ⊎ GoesBy rows (Deliver number) under.stage later)
@@ -249,7 +255,7 @@ module _ (all_bounded : ValidScenariosAreBounded) (few_law : SlotsAreLeft) (logs
     line = o.line;
     task = o.task;
     is_task = o.is_task;
-    work = work_law.keeps words scenario rows seat number o.task (record { seated = on.seated; timely = on.timely; finds = finds; groups = λ name node r e. guide_of name (named name (node, r, e)) }) o.work;
+    work = work_law.keeps words scenario rows seat number o.task guided_row o.work;
     known = known_after words scenario journal quiet rows seat number next_stage.0 on.seated on.timely unanswered named_quiet next_stage.1 o.known;
   }
 
@@ -298,9 +304,9 @@ module _ (all_bounded : ValidScenariosAreBounded) (few_law : SlotsAreLeft) (logs
       calm_law words scenario first journal quiet rows far sent seat number calm under on sent_after
       (record { alone = alone; homes = home.homes quiet under.rests.front; front = front; rise = rise; nodes = given.nodes; mail = mail_so })
 
-pub deliveries_keep : ValidScenariosAreBounded → SlotsAreLeft → ReplicasRunLogs → ViewsAreReplicas → SlotsHaveRosters → ReplicasLast → NextRowsAreSent → NewestStay → FrontsAreFound → ViewsAgree → WellLedLeadAlone → SentReplicas → OrdersRowsFind → FreshGroupsStay → YoungGroupsStay
+pub deliveries_keep : ValidScenariosAreBounded → SlotsAreLeft → ReplicasRunLogs → ViewsAreReplicas → SlotsHaveRosters → ReplicasLast → NextRowsAreSent → NewestStay → FrontsAreFound → ViewsAgree → WellLedLeadAlone → SentReplicas → OrdersRowsMeet → OrdersRowsFind → ChildrenWereNowhere → FreshGroupsStay → YoungGroupsStay
     → MailComesUnsettled → AskedGroupsStood → TrueOrdersGoOn → DeliveriesKeepWork → WorkStandsAlone → OrderRowsFindCalm → MailMayCome → LawfulReplicasAreNamedOnce → DeliveriesKeepOrdered
-deliveries_keep all_bounded few_law logs_law views_law rosters_law last_law next_law newest_law found_law agree_law alone_law plain_law finds_law fresh_law young_law unsettled_law asked_law true_law work_law stands_law calm_law come_law once_law words scenario first journal quiet rows seat number calm home o on given = (
-  keeps all_bounded few_law logs_law views_law rosters_law last_law next_law newest_law found_law agree_law alone_law plain_law finds_law fresh_law young_law unsettled_law asked_law true_law work_law stands_law calm_law come_law once_law words scenario first journal quiet rows seat number calm home o on given,
-  found all_bounded few_law logs_law views_law rosters_law last_law next_law newest_law found_law agree_law alone_law plain_law finds_law fresh_law young_law unsettled_law asked_law true_law work_law stands_law calm_law come_law once_law words scenario first journal quiet rows seat number calm home o on given,
+deliveries_keep all_bounded few_law logs_law views_law rosters_law last_law next_law newest_law found_law agree_law alone_law plain_law meets_law finds_law nowhere_law fresh_law young_law unsettled_law asked_law true_law work_law stands_law calm_law come_law once_law words scenario first journal quiet rows seat number calm home o on given = (
+  keeps all_bounded few_law logs_law views_law rosters_law last_law next_law newest_law found_law agree_law alone_law plain_law meets_law finds_law nowhere_law fresh_law young_law unsettled_law asked_law true_law work_law stands_law calm_law come_law once_law words scenario first journal quiet rows seat number calm home o on given,
+  found all_bounded few_law logs_law views_law rosters_law last_law next_law newest_law found_law agree_law alone_law plain_law meets_law finds_law nowhere_law fresh_law young_law unsettled_law asked_law true_law work_law stands_law calm_law come_law once_law words scenario first journal quiet rows seat number calm home o on given,
 )

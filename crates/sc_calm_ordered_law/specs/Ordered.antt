@@ -29,7 +29,6 @@ use Rattle.sc_calm_law.specs.Keeping.{FindsCalm}
 use Rattle.sc_calm_law.specs.Totals.{Rows}
 use Rattle.sc_calm_rows_law.specs.Groups.{view_at, marks_at}
 use Rattle.sc_calm_rows_law.specs.Turns.{IsSeat, with_event}
-use Rattle.sc_calm_scenes_law.specs.Fresh.{IsNowhere}
 use Rattle.sc_calm_scenes_law.specs.Quiet.{GoesToActor}
 use Rattle.sc_calm_scenes_law.specs.Taken.{IsTaking}
 use Rattle.sc_calm_entries_law.specs.Paid.{IsEntry}
@@ -81,11 +80,11 @@ OrdersBeginOrdered =
     → IsOrderedSince words scenario first journal quiet (with_event quiet seat (Told line))
     × ((far sent : ℕ) → FindsCalm (chart_at far sent (players words (births as_nodes scenario)) quiet) (births as_nodes scenario) quiet seat (Told line))
 
--- What is asked besides of a delivery: a node takes it; children that it makes are young, and were nowhere in the quiet; commands in flight are true, and leave at most nine members; and a coordinator that is to ask elsewhere is told whom, and has its promises.
-pub record IsGivenBesides (words : ℕ → ℕ → ℕ × ℕ) (scenario : Scenario) (quiet rows : Rows) (seat : Seat Player) (number : ℕ) : Type 0 where
+-- What is asked besides of a delivery: a node takes it; children that it makes are young; commands in flight are true, and leave at most nine members; and a coordinator that is to ask elsewhere is told whom, and has its promises.
+pub record IsGivenBesides (words : ℕ → ℕ → ℕ × ℕ) (scenario : Scenario) (rows : Rows) (seat : Seat Player) (number : ℕ) : Type 0 where
   pub nodes : (client : ClientState) → value player_table seat rows ≡ Client client → ⊥
   pub children : (mail : Mail) (group : Draw) (node : NodeState) (r : ReplicaState) → IsTaking words (births as_nodes scenario) rows seat number mail group node → replica_of group node.replicas ≡ Some r
-      → Each (IsYoung words (births as_nodes scenario) rows seat) (mailed mail.from mail.body (r, [])).1 × Each (λ child. IsNowhere (births as_nodes scenario) quiet child.core.id) (mailed mail.from mail.body (r, [])).1
+      → Each (IsYoung words (births as_nodes scenario) rows seat) (mailed mail.from mail.body (r, [])).1
   pub entries : (name : Draw) (node : ℕ) (r : ReplicaState) → view_at (births as_nodes scenario) rows name node ≡ Some r → r.running ≡ true
       → Each (λ (flight : Flight Command). IsTrueEntry r.me r.group flight.value) r.leader.flights × Each (λ (flight : Flight Command). IsEntry flight.value r × (length (applied r.group flight.value).0.core.members ≤ 9)) r.leader.flights
   pub elsewhere : (mail : Mail) (group : Draw) (node : NodeState) (r : ReplicaState) (tx coord : Draw) (hint : Option ℕ) → IsTaking words (births as_nodes scenario) rows seat number mail group node → replica_of group node.replicas ≡ Some r
@@ -95,7 +94,7 @@ pub record IsGivenBesides (words : ℕ → ℕ → ℕ × ℕ) (scenario : Scena
 abbrev pub DeliveriesKeepOrdered : Type 0
 DeliveriesKeepOrdered =
     (words : ℕ → ℕ → ℕ × ℕ) (scenario : Scenario) (first : Base) (journal quiet rows : Rows) (seat : Seat Player) (number : ℕ) → IsCalmJournal words scenario journal → IsHomelyJournal words scenario journal
-    → IsOrderedSince words scenario first journal quiet rows → GoesOnBy words scenario journal rows seat number → IsGivenBesides words scenario quiet rows seat number
+    → IsOrderedSince words scenario first journal quiet rows → GoesOnBy words scenario journal rows seat number → IsGivenBesides words scenario rows seat number
     → IsOrderedSince words scenario first journal quiet (with_event rows seat (Deliver number))
     × ((far sent : ℕ) → quiet_front (players words (births as_nodes scenario)) rows ≡ quiet → DoHintsRise (replicas_after scenario quiet) (chart_at far sent (players words (births as_nodes scenario)) rows).ways
     → FindsCalm (chart_at far sent (players words (births as_nodes scenario)) rows) (births as_nodes scenario) rows seat (Deliver number))

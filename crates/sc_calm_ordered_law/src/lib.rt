@@ -5,7 +5,7 @@
 ghost use Rattle.sc_calm_ordered_law.specs.Entries.{FlightsAreEntries};
 ghost use Rattle.sc_calm_ordered_law.specs.Ordered.{DeliveriesKeepOrdered, OrdersBeginOrdered};
 
-use sc_calm_found_law::{newest_stay, orders_rows_find, well_led_lead_alone};
+use sc_calm_found_law::{newest_stay, orders_rows_find, orders_rows_meet, well_led_lead_alone};
 use sc_calm_kept_law::{order_rows_find_calm, told_orders_find_calm, views_agree};
 use sc_calm_known_law::fronts_are_found;
 use sc_calm_led_law::replicas_run_logs;
@@ -19,7 +19,7 @@ use sc_calm_true_law::{
     true_orders_go_on,
 };
 use sc_calm_works_law::{deliveries_keep_work, orders_begin_work, work_stands_alone};
-use sc_calm_young_law::young_groups_stay;
+use sc_calm_young_law::{children_were_nowhere, young_groups_stay};
 use sc_scenario::valid_scenarios_are_bounded;
 use sc_whole_law::members_stay_rosters;
 
@@ -40,7 +40,9 @@ pub fn deliveries_keep_ordered()
     views_agree();
     well_led_lead_alone();
     sent_replicas();
+    orders_rows_meet();
     orders_rows_find();
+    children_were_nowhere();
     fresh_groups_stay();
     young_groups_stay();
     mail_comes_unsettled();

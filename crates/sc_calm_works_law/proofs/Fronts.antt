@@ -107,11 +107,11 @@ module _ (well : ScenariosAreWellBorn) (a : Affair) (begins : BeginsFree a) (wor
   keeps =
       let t = taken_mail words (births as_nodes scenario) rows seat number g.seated g.timely in
       goes_on a words (births as_nodes scenario) rows seat (Deliver number) g.timely
-      (delivery_holds well a begins words scenario rows seat number g.seated g.timely g.finds g.groups (λ name r v. k.replicas name seat.who r v) t.0 t.1 (good_mail t.0 t.1)) k
+      (delivery_holds well a begins words scenario rows seat number g.seated g.timely g.meets g.groups (λ name r v. k.replicas name seat.who r v) t.0 t.1 (good_mail t.0 t.1)) k
 
   pub bears : (mail : Mail) (group : Draw) (node : NodeState) (r : ReplicaState) → IsTaking words (births as_nodes scenario) rows seat number mail group node → replica_of group node.replicas ≡ Some r → Kids a group (mailed mail.from mail.body (r, [])).1
   bears mail group node r t here =
-      delivery_bears well a begins words scenario rows seat number g.seated g.timely g.finds g.groups (λ name r v. k.replicas name seat.who r v) mail t.sent (good_mail mail t.sent) group node r t here
+      delivery_bears well a begins words scenario rows seat number g.seated g.timely g.meets g.groups (λ name r v. k.replicas name seat.who r v) mail t.sent (good_mail mail t.sent) group node r t here
 
 -- ---- of a task
 
@@ -201,7 +201,7 @@ module _ (well : ScenariosAreWellBorn) (words : ℕ → ℕ → ℕ × ℕ) (sce
   unborn_by : (b : Bool) (told child : Draw) → AreHeld (affair_by b told child) words (births as_nodes scenario) rows → (mail : Mail) (group : Draw) (node : NodeState) (r : ReplicaState) → IsTaking words (births as_nodes scenario) rows seat number mail group node
       → replica_of group node.replicas ≡ Some r → Each (λ (kid : Base). BearsBy b told child group kid × IsUnborn r.group.core.born kid) (mailed mail.from mail.body (r, [])).1
   unborn_by true told child k mail group node r t here =
-      delivery_unborn well (affair_by true told child) (begins_free true told child) words scenario rows seat number g.seated g.timely g.finds g.groups (λ name x v. k.replicas name seat.who x v) mail t.sent (good_mail well (affair_by true told child) (begins_free true told child) words scenario rows seat number g k mail t.sent)
+      delivery_unborn well (affair_by true told child) (begins_free true told child) words scenario rows seat number g.seated g.timely g.meets g.groups (λ name x v. k.replicas name seat.who x v) mail t.sent (good_mail well (affair_by true told child) (begins_free true told child) words scenario rows seat number g k mail t.sent)
       (λ name x command kid s e. kid_unborn told child name x command kid s e) group node r t here
   unborn_by false told child k mail group node r t here =
       Each-weaker (λ (kid : Base). BearsBy false told child group kid) (λ (kid : Base). BearsBy false told child group kid × IsUnborn r.group.core.born kid) (λ kid bad. absurd bad) (mailed mail.from mail.body (r, [])).1

@@ -53,7 +53,8 @@ use Rattle.sc_calm_groups_law.specs.Through.{IsWellPlayer, Delivers, ScenariosAr
 use Rattle.sc_calm_groups_law.proofs.Mails.{scene}
 use Rattle.sc_calm_groups_law.proofs.Dating.{dated_in, taken_dated, rows_dated}
 use Rattle.sc_calm_found_law.specs.Guided.{IsGuided, IsNamedGuide}
-use Rattle.sc_calm_scenes_law.specs.Found.{FindsOrder, FindsReplica, AtLeader, AtAnother, LeaderFinds, BesideFinds, NodeFinds}
+use Rattle.sc_calm_found_law.specs.Rows.{MeetsOrder}
+use Rattle.sc_calm_scenes_law.specs.Found.{FindsReplica, AtLeader, AtAnother, LeaderFinds, BesideFinds, NodeFinds}
 use Rattle.sc_calm_scenes_law.specs.Taken.{IsTaking}
 use Rattle.sc_calm_scenes_law.proofs.Fresh.{client_leaves, got_nothing, unknown_apart}
 use Rattle.sc_calm_scenes_law.proofs.Taking.{OneOf, all_children, all_sent, each_is, now_is}
@@ -112,7 +113,7 @@ module _ (a : Affair) (words : ℕ → ℕ → ℕ × ℕ) (births : List (Seat 
   Holds = (name : Draw) (r : ReplicaState) → view_at births rows name seat.who ≡ Some r → HeldSo a name r
 
 module _ (well : ScenariosAreWellBorn) (a : Affair) (begins : BeginsFree a) (words : ℕ → ℕ → ℕ × ℕ) (scenario : Scenario) (rows : Rows) (seat : Seat Player) (number : ℕ) (born : IsSeat (births as_nodes scenario) seat) (timely : AreInTime (players words (births as_nodes scenario)) (with_event rows seat (Deliver number)))
-    (finds : FindsOrder words (births as_nodes scenario) rows seat (Deliver number))
+    (meets : MeetsOrder words (births as_nodes scenario) rows seat number)
     (groups : (name : Draw) (node : ℕ) (r : ReplicaState) → view_at (births as_nodes scenario) rows name node ≡ Some r → IsNamedGuide words (births as_nodes scenario) rows seat (Deliver number) name)
     (has : Holds a words (births as_nodes scenario) rows seat (Deliver number)) (mail : Mail) (at : numbered (mails rows) number ≡ Some mail) (good : IsGood a mail) where
   abbrev all : List (Seat Player)
@@ -213,7 +214,7 @@ module _ (well : ScenariosAreWellBorn) (a : Affair) (begins : BeginsFree a) (wor
 
         -- what is told next finds nothing in flight
         learn_finds : (n : Draw) (slot : ℕ) (command : Command) → mail.body ≡ Learn n slot command → slot ≡ next r → r.leader.flights ≡ []
-        learn_finds n slot command e same = by (finds.here number mail group node r refl t here).1
+        learn_finds n slot command e same = by (meets.here mail group node r t here)
           where
             by : FindsReplica (births as_nodes scenario) rows seat number mail group r → r.leader.flights ≡ []
             by (AtLeader leads f) = (let less : slot < next r = subst (LeaderFinds (births as_nodes scenario) rows seat number mail group r) e f in absurd (omega (arith, less, same)))
@@ -286,7 +287,7 @@ module _ (well : ScenariosAreWellBorn) (a : Affair) (begins : BeginsFree a) (wor
       installs n slot state sets e here s =
           let same : n ≡ group = some_is n group (sym (ap group_of_mail e) ∙ t.named) in
           let body : mail.body ≡ Install group slot state sets = e ∙ ap (λ x. Install x slot state sets) same in
-          let found = subst (NodeFinds (births as_nodes scenario) rows seat number mail group) body (finds.missed number mail group node refl t here) in
+          let found = subst (NodeFinds (births as_nodes scenario) rows seat number mail group) body (meets.missed mail group node t here) in
           let row = rows_replicas.made all rows seat number mail group slot state sets node born is at t.comes body found.0.whole here in
           let fine = made_fine a group node.me mail.from slot state sets (subst (λ x. a.Is x state.core) same s) in
           record {

@@ -26,10 +26,10 @@ use Rattle.sc_calm_law.specs.Quiet.{IsAtRest}
 use Rattle.sc_calm_law.specs.Totals.{Rows}
 use Rattle.sc_calm_rows_law.specs.Groups.{view_at}
 use Rattle.sc_calm_rows_law.specs.Turns.{IsSeat, with_event}
-use Rattle.sc_calm_scenes_law.specs.Found.{FindsOrder}
 use Rattle.sc_calm_scenes_law.specs.Fresh.{IsThere, IsNowhere}
 use Rattle.sc_calm_scenes_law.specs.Taken.{IsTaking}
 use Rattle.sc_calm_found_law.specs.Guided.{IsNamedGuide, WaitsForFlights}
+use Rattle.sc_calm_found_law.specs.Rows.{MeetsOrder}
 use Rattle.sc_calm_found_law.specs.Votes.{IsOrdersAlone}
 use Rattle.sc_calm_works_law.specs.Tasks.{Task, IsAtWork, SaysWork, Bears}
 
@@ -53,11 +53,11 @@ OrdersBeginWork =
     → ((name : Draw) (who : ℕ) (r : ReplicaState) → view_at (births as_nodes scenario) quiet name who ≡ Some r → IsAtRest r × (r.running ≡ true → r.leader.reports ≡ []) × (next r ≤ last_slot))
     → (task : Task) × IsTaskOf (births as_nodes scenario) quiet line task × AreAtWork task words (births as_nodes scenario) (with_event quiet seat (Told line))
 
--- a delivery in time that finds what an order needs, at which each group that has a replica is guided
+-- a delivery in time that meets what an order needs, at which each group that has a replica is guided
 pub record IsGuidedRow (words : ℕ → ℕ → ℕ × ℕ) (scenario : Scenario) (rows : Rows) (seat : Seat Player) (number : ℕ) : Type 0 where
   pub seated : IsSeat (births as_nodes scenario) seat
   pub timely : AreInTime (players words (births as_nodes scenario)) (with_event rows seat (Deliver number))
-  pub finds : FindsOrder words (births as_nodes scenario) rows seat (Deliver number)
+  pub meets : MeetsOrder words (births as_nodes scenario) rows seat number
   pub groups : (name : Draw) (node : ℕ) (r : ReplicaState) → view_at (births as_nodes scenario) rows name node ≡ Some r → IsNamedGuide words (births as_nodes scenario) rows seat (Deliver number) name
 
 -- So it does after each delivery; children that are made are those that the order may make, which their group did not know; and no request and no answer is delivered.
