@@ -29,8 +29,8 @@ use Rattle.sc_machine_table.specs.Transactions.{released, watch_recorded, asks_w
 use Rattle.sc_paxos_words.specs.declared.flights.Flight.{Flight}
 use Rattle.sc_paxos_words.proofs.ListLemmas.{Each-among}
 use Rattle.sc_scenario.specs.declared.scenarios.Scenario.{Scenario}
-use Rattle.sc_node_table.specs.Replica.{ReplicaState, members, next}
-use Rattle.sc_node_table.specs.Execute.{entered, forgotten}
+use Rattle.sc_node_table.specs.Replica.{ReplicaState, forgotten, members, next}
+use Rattle.sc_node_table.specs.Execute.{entered}
 use Rattle.sc_node_table.specs.Questions.{asked_link}
 use Rattle.sc_node_table.specs.Spoken.{before_of}
 use Rattle.sc_sound.specs.Players.{births, as_nodes}
