@@ -24,7 +24,7 @@ use Rattle.sc_calm_law.specs.Totals.{Rows}
 use Rattle.sc_following_law.specs.Following.{Course, Progress, Sets, members_at, IsOpen, IsFollowing}
 use Rattle.sc_following_law.specs.Hints.{Tellers}
 use Rattle.sc_following_law.proofs.Leads.{least_in}
-use Rattle.sc_calm_rows_law.specs.Groups.{marks_at, next_in, promise_in, progress_at}
+use Rattle.sc_calm_rows_law.specs.Groups.{view_at, marks_at, next_in, promise_in, progress_at}
 use Rattle.sc_calm_rows_law.specs.Turns.{with_event}
 use Rattle.sc_calm_groups_law.specs.Led.{Ends, hint_in, hints_at}
 use Rattle.sc_calm_groups_law.specs.Through.{ScenariosAreWellBorn}
@@ -33,8 +33,10 @@ use Rattle.sc_calm_led_law.specs.Led.{over_at}
 use Rattle.sc_calm_led_law.specs.Tellers.{tellers_at}
 use Rattle.sc_calm_mail_law.specs.Idle.{JournalsKeepIdle}
 use Rattle.sc_calm_sent_law.specs.Journals.{AreBornAsBegun, GroupsAreBornAsBegun, IsSentThrough}
+use Rattle.sc_calm_rises_law.specs.Homes.{top_in, IsSeen}
 use Rattle.sc_calm_rises_law.specs.Hinting.{GroupsBeginRising, NextRowsRise}
 use Rattle.sc_calm_rises_law.specs.Rising.{IsRisingOn}
+use Rattle.sc_calm_rises_law.proofs.Homes.{refuses_old, seen_then}
 use Rattle.sc_calm_rises_law.proofs.Lists.{member_open}
 use Rattle.sc_calm_rises_law.proofs.Rising.{fated_then}
 use Rattle.sc_calm_rises_law.proofs.Topped.{topped_then}
@@ -106,8 +108,14 @@ module _ (words : ℕ → ℕ → ℕ × ℕ) (at : Sets) (over : Ends) (by : Te
       | inr some ↦ (let same : born_replica slots_ahead who base ≡ r = (let e : Some (born_replica slots_ahead who base) ≡ Some r = sym some.0 ∙ view in cc) in
           subst (λ (x : ReplicaState). IsAtLeast x.acceptor.promised x.top) same (at_least_itself (first_ballot base.core)))
     ];
+    home = record { promised = λ who. subst (IsSeen births [] base) (sym (promises who)) first_seen; asked = λ who. tt; refused = tt };
   }
     where
+      first_seen : IsSeen births [] base (first_ballot base.core)
+      first_seen =
+          let top : top_in base (view_at births [] base.core.id (first_ballot base.core).node) ≡ first_ballot base.core = elim (born (first_ballot base.core).node) [ inl none ↦ ap (top_in base) none | inr some ↦ ap (top_in base) some.0 ] in
+          subst (λ b. IsAtLeast b (first_ballot base.core)) (sym top) (at_least_itself (first_ballot base.core))
+
       some_none : (x : ReplicaState) → Some x ≡ None → ⊥
       some_none x e = cc
 
@@ -129,9 +137,11 @@ calm_of words scenario rows seat event timely =
     subst (λ w. IsCalmEvent (players words (births as_nodes scenario)) rows w event) (sym who) (subst (λ e. IsCalmEvent (players words (births as_nodes scenario)) rows calm.seat.who e) (sym same) calm.calm)
 
 pub next_rows : JournalsKeepIdle → ScenariosAreWellBorn → NextRowsRise
-next_rows idle wb words at over by scenario rows seat event base timely born t s refuses rising =
+next_rows idle wb words at over by scenario rows seat event base timely born t s rising =
     let calm = calm_of words scenario rows seat event timely in
+    let refuses = refuses_old words at over by scenario rows seat event base t.course timely born calm t.led s.step rising.home in
     subst (IsRisingOn at by words (births as_nodes scenario) (with_event rows seat event) base) (sym s.same) (record {
       fated = fated_then words at over by scenario rows seat event base t.course idle (wb scenario) s.through.one s.through.so timely born calm t.led rising.fated s.step.later s.step.led s.step.row;
       seen = topped_then words at over by scenario rows seat event base t.course idle (wb scenario) s.through.one s.through.so timely born calm t.led s.step (λ r e. t.asked.plain seat.who r e) rising.seen refuses;
+      home = seen_then words at over by scenario rows seat event base t.course timely born calm t.led s.step rising.home;
     })

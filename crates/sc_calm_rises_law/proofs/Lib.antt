@@ -2,6 +2,11 @@ pub mod Lists
 pub mod Fates
 pub mod Hinted
 pub mod Rising
+pub mod Said
+pub mod SaidParts
+pub mod SaidRows
+pub mod SaidNodes
+pub mod Homes
 pub mod Topped
 pub mod Even
 pub mod Quiet

@@ -20,28 +20,25 @@ use Rattle.sc_node_table.specs.Replica.{ReplicaState, listed, first_ballot}
 use Rattle.sc_sound.specs.Players.{Player, player_table, births, as_nodes}
 use Rattle.sc_calm_law.specs.Charts.{players}
 use Rattle.sc_calm_law.specs.Totals.{Rows}
-use Rattle.sc_following_law.specs.Following.{Mark, Prepares, promise_by, reached, pledged, AreFit, Course, Progress, Sets, IsOpen}
+use Rattle.sc_following_law.specs.Following.{Mark, Prepares, reached, pledged, AreFit, Course, Progress, Sets, IsOpen}
 use Rattle.sc_following_law.specs.Hints.{Tellers}
-use Rattle.sc_following_law.specs.Rows.{IsRow, IsLast}
+use Rattle.sc_following_law.specs.Rows.{IsRow}
 use Rattle.sc_following_law.specs.Tables.{marks_for}
-use Rattle.sc_following_law.proofs.Marks.{pledged-append, count-pledged}
+use Rattle.sc_following_law.proofs.Marks.{pledged-append}
 use Rattle.sc_calm_rows_law.specs.Groups.{view_at, marks_at, taken_mark, promise_in, progress_at}
 use Rattle.sc_calm_rows_law.specs.Turns.{IsSeat, with_event}
 use Rattle.sc_calm_rows_law.proofs.Marking.{rows_are}
 use Rattle.sc_calm_rows_law.proofs.Viewing.{view_others}
-use Rattle.sc_calm_groups_law.specs.Kinds.{IsGroupRow, RowPasses, RowRests, RowTakes, RowMakes, RowLeads, RowElects, IsLedStep}
+use Rattle.sc_calm_groups_law.specs.Kinds.{IsLedStep}
 use Rattle.sc_calm_groups_law.specs.Led.{Ends, IsWellLed}
 use Rattle.sc_calm_groups_law.specs.Through.{AreWellBorn, HasOneLog, IsSentSo}
 use Rattle.sc_calm_groups_law.proofs.Keeping.{replicas_kept, scenarios_kept_born}
 use Rattle.sc_calm_mail_law.specs.Idle.{JournalsKeepIdle}
 use Rattle.sc_calm_sent_law.proofs.Seen.{Shows, ShowsNone, ShowsAsked, ShowsRefused, ShowsOwn, shown}
-use Rattle.sc_calm_rises_law.specs.Rising.{RefusesOld}
+use Rattle.sc_calm_rises_law.proofs.Homes.{RefusesOld, promise_then}
 use Rattle.sc_calm_rises_law.proofs.Lists.{member_open, pledged_rises, fit_behind}
 
 -- ---- no promise falls
-
-last_pledged : (newest : ℕ) (promise : Ballot) (mark : Mark) → IsLast newest mark → promise_by promise mark ≡ promise
-last_pledged newest promise mark last = elim (last.2) [ inl told ↦ ap (promise_by promise) told | inr sent ↦ ap (promise_by promise) sent ]
 
 module _ (now after : Progress) (node : ℕ) (taken : Option Mark) (sent marks marks_after : ℕ → List Mark) (row : IsRow now after node taken sent marks marks_after) (fits : (who : ℕ) → AreFit (after.next who) (after.promise who) (marks_after who)) where
   own_rises : after.promise node ≡ pledged (now.promise node) (listed taken) → IsAtLeast (pledged (after.promise node) (marks_after node)) (pledged (now.promise node) (marks node))
@@ -96,19 +93,13 @@ module _ (words : ℕ → ℕ → ℕ × ℕ) (at : Sets) (over : Ends) (by : Te
   row_in = rows_are words all rows row base course step.later timely
 
   -- what the node of the row has promised after it
-  promise_then : (c : Course) → IsGroupRow at over by all rows seat event base course c → after.promise seat.who ≡ pledged (now.promise seat.who) (listed (taken_mark base.core.id (mails rows) event))
-  promise_then c (RowPasses same leaves) = (let i = leaves.idle course in i.promise ∙ ap (λ o. pledged (now.promise seat.who) (listed o)) (sym i.takes))
-  promise_then c (RowRests same r q row_ off still i) = i.promise ∙ ap (λ o. pledged (now.promise seat.who) (listed o)) (sym i.takes)
-  promise_then c (RowTakes same r q mark row_ took steps i) = i.promise ∙ ap (λ o. pledged (now.promise seat.who) (listed o)) (sym i.takes)
-  promise_then c (RowMakes same from slot state sets row_ took logs i) = i.promise ∙ ap (λ o. pledged (now.promise seat.who) (listed o)) (sym i.takes)
-  promise_then c (RowLeads r q row_ runs counts l same) = (let i = l.led.leads in i.promise ∙ sym (count-pledged (now.promise seat.who) (listed (taken_mark name (mails rows) event)) i.takes))
-  promise_then c (RowElects r q ballot row_ off e same) =
-      (let i = e.elects in i.promise ∙ (sym (last_pledged course.newest (now.promise seat.who) i.mark i.last) ∙ ap (λ o. pledged (now.promise seat.who) (listed o)) (sym i.takes)))
+  own_promise : after.promise seat.who ≡ pledged (now.promise seat.who) (listed (taken_mark base.core.id (mails rows) event))
+  own_promise = promise_then words at over by scenario rows seat event base course timely born calm was step
 
   all_rise : (who : ℕ) → IsAtLeast (pledged (after.promise who) (marks_then who)) (pledged (now.promise who) (marks who))
   all_rise who = elim (cases_eq who seat.who) [
     | inl is ↦ subst (λ n. IsAtLeast (pledged (after.promise n) (marks_then n)) (pledged (now.promise n) (marks n))) (sym is)
-        (own_rises now after seat.who (taken_mark name (mails rows) event) (λ w. marks_for name w row.sent) marks marks_then row_in step.led.followed.follows.fits (promise_then step.later step.row))
+        (own_rises now after seat.who (taken_mark name (mails rows) event) (λ w. marks_for name w row.sent) marks marks_then row_in step.led.followed.follows.fits own_promise)
     | inr ne ↦ others_rise now after seat.who (taken_mark name (mails rows) event) (λ w. marks_for name w row.sent) marks marks_then row_in step.led.followed.follows.fits who ne
   ]
 

@@ -21,7 +21,7 @@ use Rattle.sc_calm_logs_law.specs.Logged.{logged_sets, IsGroupOf}
 use Rattle.sc_calm_led_law.specs.Led.{over_at}
 use Rattle.sc_calm_led_law.specs.Tellers.{tellers_at}
 use Rattle.sc_calm_sent_law.specs.Journals.{IsSentThrough, IsSentStep}
-use Rattle.sc_calm_rises_law.specs.Rising.{IsRisingOn, RefusesOld}
+use Rattle.sc_calm_rises_law.specs.Rising.{IsRisingOn}
 
 -- Each group of a lawful journal of a valid scenario is so at the births ..
 abbrev pub GroupsBeginRising : Type 0
@@ -30,11 +30,11 @@ GroupsBeginRising =
     → (t : IsSentThrough (logged_sets as_nodes base journal) (over_at as_nodes base journal) (tellers_at as_nodes scenario base journal) words (births as_nodes scenario) [] base)
     → IsRisingOn (logged_sets as_nodes base journal) (tellers_at as_nodes scenario base journal) words (births as_nodes scenario) [] base t.course
 
--- .. and after one row more, in the course that comes of it, where a refusal that it delivers names no later ballot than its receiver saw
+-- .. and after one row more, in the course that comes of it
 abbrev pub NextRowsRise : Type 0
 NextRowsRise =
     (words : ℕ → ℕ → ℕ × ℕ) (at : Sets) (over : Ends) (by : Tellers) (scenario : Scenario) (rows : Rows) (seat : Seat Player) (event : Event OrderLine) (base : Base) → AreInTime (players words (births as_nodes scenario)) (with_event rows seat event) → IsSeat (births as_nodes scenario) seat
-    → (t : IsSentThrough at over by words (births as_nodes scenario) rows base) → (s : IsSentStep at over by words (births as_nodes scenario) rows seat event base t.course) → RefusesOld (births as_nodes scenario) rows seat event base
+    → (t : IsSentThrough at over by words (births as_nodes scenario) rows base) → (s : IsSentStep at over by words (births as_nodes scenario) rows seat event base t.course)
     → IsRisingOn at by words (births as_nodes scenario) rows base t.course → IsRisingOn at by words (births as_nodes scenario) (with_event rows seat event) base s.through.course
 
 -- So where none of the group's mail is under way, and its first members have made their replicas, hints rise.

@@ -1,4 +1,5 @@
 pub mod Fates
+pub mod Homes
 pub mod Rising
 pub mod Hinting
 pub mod Rounds

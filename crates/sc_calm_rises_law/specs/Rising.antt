@@ -1,15 +1,8 @@
 -- That hints rise after some rows of a calm journal: what is kept of a group in its course, row by row.
-use Rattle.std.specs.Prelude.{◌≡◌, ℕ, false, List, Some}
-use Rattle.sc_base.specs.declared.names.Ballot.{Ballot}
+use Rattle.std.specs.Prelude.{◌≡◌, ℕ, List, Some}
 use Rattle.sc_cmd.specs.declared.cores.Base.{Base}
-use Rattle.sc_cmd.specs.declared.orders.OrderLine.{OrderLine}
-use Rattle.sc_mail.specs.declared.bodies.Mail.{Mail}
-use Rattle.sc_mail.specs.declared.bodies.MailBody.TheVariants.{Nack}
 use Rattle.sc_actor.specs.declared.actors.Seat.{Seat}
-use Rattle.sc_actor.specs.declared.rows.Event.{Event}
-use Rattle.sc_actor.specs.declared.rows.Event.TheVariants.{Deliver}
-use Rattle.sc_actor.specs.Mail.{mails, numbered}
-use Rattle.sc_paxos_words.specs.Ballots.{below, IsAtLeast}
+use Rattle.sc_paxos_words.specs.Ballots.{IsAtLeast}
 use Rattle.sc_node_table.specs.Replica.{ReplicaState}
 use Rattle.sc_sound.specs.Players.{Player}
 use Rattle.sc_calm_law.specs.Charts.{players}
@@ -19,13 +12,10 @@ use Rattle.sc_following_law.specs.Hints.{Tellers}
 use Rattle.sc_calm_rows_law.specs.Groups.{view_at, marks_at, progress_at}
 use Rattle.sc_calm_groups_law.specs.Led.{hints_at}
 use Rattle.sc_calm_rises_law.specs.Fates.{AreFated}
+use Rattle.sc_calm_rises_law.specs.Homes.{AreSeen}
 
--- Those that left the group are so, and no replica saw a later ballot than it has promised, once it has taken its mail.
+-- Those that left the group are so; no replica saw a later ballot than it has promised, once it has taken its mail; and each ballot that is promised or named was seen by its node.
 pub record IsRisingOn (at : Sets) (by : Tellers) (words : ℕ → ℕ → ℕ × ℕ) (births : List (Seat Player)) (rows : Rows) (base : Base) (course : Course) : Type 0 where
   pub fated : AreFated at by (progress_at births rows base course) (hints_at births rows base) (marks_at (players words births) rows base.core.id)
   pub seen : (node : ℕ) (r : ReplicaState) → view_at births rows base.core.id node ≡ Some r → IsAtLeast (pledged r.acceptor.promised (marks_at (players words births) rows base.core.id node)) r.top
-
--- a refusal that an event delivers to a replica of the group names no later ballot than that saw
-abbrev pub RefusesOld : List (Seat Player) → Rows → Seat Player → Event OrderLine → Base → Type 0
-RefusesOld births rows seat event base =
-    (number : ℕ) (mail : Mail) (promised : Ballot) (r : ReplicaState) → event ≡ Deliver number → numbered (mails rows) number ≡ Some mail → mail.body ≡ Nack base.core.id promised → view_at births rows base.core.id seat.who ≡ Some r → below r.top promised ≡ false
+  pub home : AreSeen words births rows base

@@ -1,0 +1,44 @@
+-- Each ballot that a node of a group has promised, is asked to promise, or is named in a refusal was seen by its own node, to which such refusals go.
+use Rattle.std.specs.Prelude.{◌≡◌, ℕ, List, Option, Some, None}
+use Rattle.sc_base.specs.Among.{Each}
+use Rattle.sc_base.specs.declared.names.Ballot.{Ballot}
+use Rattle.sc_cmd.specs.declared.cores.Base.{Base}
+use Rattle.sc_mail.specs.declared.bodies.Mail.{Mail}
+use Rattle.sc_mail.specs.declared.bodies.MailBody.TheVariants.{Nack}
+use Rattle.sc_actor.specs.declared.actors.Seat.{Seat}
+use Rattle.sc_actor.specs.Mail.{mails}
+use Rattle.sc_paxos_words.specs.Ballots.{IsAtLeast}
+use Rattle.sc_node_table.specs.Replica.{ReplicaState, first_ballot}
+use Rattle.sc_sound.specs.Players.{Player}
+use Rattle.sc_calm_law.specs.Charts.{players}
+use Rattle.sc_calm_law.specs.Totals.{Rows}
+use Rattle.sc_following_law.specs.Following.{Mark, Asks, Votes, Tells, Installs, Prepares, Promises}
+use Rattle.sc_calm_rows_law.specs.Groups.{view_at, marks_at, promise_in}
+
+-- the greatest ballot that a replica saw, the group's first where there is none
+abbrev pub top_in : Base → Option ReplicaState → Ballot
+top_in base None = first_ballot base.core
+top_in base (Some r) = r.top
+
+-- the node of a ballot saw it
+abbrev pub IsSeen : List (Seat Player) → Rows → Base → Ballot → Type 0
+IsSeen births rows base ballot = IsAtLeast (top_in base (view_at births rows base.core.id ballot.node)) ballot
+
+-- .. that is to be promised by a mark
+abbrev pub AsksSeen : List (Seat Player) → Rows → Base → Mark → Type 0
+AsksSeen births rows base (Prepares ballot) = IsSeen births rows base ballot
+AsksSeen births rows base (Asks ballot slot) = Unit {0}
+AsksSeen births rows base (Votes node ballot slot) = Unit {0}
+AsksSeen births rows base (Tells slot) = Unit {0}
+AsksSeen births rows base (Installs slot) = Unit {0}
+AsksSeen births rows base (Promises node ballot) = Unit {0}
+
+-- .. that is named in a refusal of the group, which goes to that node
+abbrev pub RefusesSeen : List (Seat Player) → Rows → Base → Mail → Type 0
+RefusesSeen births rows base mail = (promised : Ballot) → mail.body ≡ Nack base.core.id promised → (mail.to ≡ promised.node) × IsSeen births rows base promised
+
+-- each such ballot was seen by its node
+pub record AreSeen (words : ℕ → ℕ → ℕ × ℕ) (births : List (Seat Player)) (rows : Rows) (base : Base) : Type 0 where
+  pub promised : (who : ℕ) → IsSeen births rows base (promise_in base (view_at births rows base.core.id who))
+  pub asked : (who : ℕ) → Each (AsksSeen births rows base) (marks_at (players words births) rows base.core.id who)
+  pub refused : Each (RefusesSeen births rows base) (mails rows)
