@@ -103,7 +103,7 @@ module _ (wb : ScenariosAreWellBorn) (begin : GroupsBeginTaught) (through : Grou
           timely = front_timely words scenario journal front q;
           quiet = q.quiet;
           short = omega (arith, len, parts, short);
-          strangers = q.strangers base.core.id;
+          strangers = q.strangers base a;
           led = on.led;
           taught = on.taught;
           one = t.one;

@@ -1,5 +1,5 @@
 -- Replicas are at nodes of their scenario, where rows come in time.
-use Rattle.std.proofs.Common.{◌≡◌, ℕ, zero, suc, ◌+◌, ◌<◌, ◌≤◌, ◌&&◌, ◌||◌, leb, eqb, Bool, true, false, true≢false, List, [], ◌∷◌, ◌++◌, length, map, filter, Some, None, inl, inr, refl, sym, ◌∙◌, ap, subst, append_assoc, arith}
+use Rattle.std.proofs.Common.{◌≡◌, ℕ, zero, suc, ◌+◌, ◌<◌, ◌≤◌, ◌||◌, leb, eqb, Bool, true, false, true≢false, List, [], ◌∷◌, ◌++◌, length, map, filter, Some, None, inl, inr, refl, sym, ◌∙◌, ap, subst, append_assoc, arith}
 use Rattle.std.specs.Prelude.{find}
 use Rattle.std.proofs.lemmas.Bool.{cases_Bool, cases_lt, cond-true, cond-false, eqb-true, ne_eqb, and_parts, leb-true}
 use Rattle.std.proofs.lemmas.Option.{none-some}
@@ -10,7 +10,6 @@ use Rattle.sc_base.specs.declared.names.Draw.{Draw}
 use Rattle.sc_cmd.specs.declared.cores.Base.{Base}
 use Rattle.sc_cmd.specs.declared.orders.OrderLine.{OrderLine}
 use Rattle.sc_mail.specs.declared.bodies.Mail.{Mail}
-use Rattle.sc_mail.specs.declared.roles.Role.TheVariants.{Node}
 use Rattle.sc_member.specs.Roster.{is_member}
 use Rattle.sc_actor.specs.declared.actors.Seat.{Seat}
 use Rattle.sc_actor.specs.declared.rows.Row.{Row}
@@ -24,13 +23,12 @@ use Rattle.sc_scenario.specs.Groups.{group_at}
 use Rattle.sc_scenario.specs.Valid.{IsBounded, IsBoundedClient, IsUpTo, ValidScenariosAreBounded}
 use Rattle.sc_scenario.specs.declared.scenarios.Asks.{Asks}
 use Rattle.sc_scenario.specs.declared.scenarios.Scenario.{Scenario}
-use Rattle.sc_node_table.specs.Node.{is_node, replica_of, born_replicas, born_node}
+use Rattle.sc_node_table.specs.Node.{is_node, replica_of, born_replicas}
 use Rattle.sc_node_table.specs.Replica.{ReplicaState, name_of, born_replica}
 use Rattle.sc_node_table.specs.Slots.{slots_ahead, numbers_from}
 use Rattle.sc_sound.specs.Players.{Player, player_table, node_seat, client_seat, client_seats, route_of, births, as_nodes}
 use Rattle.sc_calm_law.specs.Charts.{players}
 use Rattle.sc_log_law.specs.Descent.{Rows}
-use Rattle.sc_budget_law.specs.AskingQuiet.{replicas_after}
 use Rattle.sc_budget_law.specs.BetweenJournal.{replicas_of}
 use Rattle.sc_calm_settings_law.specs.Settings.{AreAtNodes}
 use Rattle.sc_calm_journals_law.specs.Journal.{IsCalmJournal, IsFront}

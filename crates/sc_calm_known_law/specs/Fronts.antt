@@ -7,7 +7,6 @@ use Rattle.sc_actor.specs.Mail.{mails}
 use Rattle.sc_actor.specs.Walk.{is_quiet}
 use Rattle.sc_orderly_law.specs.Orderly.{is_born}
 use Rattle.sc_paxos_law.specs.Chosen.{IsLog}
-use Rattle.sc_scenario.specs.Valid.{IsValid}
 use Rattle.sc_scenario.specs.declared.scenarios.Scenario.{Scenario}
 use Rattle.sc_node_table.specs.Replica.{ReplicaState}
 use Rattle.sc_sound.specs.GroupsOf.{groups_at}
@@ -56,7 +55,7 @@ pub record IsQuietFront (words : ℕ → ℕ → ℕ × ℕ) (scenario : Scenari
   pub begins : IsFront journal front
   pub quiet : is_quiet (players words (births as_nodes scenario)) front ≡ true
   pub sent : AreSent words scenario journal front
-  pub strangers : (name : Draw) (who : ℕ) → is_born (players words (births as_nodes scenario)) who ≡ false → marks_at (players words (births as_nodes scenario)) front name who ≡ []
+  pub strangers : (base : Base) → Among base (groups_at as_nodes scenario.groups journal) → (who : ℕ) → is_born (players words (births as_nodes scenario)) who ≡ false → marks_at (players words (births as_nodes scenario)) front base.core.id who ≡ []
 
 -- a group of the journal is a quiet group after the front, asked for nothing beyond its course; and its log after the front is executed
 pub record IsKnownGroup (words : ℕ → ℕ → ℕ × ℕ) (scenario : Scenario) (journal front : Rows) (base : Base) : Type 0 where
