@@ -70,7 +70,7 @@ module _ (ahead : Ahead) (open_slots : ahead.slots ≡ slots_ahead) (base : Base
     upto_is : take (next r) all ≡ k.whole ++ c ∷ []
     upto_is =
         let longer : IsLog (rule ahead base) h (k.whole ++ c ∷ []) = longer_log (rule ahead base) h k.whole c k.is_log
-            (by_own_log (rule ahead base) (first ahead base) h lawful (length k.whole + 1) c (subst (λ n. IsLearnt (rule ahead base) h n c) k.next_is t) k.whole k.is_log (earlier (rule ahead base) (length k.whole))) in
+        (by_own_log (rule ahead base) (first ahead base) h lawful (length k.whole + 1) c (subst (λ n. IsLearnt (rule ahead base) h n c) k.next_is t) k.whole k.is_log (earlier (rule ahead base) (length k.whole))) in
         let next_is = k.next_is in
         let len = length_push k.whole c in
         let same : next r ≡ length (k.whole ++ c ∷ []) = omega (arith, next_is, len) in
@@ -123,7 +123,7 @@ module _ (ahead : Ahead) (open_slots : ahead.slots ≡ slots_ahead) (base : Base
   step_bears c place es k mine t up rest slot child least most b member = elim (cases_eq slot (next place.0)) [
     | inl is ↦ Among-left child (next_child c place.0) (executed_ready es (executed_one true c place)).1 (born_here c place.0 k mine t child (subst (λ n. IsBirth all base n child) is b) member)
     | inr ne ↦ Among-right child (next_child c place.0) (executed_ready es (executed_one true c place)).1
-    (rest slot child (past ne) (let still = pump_next (executed_ready es (executed_one true c place)).0 in omega (arith, most, still)) b member)
+        (rest slot child (past ne) (let still = pump_next (executed_ready es (executed_one true c place)).0 in omega (arith, most, still)) b member)
   ]
     where
       past : (slot ≡ next place.0 → ⊥) → next (executed_one true c place).0 ≤ slot

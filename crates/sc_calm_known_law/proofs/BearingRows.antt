@@ -19,7 +19,7 @@ use Rattle.sc_actor.specs.declared.actors.Seat.{Seat}
 use Rattle.sc_actor.specs.declared.rows.Event.{Event}
 use Rattle.sc_actor.specs.declared.rows.Event.TheVariants.{Deliver, Tick, Go, Told, Crash, Drop, Again}
 use Rattle.sc_actor.specs.declared.rows.Input.TheVariants.{Got}
-use Rattle.sc_actor.specs.Mail.{mails, numbered}
+use Rattle.sc_actor.specs.Mail.{mails}
 use Rattle.sc_actor.specs.Replay.{value}
 use Rattle.sc_actor.specs.System.{row_of}
 use Rattle.sc_orderly_law.specs.Orderly.{IsTidy, IsCalmEvent}
@@ -35,7 +35,7 @@ use Rattle.sc_node_table.specs.Slots.{slots_ahead}
 use Rattle.sc_sound.specs.Logs.{decided_log}
 use Rattle.sc_sound.specs.Players.{Player, player_table, births, as_nodes}
 use Rattle.sc_calm_law.specs.Charts.{players}
-use Rattle.sc_calm_law.proofs.OwedParties.{child_found, children_found}
+use Rattle.sc_calm_law.proofs.OwedParties.{children_found}
 use Rattle.sc_log_law.specs.Descent.{Rows}
 use Rattle.sc_following_law.specs.Following.{Mark, Asks, Votes, Tells, Installs, Prepares, Promises, mark_of, Course, Sets}
 use Rattle.sc_following_law.specs.Hints.{Tellers}
@@ -162,7 +162,7 @@ module _ (bear : EntriesBearChildren) (words : ℕ → ℕ → ℕ × ℕ) (scen
             let b = children_born after.1 (record node { replicas = with_replica name after.0.0 node.replicas }) child a in (
               b.0,
               view_is all_births rows seat (Deliver number) child.core.id born (Node node) is (Some (Got mail)) (delivered rows number mail d.sent)
-              ∙ (ap (λ (step : NodeState × List Mail). replica_of child.core.id step.0.replicas) taken ∙ b.1),
+                  ∙ (ap (λ (step : NodeState × List Mail). replica_of child.core.id step.0.replicas) taken ∙ b.1),
             )
 
         row_ : IsReplicasRow (births as_nodes scenario) rows seat (Deliver number) base.core.id (Some r) (mailed mail.from mail.body (r, [])).0
@@ -310,7 +310,7 @@ module _ (bear : EntriesBearChildren) (words : ℕ → ℕ → ℕ × ℕ) (scen
             let row_is = subst (λ n. IsReplicasRow all_births rows seat (Told line) n (Some r) (ordered_row node.draws line (r, []))) group_is (rows_replicas.ordered all_births rows seat line node r born is there) in
             still (Told line) row r after here then_ runs slot child least most b member (ordered_row node.draws line (r, [])).0 row_is.is order_stays)
         | inr f ↦ same_view (Told line) row r after here then_ runs slot child least most b member
-        (others_idle.ordered all_births rows seat line base node born is (λ i. true≢false (sym (same_name (group_of_order line.order) name i) ∙ f))).view
+            (others_idle.ordered all_births rows seat line base node born is (λ i. true≢false (sym (same_name (group_of_order line.order) name i) ∙ f))).view
       ]
 
   -- ---- each event

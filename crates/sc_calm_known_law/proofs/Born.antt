@@ -1,5 +1,5 @@
 -- The members of children have them, row by row.
-use Rattle.std.proofs.Common.{◌≡◌, ℕ, zero, suc, ◌+◌, ◌-◌, ◌<◌, ◌≤◌, ◌⊎◌, eqb, Bool, true, false, cond, List, [], ◌∷◌, ◌++◌, take, Option, Some, None, inl, inr, refl, sym, ◌∙◌, ap, subst, append_assoc, append-nil, arith}
+use Rattle.std.proofs.Common.{◌≡◌, ℕ, zero, suc, ◌+◌, ◌-◌, ◌<◌, ◌≤◌, ◌⊎◌, eqb, true, List, [], ◌∷◌, ◌++◌, take, Option, Some, None, inl, inr, refl, sym, ◌∙◌, ap, subst, append_assoc, append-nil, arith}
 use Rattle.std.specs.Prelude.{is_some}
 use Rattle.std.proofs.lemmas.Bool.{cases_eq, cases_lt, cond-true, cond-false, ne_eqb}
 use Rattle.sc_base.specs.Among.{Among}
@@ -8,7 +8,7 @@ use Rattle.sc_cmd.specs.declared.cores.Base.{Base}
 use Rattle.sc_cmd.specs.declared.orders.OrderLine.{OrderLine}
 use Rattle.sc_mail.specs.declared.bodies.Mail.{Mail}
 use Rattle.sc_member.specs.Roster.{is_member}
-use Rattle.sc_machine_table.specs.Group.{Group, group_of}
+use Rattle.sc_machine_table.specs.Group.{group_of}
 use Rattle.sc_machine_table.specs.Logs.{state_after}
 use Rattle.sc_actor.specs.declared.actors.Seat.{Seat}
 use Rattle.sc_actor.specs.declared.rows.Event.{Event}
@@ -21,7 +21,7 @@ use Rattle.sc_orderly_law.proofs.InTime.{by_time, last_in_time}
 use Rattle.sc_paxos_law.proofs.Among.{Among-left, Among-right, Among-either}
 use Rattle.sc_scenario.specs.Valid.{ValidScenariosAreBounded}
 use Rattle.sc_scenario.specs.declared.scenarios.Scenario.{Scenario}
-use Rattle.sc_node_table.specs.Replica.{ReplicaState, listed, next}
+use Rattle.sc_node_table.specs.Replica.{ReplicaState, listed}
 use Rattle.sc_sound.specs.Logs.{decided_log}
 use Rattle.sc_sound.specs.Players.{Player, player_table, births, as_nodes}
 use Rattle.sc_calm_law.specs.Charts.{players}
@@ -29,7 +29,7 @@ use Rattle.sc_calm_law.specs.Quiet.{HasReplica}
 use Rattle.sc_log_law.specs.Descent.{Rows}
 use Rattle.sc_following_law.specs.Following.{Mark, Tells, Course, Sets, members_at}
 use Rattle.sc_following_law.specs.Hints.{Tellers}
-use Rattle.sc_following_law.specs.Rows.{IsRow, Leads, told_of, told_from, welcome}
+use Rattle.sc_following_law.specs.Rows.{IsRow, told_of, told_from}
 use Rattle.sc_following_law.specs.Tables.{marks_for}
 use Rattle.sc_calm_rows_law.specs.Groups.{view_at, progress_at, marks_at, taken_mark, begun_course}
 use Rattle.sc_calm_rows_law.specs.Turns.{IsSeat, with_event}
@@ -39,7 +39,7 @@ use Rattle.sc_calm_logs_law.specs.Logged.{logged_sets, IsGroupOf}
 use Rattle.sc_calm_groups_law.specs.Begun.{BeginsSo}
 use Rattle.sc_calm_groups_law.specs.Kinds.{IsGroupRow, RowPasses, RowRests, RowTakes, RowMakes, RowLeads, RowElects}
 use Rattle.sc_calm_groups_law.specs.Led.{IsWellLed}
-use Rattle.sc_calm_groups_law.specs.Through.{AreWellBorn, ScenariosAreWellBorn, IsRowOf, HasOneLog, IsSentSo}
+use Rattle.sc_calm_groups_law.specs.Through.{ScenariosAreWellBorn, IsRowOf, HasOneLog, IsSentSo}
 use Rattle.sc_calm_groups_law.proofs.Beginning.{scenarios_begin_led, children_begin_led}
 use Rattle.sc_calm_groups_law.proofs.Events.{events_go_on}
 use Rattle.sc_calm_led_law.specs.Led.{over_at}
@@ -150,12 +150,12 @@ module _ (bear : EntriesBearChildren) (wb : ScenariosAreWellBorn) (words : ℕ �
         let place = (was.followed.given.gives seat.who r row_.was runs).0.newest in
         elim (cases_eq who seat.who) [
           | inl is ↦ has_it is
-          (lead_bears bear words scenario journal front rest split base group at (over_at as_nodes base journal) by (wb scenario) one so rows seat course born was slot child b (own_member is) event row calm timely
-          r after.0 row_.was row_.is runs leads.takes (omega (arith, place, high)) (omega (arith, top, low)))
+              (lead_bears bear words scenario journal front rest split base group at (over_at as_nodes base journal) by (wb scenario) one so rows seat course born was slot child b (own_member is) event row calm timely
+              r after.0 row_.was row_.is runs leads.takes (omega (arith, place, high)) (omega (arith, top, low)))
           | inr ne ↦ inr (subst (Among (Tells slot)) (sym (moved.others who ne)) (Among-right (Tells slot) (marks_at (players words seats) rows name who) (sent who)
-          (subst (Among (Tells slot)) (sym (leads.sends who))
-          (Among-left (Tells slot) (told_from at course course.newest leads.executed who) (leads.offers who)
-          (told_in at course course.newest leads.executed who slot high reach (λ e. ne (e ∙ sym leads.mine)) (was_member slot child who b member))))))
+              (subst (Among (Tells slot)) (sym (leads.sends who))
+              (Among-left (Tells slot) (told_from at course course.newest leads.executed who) (leads.offers who)
+              (told_in at course course.newest leads.executed who slot high reach (λ e. ne (e ∙ sym leads.mine)) (was_member slot child who b member))))))
         ]
 
     after_all : slot < later.newest → Goal

@@ -41,6 +41,7 @@ use Rattle.sc_calm_rows_law.specs.Groups.{replicas_of as view_replicas, replica_
 use Rattle.sc_calm_settings_law.specs.Settings.{AreAtNodes}
 use Rattle.sc_calm_journals_law.specs.Journal.{IsFront}
 use Rattle.sc_calm_known_law.specs.Fronts.{IsOfGroup, IsFoundFront, FrontsAreFound}
+use Rattle.sc_calm_known_law.proofs.Homes.{at_nodes}
 use Rattle.sc_calm_known_law.proofs.LinkFronts.{sources, well, turn, found}
 
 -- ---- a client stays one
@@ -172,7 +173,7 @@ module _ (bounded : ValidScenariosAreBounded) (begin : ValidScenariosBeginWell) 
       by (Some r) q out = absurd (out (homes name node (r, q)))
 
   pub found_front : IsFoundFront words scenario journal front
-  found_front = record { lawful = lawful_front; apart = (found bounded begin allowed wishes positions free words scenario journal valid lawful).apart; later = later; goes_on = goes_on; is_log = λ base a. (sound.one_log base a).is_log; replicas = replicas; views = views }
+  found_front = record { homes = homes; lawful = lawful_front; apart = (found bounded begin allowed wishes positions free words scenario journal valid lawful).apart; later = later; goes_on = goes_on; is_log = λ base a. (sound.one_log base a).is_log; replicas = replicas; views = views }
 
 pub fronts_are_found : ValidScenariosAreBounded → ValidScenariosBeginWell → TakenOrdersAreAllowed → TakenWishesAreAllowed → WishesAreAtPositions → OtherNamesAreFree → ValidJournalsAreSound → FrontsAreFound
-fronts_are_found = found_front
+fronts_are_found bounded begin allowed wishes positions free sounds words scenario journal front calm is = found_front bounded begin allowed wishes positions free sounds words scenario journal front calm.valid calm.lawful is (at_nodes bounded words scenario journal front calm is)

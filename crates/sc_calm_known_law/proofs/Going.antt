@@ -98,7 +98,7 @@ module _ (bounded : ValidScenariosAreBounded) (named : LawfulReplicasAreNamedOnc
   seat_of me = node_seat as_nodes scenario.groups scenario.policy me
 
   found : IsFoundFront words scenario journal front
-  found = finds words scenario journal front q.calm.valid q.calm.lawful q.begins q.homes
+  found = finds words scenario journal front q.calm q.begins
 
   -- ---- seat by seat
 
@@ -149,7 +149,7 @@ module _ (bounded : ValidScenariosAreBounded) (named : LawfulReplicasAreNamedOnc
 
   seen_all : (name : Draw) (me : ℕ) (r : ReplicaState) → at name me ≡ Some r → IsAmong name r
   seen_all name me r e =
-      let home = q.homes name me (r, e) in
+      let home = found.homes name me (r, e) in
       let low = home.0 in
       let high = home.1 in
       by (value player_table (seat_of me) front) refl

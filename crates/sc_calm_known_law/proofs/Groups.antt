@@ -103,7 +103,7 @@ module _ (wb : ScenariosAreWellBorn) (begin : GroupsBeginTaught) (through : Grou
           timely = front_timely words scenario journal front q;
           quiet = q.quiet;
           short = omega (arith, len, parts, short);
-          strangers = q.strangers base.core.id;
+          strangers = q.strangers base a;
           led = on.led;
           taught = on.taught;
           one = t.one;
@@ -114,7 +114,7 @@ module _ (wb : ScenariosAreWellBorn) (begin : GroupsBeginTaught) (through : Grou
 
   module _ (finds : FrontsAreFound) where
     found : IsFoundFront words scenario journal front
-    found = finds words scenario journal front q.calm.valid q.calm.lawful q.begins q.homes
+    found = finds words scenario journal front q.calm q.begins
 
     pub executed : Among base (groups_at as_nodes scenario.groups front) → HasMembers → (known : IsKnownGroup words scenario journal front base) × (length (decided_log as_nodes base front) + 1 ≡ known.course.newest)
     executed a has =
@@ -139,5 +139,5 @@ quiet_fronts_have_groups wb begin through members words scenario journal front b
 
 pub quiet_logs_are_executed : ScenariosAreWellBorn → GroupsBeginTaught → GroupsAreAskedThrough → FrontsAreFound → FrontsHaveMembers → QuietLogsAreExecuted
 quiet_logs_are_executed wb begin through finds members words scenario journal front base q a there =
-    let f = finds words scenario journal front q.calm.valid q.calm.lawful q.begins q.homes in
+    let f = finds words scenario journal front q.calm q.begins in
     executed wb begin through words scenario journal front base q finds a (members words scenario journal front base q (f.later base a) there)

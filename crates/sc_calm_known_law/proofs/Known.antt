@@ -35,7 +35,7 @@ module _ (executed : QuietLogsAreExecuted) (finds : FrontsAreFound) (words : ℕ
   see name node = replicas_at scenario front name node
 
   pub found : IsFoundFront words scenario journal front
-  found = finds words scenario journal front q.calm.valid q.calm.lawful q.begins q.homes
+  found = finds words scenario journal front q.calm q.begins
 
   -- what is seen is what a node has
   pub seen : (name : Draw) (node : ℕ) (r : ReplicaState) → replicas_after scenario front name node ≡ Some r → see name node ≡ Some r

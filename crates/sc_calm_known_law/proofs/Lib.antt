@@ -6,6 +6,7 @@ pub mod LinkFronts
 pub mod Offered
 pub mod Arcs
 pub mod Chosen
+pub mod Homes
 pub mod Fronts
 pub mod Groups
 pub mod Known

@@ -81,7 +81,7 @@ none_of_both (x ∷ xs) ys e = absurd (let f : x ∷ (xs ++ ys) ≡ [] = e in cc
 
 -- ---- the groups of a scenario
 
-of_up_to : (lines : List GroupLine) (n : ℕ) (base : Base) → Among base (bases_up_to lines n) → (k : ℕ) × (k < n) × (base_at lines k ≡ base)
+pub of_up_to : (lines : List GroupLine) (n : ℕ) (base : Base) → Among base (bases_up_to lines n) → (k : ℕ) × (k < n) × (base_at lines k ≡ base)
 of_up_to lines zero base a = absurd a
 of_up_to lines (suc n) base a = elim (Among-either base (bases_up_to lines n) (base_at lines n ∷ []) a) [
   | inl b ↦ (let f = of_up_to lines n base b in let low = f.1 in (f.0, omega (arith, low), f.2))

@@ -1,5 +1,5 @@
 -- Each group of a quiet front has replicas at its first members: those of a scenario from birth on, and each child since its group's members learnt the entry that names it.
-use Rattle.std.proofs.Common.{◌≡◌, ℕ, zero, suc, ◌+◌, ◌<◌, ◌≤◌, true, List, [], ◌∷◌, ◌++◌, length, Some, None, inl, inr, sym, ◌∙◌, ap, subst, arith}
+use Rattle.std.proofs.Common.{◌≡◌, ℕ, zero, suc, ◌≤◌, true, List, [], length, Some, None, inl, inr, ◌∙◌, ap, subst, arith}
 use Rattle.std.proofs.lemmas.Bool.{cond-true}
 use Rattle.sc_base.specs.Among.{Among}
 use Rattle.sc_cmd.specs.declared.cores.Base.{Base}
@@ -7,7 +7,7 @@ use Rattle.sc_member.specs.Roster.{is_member}
 use Rattle.sc_orderly_law.specs.Timely.{AreInTime}
 use Rattle.sc_scenario.specs.Valid.{IsBounded, ValidScenariosAreBounded}
 use Rattle.sc_scenario.specs.declared.scenarios.Scenario.{Scenario}
-use Rattle.sc_node_table.specs.Replica.{born_replica, next}
+use Rattle.sc_node_table.specs.Replica.{born_replica}
 use Rattle.sc_node_table.specs.Slots.{slots_ahead}
 use Rattle.sc_sound.specs.GroupsOf.{groups_at}
 use Rattle.sc_sound.specs.Logs.{decided_log}
@@ -26,7 +26,7 @@ use Rattle.sc_calm_groups_law.specs.Through.{ScenariosAreWellBorn}
 use Rattle.sc_calm_led_law.specs.Taught.{GroupsBeginTaught}
 use Rattle.sc_calm_led_law.specs.Tellers.{tellers_at}
 use Rattle.sc_calm_led_law.proofs.Begins.{begun_first}
-use Rattle.sc_calm_rests_law.proofs.Facts.{none, place}
+use Rattle.sc_calm_rests_law.proofs.Facts.{none}
 use Rattle.sc_calm_scenes_law.specs.Fresh.{IsThere}
 use Rattle.sc_calm_known_law.specs.Bearing.{IsBirth}
 use Rattle.sc_calm_known_law.specs.Fronts.{IsQuietFront, IsFoundFront, FrontsAreFound}
@@ -42,7 +42,7 @@ module _ (bounded : ValidScenariosAreBounded) (begin : ValidScenariosBeginWell) 
   bound = bounded scenario q.calm.valid
 
   seen : IsFoundFront words scenario journal front
-  seen = finds words scenario journal front q.calm.valid q.calm.lawful q.begins q.homes
+  seen = finds words scenario journal front q.calm q.begins
 
   are_found : AreFound as_nodes scenario.groups front
   are_found = found bounded begin allowed wishes positions free words scenario front q.calm.valid seen.lawful

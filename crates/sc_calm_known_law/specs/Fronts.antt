@@ -7,7 +7,6 @@ use Rattle.sc_actor.specs.Mail.{mails}
 use Rattle.sc_actor.specs.Walk.{is_quiet}
 use Rattle.sc_orderly_law.specs.Orderly.{is_born}
 use Rattle.sc_paxos_law.specs.Chosen.{IsLog}
-use Rattle.sc_scenario.specs.Valid.{IsValid}
 use Rattle.sc_scenario.specs.declared.scenarios.Scenario.{Scenario}
 use Rattle.sc_node_table.specs.Replica.{ReplicaState}
 use Rattle.sc_sound.specs.GroupsOf.{groups_at}
@@ -34,7 +33,7 @@ pub record IsOfGroup (scenario : Scenario) (rows : Rows) (name : Draw) (r : Repl
   pub named : base.core.id ≡ name
   pub run : HasRun as_nodes base rows r
 
--- The groups of a front are groups of the journal, in which no two have one name, and their logs are logs and go on; each replica is of one of them; and a player of a scenario has the replicas that its node has.
+-- The groups of a front are groups of the journal, in which no two have one name, and their logs are logs and go on; each replica is of one of them; replicas are at nodes of the scenario, and a player of it has those that its node has.
 pub record IsFoundFront (words : ℕ → ℕ → ℕ × ℕ) (scenario : Scenario) (journal front : Rows) : Type 0 where
   pub lawful : Lawful as_nodes words scenario front
   pub apart : (one other : Base) → Among one (groups_at as_nodes scenario.groups journal) → Among other (groups_at as_nodes scenario.groups journal) → one.core.id ≡ other.core.id → one ≡ other
@@ -42,21 +41,21 @@ pub record IsFoundFront (words : ℕ → ℕ → ℕ × ℕ) (scenario : Scenari
   pub goes_on : (base : Base) → Among base (groups_at as_nodes scenario.groups front) → Continues (decided_log as_nodes base front) (decided_log as_nodes base journal)
   pub is_log : (base : Base) → Among base (groups_at as_nodes scenario.groups front) → IsLog (rule_of as_nodes base) (accepts base.core.id front) (decided_log as_nodes base front)
   pub replicas : (name : Draw) (node : ℕ) (r : ReplicaState) → replicas_after scenario front name node ≡ Some r → IsOfGroup scenario front name r
+  pub homes : AreAtNodes scenario front
   pub views : (name : Draw) (node : ℕ) → replicas_after scenario front name node ≡ view_at (births as_nodes scenario) front name node
 
--- So it is of each front of a lawful journal of a valid scenario, where replicas are at nodes of the scenario.
+-- So it is of each front of a calm journal.
 abbrev pub FrontsAreFound : Type 0
 FrontsAreFound =
-    (words : ℕ → ℕ → ℕ × ℕ) (scenario : Scenario) (journal front : Rows) → IsValid scenario → Lawful as_nodes words scenario journal → IsFront journal front → AreAtNodes scenario front → IsFoundFront words scenario journal front
+    (words : ℕ → ℕ → ℕ × ℕ) (scenario : Scenario) (journal front : Rows) → IsCalmJournal words scenario journal → IsFront journal front → IsFoundFront words scenario journal front
 
--- A quiet front of a calm journal, whose groups are well led; no mail of a group is for who is no actor, and all replicas are at nodes of the scenario.
+-- A quiet front of a calm journal, whose groups are well led; no mail of a group is for who is no actor.
 pub record IsQuietFront (words : ℕ → ℕ → ℕ × ℕ) (scenario : Scenario) (journal front : Rows) : Type 0 where
   pub calm : IsCalmJournal words scenario journal
   pub begins : IsFront journal front
   pub quiet : is_quiet (players words (births as_nodes scenario)) front ≡ true
   pub sent : AreSent words scenario journal front
-  pub strangers : (name : Draw) (who : ℕ) → is_born (players words (births as_nodes scenario)) who ≡ false → marks_at (players words (births as_nodes scenario)) front name who ≡ []
-  pub homes : AreAtNodes scenario front
+  pub strangers : (base : Base) → Among base (groups_at as_nodes scenario.groups journal) → (who : ℕ) → is_born (players words (births as_nodes scenario)) who ≡ false → marks_at (players words (births as_nodes scenario)) front base.core.id who ≡ []
 
 -- a group of the journal is a quiet group after the front, asked for nothing beyond its course; and its log after the front is executed
 pub record IsKnownGroup (words : ℕ → ℕ → ℕ × ℕ) (scenario : Scenario) (journal front : Rows) (base : Base) : Type 0 where

@@ -11,11 +11,10 @@ use Rattle.sc_sound.specs.Players.{births, as_nodes}
 use Rattle.sc_calm_law.specs.Charts.{players}
 use Rattle.sc_calm_law.specs.Quiet.{HasReplica}
 use Rattle.sc_calm_law.specs.Totals.{Rows}
-use Rattle.sc_following_law.specs.Following.{Tells, Course, Sets}
+use Rattle.sc_following_law.specs.Following.{Tells, Course}
 use Rattle.sc_following_law.specs.Hints.{Tellers}
 use Rattle.sc_calm_rows_law.specs.Groups.{view_at, marks_at}
-use Rattle.sc_calm_groups_law.specs.Led.{Ends, IsWellLed}
-use Rattle.sc_calm_groups_law.specs.Taught.{AreTaughtAt, IsTaughtOn}
+use Rattle.sc_calm_groups_law.specs.Led.{IsWellLed}
 use Rattle.sc_calm_groups_law.specs.Through.{HasOneLog, IsSentSo}
 use Rattle.sc_calm_logs_law.specs.Logged.{logged_sets, IsGroupOf}
 use Rattle.sc_calm_led_law.specs.Led.{over_at}
