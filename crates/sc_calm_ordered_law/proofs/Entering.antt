@@ -33,6 +33,7 @@ use Rattle.sc_node_table.specs.Replica.{ReplicaState, forgotten, members, next}
 use Rattle.sc_node_table.specs.Execute.{entered}
 use Rattle.sc_node_table.specs.Questions.{asked_link}
 use Rattle.sc_node_table.specs.Spoken.{before_of}
+use Rattle.sc_sound.specs.Logs.{decided_log}
 use Rattle.sc_sound.specs.Players.{births, as_nodes}
 use Rattle.sc_whole_law.specs.Laws.{MembersStayRosters}
 use Rattle.sc_calm_law.specs.Laws.{newcomers}
@@ -175,14 +176,14 @@ module _ (tells : ReplicasTell) (records : RecordsAreTrue) (over : QuietScenesAr
   no_order tx (OfOrder chief e) = (subst (λ x. IsAt x (scene_at (births as_nodes scenario) rows)) e l.untouched.stands).sound
   no_order tx (OfQuestion deal host e own is) = cc
   no_order tx (OfVote deal agreed host e own is) = cc
-  no_order tx (OfOutcome t is) = cc
+  no_order tx (OfOutcome t is ends) = cc
 
   free_now : (child : Draw) → IsWorkAt stage name (Opens child) → r.group.core.lock ≡ Free
   free_now child (OfOrder chief e) =
       over.free (births as_nodes scenario) rows name node r l.leads (ap (λ (h : Here). h.bond) (subst (λ x. IsAt x (scene_at (births as_nodes scenario) rows)) e l.untouched.stands).parties.0.0)
   free_now child (OfQuestion deal host e own is) = cc
   free_now child (OfVote deal agreed host e own is) = cc
-  free_now child (OfOutcome t is) = cc
+  free_now child (OfOutcome t is ends) = cc
 
   -- a watcher's vote
   module _ (tx : Draw) (vote : Past) (by : ℕ) (is : flight.value ≡ RecordWatch tx vote by) where
@@ -195,7 +196,7 @@ module _ (tells : ReplicasTell) (records : RecordsAreTrue) (over : QuietScenesAr
     watched : IsWorkAt stage name (Records tx true (is_cast_yes vote) by) → IsWatched
     watched (OfOrder chief e) = absurd (subst (λ x. IsAt x (scene_at (births as_nodes scenario) rows)) e l.untouched.stands).sound
     watched (OfQuestion deal host e own eq) = cc
-    watched (OfOutcome t eq) = cc
+    watched (OfOutcome t eq ends) = cc
     watched (OfVote deal agreed host e own eq) =
         let now = subst (λ x. IsAt x (scene_at (births as_nodes scenario) rows)) e l.untouched.stands in
         let same = same_records deal.tx tx (is_watch deal.turn) true agreed (is_cast_yes vote) host by eq in
