@@ -72,7 +72,7 @@ module _ (all_bounded : ValidScenariosAreBounded) (few_law : SlotsAreLeft) (stan
   sent base among = sent_law words scenario journal base (group base among) calm.timely (few base)
 
   q : IsQuietFront words scenario journal []
-  q = record { calm = calm; begins = front; quiet = refl; sent = sent; strangers = home.strangers [] front; homes = home.homes [] front }
+  q = record { calm = calm; begins = front; quiet = refl; sent = sent; strangers = λ base among. home.strangers [] front base.core.id }
 
   -- each replica is as its group begins
   as_begun : (name : Draw) (node : ℕ) (r : ReplicaState) → view_at (births as_nodes scenario) [] name node ≡ Some r → (base : Base) × Among base (groups_at as_nodes scenario.groups journal) × (r ≡ born_replica slots_ahead node base)
@@ -89,8 +89,8 @@ module _ (all_bounded : ValidScenariosAreBounded) (few_law : SlotsAreLeft) (stan
 
   none_gone : (r : ReplicaState) → Among r (all_replicas (births as_nodes scenario) []) → r.group.core.gone ≡ None
   none_gone r a =
-      let lawful = (found_law words scenario journal [] calm.valid calm.lawful front (home.homes [] front)).lawful in
-      let p = place_of all_bounded once_law agree_law words scenario [] calm.valid lawful (home.homes [] front) r a in
+      let f = found_law words scenario journal [] calm front in
+      let p = place_of all_bounded once_law agree_law words scenario [] calm.valid f.lawful f.homes r a in
       let is = as_begun (name_of r) p.0 r p.1 in
       ap (λ (x : ReplicaState). x.group.core.gone) is.2 ∙ stand_law.stands as_nodes words scenario journal is.0 (group is.0 is.1)
 
@@ -102,6 +102,7 @@ journals_begin all_bounded few_law stand_law once_law sent_law born_law begin_la
     rest_law words scenario first journal [] (q all_bounded few_law stand_law once_law sent_law born_law begin_law found_law agree_law rest_law words scenario first others journal groups calm home)
     (begin_law words scenario first others calm.valid groups)
     (record {
+      strangers = home.strangers [] (record { more = journal; is = refl });
       errands = tt;
       rounds = round_one all_bounded few_law stand_law once_law sent_law born_law begin_law found_law agree_law rest_law words scenario first others journal groups calm home;
       turn = λ name. 0;

@@ -96,7 +96,7 @@ module _ (all_bounded : ValidScenariosAreBounded) (few_law : SlotsAreLeft) (logs
   named = named_there found_law words scenario journal quiet calm home rests.front
 
   seen : AreSeen scenario quiet
-  seen name node = agree_law.nodes scenario quiet name node (all_bounded scenario calm.valid) (home.homes quiet rests.front)
+  seen name node = agree_law.nodes scenario quiet name node (all_bounded scenario calm.valid) (found_law words scenario journal quiet calm rests.front).homes
 
   -- each replica rests
   at_rest : (name : Draw) (who : ℕ) (r : ReplicaState) → view_at all quiet name who ≡ Some r → IsAtRest r
@@ -153,7 +153,7 @@ module _ (all_bounded : ValidScenariosAreBounded) (few_law : SlotsAreLeft) (logs
   }
 
   found : IsFoundFront words scenario journal quiet
-  found = found_law words scenario journal quiet calm.valid calm.lawful rests.front (home.homes quiet rests.front)
+  found = found_law words scenario journal quiet calm rests.front
 
   begins : IsOrderedSince words scenario first journal quiet then
   unfolding under_after
@@ -172,7 +172,7 @@ module _ (all_bounded : ValidScenariosAreBounded) (few_law : SlotsAreLeft) (logs
       }
 
   finds_calm : (far sent : ℕ) → FindsCalm (chart_at far sent s quiet) all quiet seat (Told line)
-  finds_calm far sent = calm_law words scenario first journal quiet far sent seat line calm rests (home.homes quiet rests.front) seated
+  finds_calm far sent = calm_law words scenario first journal quiet far sent seat line calm rests (found_law words scenario journal quiet calm rests.front).homes seated
 
 pub orders_begin : ValidScenariosAreBounded → SlotsAreLeft → ReplicasRunLogs → ViewsAreReplicas → SlotsHaveRosters → NextRowsAreSent → NewestStay → FrontsAreFound → ViewsAgree → SentReplicas → OrdersRowsFind → FreshGroupsStay → YoungGroupsStay → TrueOrdersBegin → OrdersBeginWork → WorkStandsAlone
     → ToldOrdersFindCalm → OrdersBeginOrdered

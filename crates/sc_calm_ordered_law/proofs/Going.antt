@@ -151,7 +151,7 @@ module _ (all_bounded : ValidScenariosAreBounded) (few_law : SlotsAreLeft) (logs
   sent_after = at_row.sent_after few_law logs_law views_law rosters_law next_law newest_law found_law words scenario journal rows seat (Deliver number) calm home on.front on.seated on.timely under.sent under.reached young
 
   seen : AreSeen scenario quiet
-  seen name node = agree_law.nodes scenario quiet name node (all_bounded scenario calm.valid) (home.homes quiet under.rests.front)
+  seen name node = agree_law.nodes scenario quiet name node (all_bounded scenario calm.valid) (found_law words scenario journal quiet calm under.rests.front).homes
 
   -- a mail that is delivered is of a group of the journal, which has a replica
   mail_known : (mail : Mail) → numbered (mails rows) number ≡ Some mail → IsOfJournal scenario journal mail × ((name : Draw) → group_of_mail mail.body ≡ Some name → IsThere all rows name)
@@ -265,8 +265,8 @@ module _ (all_bounded : ValidScenariosAreBounded) (few_law : SlotsAreLeft) (logs
   alone : AllLeadAlone all rows
   alone r a runs =
       let front = at_row.here few_law logs_law views_law rosters_law next_law newest_law found_law words scenario journal rows seat (Deliver number) calm home on.front on.seated on.timely under.sent under.reached young in
-      let homes = home.homes rows front in
-      let p = place_of all_bounded once_law agree_law words scenario rows calm.valid (found_law words scenario journal rows calm.valid calm.lawful front homes).lawful homes r a in
+      let f = found_law words scenario journal rows calm front in
+      let p = place_of all_bounded once_law agree_law words scenario rows calm.valid f.lawful f.homes r a in
       (p.0, lead_at p.0 r p.1 runs)
     where
       lead_at : (node : ℕ) (x : ReplicaState) → view_at all rows (name_of x) node ≡ Some x → x.running ≡ true → LeadsAlone all rows (name_of x) node x
@@ -302,7 +302,7 @@ module _ (all_bounded : ValidScenariosAreBounded) (few_law : SlotsAreLeft) (logs
   found : (far sent : ℕ) → quiet_front s rows ≡ quiet → DoHintsRise (replicas_after scenario quiet) (chart_at far sent s rows).ways → FindsCalm (chart_at far sent s rows) all rows seat (Deliver number)
   found far sent front rise =
       calm_law words scenario first journal quiet rows far sent seat number calm under on sent_after
-      (record { alone = alone; homes = home.homes quiet under.rests.front; front = front; rise = rise; nodes = given.nodes; mail = mail_so })
+      (record { alone = alone; homes = (found_law words scenario journal quiet calm under.rests.front).homes; front = front; rise = rise; nodes = given.nodes; mail = mail_so })
 
 pub deliveries_keep : ValidScenariosAreBounded → SlotsAreLeft → ReplicasRunLogs → ViewsAreReplicas → SlotsHaveRosters → ReplicasLast → NextRowsAreSent → NewestStay → FrontsAreFound → ViewsAgree → WellLedLeadAlone → SentReplicas → OrdersRowsMeet → OrdersRowsFind → ChildrenWereNowhere → FreshGroupsStay → YoungGroupsStay
     → MailComesUnsettled → AskedGroupsStood → TrueOrdersGoOn → DeliveriesKeepWork → WorkStandsAlone → OrderRowsFindCalm → MailMayCome → LawfulReplicasAreNamedOnce → DeliveriesKeepOrdered

@@ -132,7 +132,7 @@ module _ (found_law : FrontsAreFound) (words : ℕ → ℕ → ℕ × ℕ) (scen
   -- a group that has a replica is one of the journal
   pub named_there : (name : Draw) → IsThere (births as_nodes scenario) rows name → IsNamedGroup scenario journal name
   named_there name there =
-      let found = found_law words scenario journal rows calm.valid calm.lawful front (home.homes rows front) in
+      let found = found_law words scenario journal rows calm front in
       let of = found.replicas name there.0 there.1 (found.views name there.0 ∙ there.2) in
       (of.base, found.later of.base of.among, of.named)
 

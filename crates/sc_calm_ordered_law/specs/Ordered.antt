@@ -36,7 +36,6 @@ use Rattle.sc_calm_found_law.specs.Missed.{IsYoung}
 use Rattle.sc_calm_found_law.specs.Votes.{IsTrueEntry}
 use Rattle.sc_calm_charts_law.specs.Charting.{chart_at}
 use Rattle.sc_calm_charts_law.specs.Fronts.{quiet_front}
-use Rattle.sc_calm_settings_law.specs.Settings.{AreAtNodes}
 use Rattle.sc_budget_law.specs.AskingQuiet.{replicas_after, DoHintsRise}
 use Rattle.sc_calm_journals_law.specs.Journal.{IsCalmJournal, IsFront, GoesOnBy}
 use Rattle.sc_calm_journals_law.specs.Resting.{RestsAt}
@@ -45,9 +44,8 @@ use Rattle.sc_calm_true_law.specs.Under.{IsTrueSince}
 use Rattle.sc_calm_works_law.specs.Tasks.{Task}
 use Rattle.sc_calm_works_law.specs.Works.{AreAtWork, IsTaskOf}
 
--- In all first rows of a journal replicas are at nodes of the scenario, and neither an errand nor other mail of a group is for who is no player; and first members are players.
+-- In all first rows of a journal neither an errand nor other mail of a group is for who is no player; and first members are players.
 pub record IsHomelyJournal (words : ℕ → ℕ → ℕ × ℕ) (scenario : Scenario) (journal : Rows) : Type 0 where
-  pub homes : (rows : Rows) → IsFront journal rows → AreAtNodes scenario rows
   pub strangers : (rows : Rows) → IsFront journal rows → (name : Draw) (who : ℕ) → is_born (players words (births as_nodes scenario)) who ≡ false → marks_at (players words (births as_nodes scenario)) rows name who ≡ []
   pub errands : (rows : Rows) → IsFront journal rows → Each (GoesToActor words (births as_nodes scenario)) (mails rows)
   pub born : (base : Base) → Among base (groups_at as_nodes scenario.groups journal) → (who : ℕ) → is_member base.core.members who ≡ true → is_born (players words (births as_nodes scenario)) who ≡ true

@@ -65,7 +65,7 @@ use Rattle.sc_calm_over_law.proofs.Nodes.{node_value}
 
 module _ (all_bounded : ValidScenariosAreBounded) (found_law : FrontsAreFound) (groups_law : QuietFrontsHaveGroups) (executed_law : QuietLogsAreExecuted) (known_law : FrontsAreKnown) (reach_law : FrontsAreReachable) (taken_law : FrontsAreTakenIn) (linked_law : FrontsAreLinked) (free_law : StillFrontsAreFree)
     (stand_law : QuietGroupsStand) (gone_law : QuietGroupsAreGone) (rest_law : QuietReplicasRest) (kept_law : QuietReplicasAreKept) (led_law : QuietGroupsAreLed) (keep_law : NodesKeepTops) (topped_law : NodesAreBornTopped) (sent_law : SentReplicas) (there_law : FrontsAreThere) (members_law : FrontsHaveMembers) (noted_law : FrontsAreNoted) (words : ℕ → ℕ → ℕ × ℕ) (scenario : Scenario) (first : Base) (journal front : Rows)
-    (q : IsQuietFront words scenario journal front) (ends : EndsQuietly scenario first front) where
+    (q : IsQuietFront words scenario journal front) (ends : EndsQuietly words scenario first front) where
   abbrev at : Draw → ℕ → Option ReplicaState
   at = replicas_after scenario front
 
@@ -73,7 +73,7 @@ module _ (all_bounded : ValidScenariosAreBounded) (found_law : FrontsAreFound) (
   s = players words (births as_nodes scenario)
 
   found : IsFoundFront words scenario journal front
-  found = found_law words scenario journal front q.calm.valid q.calm.lawful q.begins q.homes
+  found = found_law words scenario journal front q.calm q.begins
 
   free : AreAllFree scenario front
   free = free_law words scenario journal front q ends.still
@@ -186,7 +186,7 @@ module _ (all_bounded : ValidScenariosAreBounded) (found_law : FrontsAreFound) (
     players = ends.players;
     reached = ends.reached;
     none = empty;
-    desk = λ who none. desk_marks (rest s front who) (λ name. q.strangers name who none);
+    desk = λ who none. desk_marks (rest s front who) (λ name. ends.strangers name who none);
   }
 
   rests : RestsAt words scenario first journal front

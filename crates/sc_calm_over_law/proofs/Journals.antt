@@ -80,7 +80,7 @@ module _ (found_law : FrontsAreFound) (rest_law : QuietFrontsRest) (words : ℕ 
   s = players words (births as_nodes scenario)
 
   views : (name : Draw) (node : ℕ) → replicas_after scenario front name node ≡ view_at (births as_nodes scenario) front name node
-  views = (found_law words scenario journal front q.calm.valid q.calm.lawful q.begins q.homes).views
+  views = (found_law words scenario journal front q.calm q.begins).views
 
   at_rest : (name : Draw) (node : ℕ) (r : ReplicaState) → view_at (births as_nodes scenario) front name node ≡ Some r → IsAtRest r
   at_rest name node r e = is.quiet.at_rest name node r (views name node ∙ e)
@@ -107,6 +107,7 @@ module _ (found_law : FrontsAreFound) (rest_law : QuietFrontsRest) (words : ℕ 
   rests : RestsAt words scenario first journal front
   rests = rest_law words scenario first journal front q (record {
     still = still;
+    strangers = besides.strangers;
     done = λ name node r e runs. (let k = at_rest name node r e in (k.acts, k.calls));
     rises = λ name node r e off stands. is.quiet.rises name node r e off stands;
     rounds = besides.rounds;

@@ -33,5 +33,5 @@ requests_leave_resting all_bounded frames_law rise_law ask_law cuts_law round_la
     (quiet_of.linked all_bounded frames_law rise_law ask_law cuts_law round_law linked_law words scenario first others far sent journal quiet q.calm groups rests known)
     (quiet_of.seated all_bounded frames_law rise_law ask_law cuts_law round_law linked_law words scenario first others far sent journal quiet q.calm groups rests known)
     asked.requests (λ who born. quiet-empty s whole who (in_time_tidy s whole (front_timely words scenario journal whole q.calm q.begins)) born q.quiet)
-    (found_law words scenario journal whole q.calm.valid q.calm.lawful q.begins q.homes).lawful in
+    (found_law words scenario journal whole q.calm q.begins).lawful in
     rest_law words scenario first journal whole q left.0 besides

@@ -8,15 +8,16 @@ use Rattle.sc_mail.specs.declared.roles.Role.TheVariants.{Client}
 use Rattle.sc_member.specs.Roster.{least_of}
 use Rattle.sc_actor.specs.Replay.{value}
 use Rattle.sc_actor.specs.System.{has_gone}
-use Rattle.sc_orderly_law.specs.Orderly.{orders}
+use Rattle.sc_orderly_law.specs.Orderly.{orders, is_born}
 use Rattle.sc_client_table.specs.Client.{Client as ClientState}
 use Rattle.sc_scenario.specs.declared.scenarios.Asks.{Asks}
 use Rattle.sc_scenario.specs.declared.scenarios.Scenario.{Scenario}
 use Rattle.sc_node_table.specs.Replica.{ReplicaState}
 use Rattle.sc_sound.specs.Players.{player_table, births, client_seat, route_of, as_nodes}
+use Rattle.sc_calm_law.specs.Charts.{players}
 use Rattle.sc_calm_law.specs.Quiet.{HasReplica, RisesAt, IsAnswered}
 use Rattle.sc_calm_law.specs.Totals.{Rows}
-use Rattle.sc_calm_rows_law.specs.Groups.{view_at}
+use Rattle.sc_calm_rows_law.specs.Groups.{view_at, marks_at}
 use Rattle.sc_calm_orders_law.specs.Stages.{Still, IsAt}
 use Rattle.sc_calm_scenes_law.specs.Scenes.{scene_at}
 use Rattle.sc_calm_charts_law.specs.Charting.{names_at, all_replicas}
@@ -25,8 +26,9 @@ use Rattle.sc_budget_law.specs.AskingQuiet.{replicas_after}
 use Rattle.sc_calm_known_law.specs.Fronts.{IsQuietFront}
 use Rattle.sc_calm_journals_law.specs.Resting.{RestsAt}
 
--- Nothing of an order is left, and a replica that runs waits for nothing; hints rise, and rounds are few; a client that was told to go has all replies, and all others are as at their births; the scenario's first group has a replica where clients ask first; and groups went one after another.
-pub record EndsQuietly (scenario : Scenario) (first : Base) (front : Rows) : Type 0 where
+-- No mail of a group is for who is no player; nothing of an order is left, and a replica that runs waits for nothing; hints rise, and rounds are few; a client that was told to go has all replies, and all others are as at their births; the scenario's first group has a replica where clients ask first; and groups went one after another.
+pub record EndsQuietly (words : ℕ → ℕ → ℕ × ℕ) (scenario : Scenario) (first : Base) (front : Rows) : Type 0 where
+  pub strangers : (name : Draw) (who : ℕ) → is_born (players words (births as_nodes scenario)) who ≡ false → marks_at (players words (births as_nodes scenario)) front name who ≡ []
   pub still : IsAt Still (scene_at (births as_nodes scenario) front)
   pub done : (name : Draw) (node : ℕ) (r : ReplicaState) → view_at (births as_nodes scenario) front name node ≡ Some r → r.running ≡ true → (r.acts ≡ []) × (r.calls ≡ [])
   pub rises : (name : Draw) (node : ℕ) (r : ReplicaState) → replicas_after scenario front name node ≡ Some r → r.running ≡ false → r.group.core.gone ≡ None → RisesAt (replicas_after scenario front) name r
@@ -41,4 +43,4 @@ pub record EndsQuietly (scenario : Scenario) (first : Base) (front : Rows) : Typ
 
 -- So such a front rests.
 abbrev pub QuietFrontsRest : Type 0
-QuietFrontsRest = (words : ℕ → ℕ → ℕ × ℕ) (scenario : Scenario) (first : Base) (journal front : Rows) → IsQuietFront words scenario journal front → EndsQuietly scenario first front → RestsAt words scenario first journal front
+QuietFrontsRest = (words : ℕ → ℕ → ℕ × ℕ) (scenario : Scenario) (first : Base) (journal front : Rows) → IsQuietFront words scenario journal front → EndsQuietly words scenario first front → RestsAt words scenario first journal front
