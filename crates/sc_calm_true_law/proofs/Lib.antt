@@ -16,6 +16,8 @@ pub mod Pending
 pub mod Quiet
 pub mod Records
 pub mod Ring
+pub mod Rounds
+pub mod Settling
 pub mod Since
 pub mod Stepping
 pub mod Told

@@ -8,6 +8,7 @@ ghost use Rattle.sc_calm_true_law.specs.Finished.{EntriesAreTrue, FinishesAreTru
 ghost use Rattle.sc_calm_true_law.specs.Going.{AskedGroupsStood, TrueOrdersGoOn};
 ghost use Rattle.sc_calm_true_law.specs.Outcomes.{OutcomesAreTaken};
 ghost use Rattle.sc_calm_true_law.specs.Recorded.{RecordsAreTrue};
+ghost use Rattle.sc_calm_true_law.specs.Settled.{CoordinatorsAreSettled, SettledOrdersBegin, SettledOrdersGoOn};
 ghost use Rattle.sc_calm_true_law.specs.Told.{ReplicasTell};
 ghost use Rattle.sc_calm_true_law.specs.Unsettled.{MailComesUnsettled};
 
@@ -119,4 +120,27 @@ pub fn entries_are_true()
     outcomes_are_taken();
     votes_are_true();
     records_are_true();
+}
+
+/// Since a quiet journal nobody is asked to promise a ballot in the group that is told an order, or
+/// coordinates its transaction: not by the row that tells it.
+pub fn settled_orders_begin()
+    ensures { SettledOrdersBegin }
+{
+    replicas_tell();
+}
+
+/// Nor is anybody by a delivery, since the leader has one command in flight at most, by which nobody
+/// comes.
+pub fn settled_orders_go_on()
+    ensures { SettledOrdersGoOn }
+{
+    replicas_tell();
+}
+
+/// So a coordinator that is to ask elsewhere has its promises.
+pub fn coordinators_are_settled()
+    ensures { CoordinatorsAreSettled }
+{
+    replicas_tell();
 }
