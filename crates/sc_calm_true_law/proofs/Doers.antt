@@ -166,18 +166,24 @@ module _ (words : ℕ → ℕ → ℕ × ℕ) (births : List (Seat Player)) (qui
   )
   stays (Weighs deal host) a b d = (
     keeps (doer deal.coord deal.chief (opened deal.tx deal.turn)) d.0 a.leads.0 b.leads.0 (inl (ap (λ (h : Here). h.work) a.parties.0.0)),
-    (keeps (doer deal.asked host []) d.1.0 a.leads.1.0 b.leads.1.0 (works_on deal.asked _ (ap (λ (h : Here). h.work) b.parties.0.1.0)),
-    heard_keeps deal.tx deal.turn a.parties.0.1.1 a.leads.1.1 b.leads.1.1 d.1.1),
+    (
+      keeps (doer deal.asked host []) d.1.0 a.leads.1.0 b.leads.1.0 (works_on deal.asked _ (ap (λ (h : Here). h.work) b.parties.0.1.0)),
+      heard_keeps deal.tx deal.turn a.parties.0.1.1 a.leads.1.1 b.leads.1.1 d.1.1,
+    ),
   )
   stays (Replied deal agreed host) a b d = (
     keeps (doer deal.coord deal.chief (opened deal.tx deal.turn)) d.0 a.leads.0 b.leads.0 (inl (ap (λ (h : Here). h.work) a.parties.0.0)),
-    (keeps (doer deal.asked host (voted deal.tx deal.turn)) d.1.0 a.leads.1.0 b.leads.1.0 (inl (ap (λ (h : Here). h.work) a.parties.0.1.0)),
-    heard_keeps deal.tx deal.turn a.parties.0.1.1 a.leads.1.1 b.leads.1.1 d.1.1),
+    (
+      keeps (doer deal.asked host (voted deal.tx deal.turn)) d.1.0 a.leads.1.0 b.leads.1.0 (inl (ap (λ (h : Here). h.work) a.parties.0.1.0)),
+      heard_keeps deal.tx deal.turn a.parties.0.1.1 a.leads.1.1 b.leads.1.1 d.1.1,
+    ),
   )
   stays (Recorded deal agreed host) a b d = (
     keeps (doer deal.coord deal.chief (opened deal.tx deal.turn)) d.0 a.leads.0 b.leads.0 (works_on deal.coord _ (ap (λ (h : Here). h.work) b.parties.0.0)),
-    (keeps (doer deal.asked host (voted deal.tx deal.turn)) d.1.0 a.leads.1.0 b.leads.1.0 (inl (ap (λ (h : Here). h.work) a.parties.0.1.0)),
-    heard_keeps deal.tx deal.turn a.parties.0.1.1 a.leads.1.1 b.leads.1.1 d.1.1),
+    (
+      keeps (doer deal.asked host (voted deal.tx deal.turn)) d.1.0 a.leads.1.0 b.leads.1.0 (inl (ap (λ (h : Here). h.work) a.parties.0.1.0)),
+      heard_keeps deal.tx deal.turn a.parties.0.1.1 a.leads.1.1 b.leads.1.1 d.1.1,
+    ),
   )
   stays (Closes tx party) a b d = (closing_stays tx party a.parties.0.0 b.parties.0.0 a.leads.0 b.leads.0 d.0, tt)
   stays (ClosesBoth tx one two) a b d = (closing_stays tx one a.parties.0.0 b.parties.0.0 a.leads.0 b.leads.0 d.0, (closing_stays tx two a.parties.0.1.0 b.parties.0.1.0 a.leads.1.0 b.leads.1.0 d.1.0, tt))
@@ -213,8 +219,10 @@ module _ (words : ℕ → ℕ → ℕ × ℕ) (births : List (Seat Player)) (qui
   takes : (deal : Deal) (node host : ℕ) → (IsAt (Weighs deal host) after → Has (doer deal.asked host [])) → Kept (Asks deal node) (Weighs deal host)
   takes deal node host fresh a b d = (
     keeps (doer deal.coord deal.chief (opened deal.tx deal.turn)) d.0 a.leads.0 b.leads.0 (inl (ap (λ (h : Here). h.work) a.parties.0.0)),
-    (fresh b,
-    heard_keeps deal.tx deal.turn a.parties.0.1.1 a.leads.1 b.leads.1.1 d.1),
+    (
+      fresh b,
+      heard_keeps deal.tx deal.turn a.parties.0.1.1 a.leads.1 b.leads.1.1 d.1,
+    ),
   )
 
   voted_done : (tx asked : Draw) (host : ℕ) (turn : Turn) (coord : Draw) (by : ℕ) → ((deed : Deed) → ((command : Command) → work_by command ≡ Some (Answers tx coord (is_watch turn) by) → BeginsSo command → IsDeed deed command) → Has (doer asked host (deed ∷ [])))
@@ -226,16 +234,20 @@ module _ (words : ℕ → ℕ → ℕ × ℕ) (births : List (Seat Player)) (qui
   votes : (deal : Deal) (agreed : Bool) (host : ℕ) → Kept (Weighs deal host) (Replied deal agreed host)
   votes deal agreed host a b d = (
     keeps (doer deal.coord deal.chief (opened deal.tx deal.turn)) d.0 a.leads.0 b.leads.0 (inl (ap (λ (h : Here). h.work) a.parties.0.0)),
-    (voted_done deal.tx deal.asked host deal.turn deal.coord deal.chief
-        (λ deed is. runs (doer deal.asked host []) d.1.0 a.leads.1.0 b.leads.1.0 deed (Answers deal.tx deal.coord (is_watch deal.turn) deal.chief) (ap (λ (h : Here). h.work) a.parties.0.1.0) (ap (λ (h : Here). h.work) b.parties.0.1.0) is),
-    heard_keeps deal.tx deal.turn a.parties.0.1.1 a.leads.1.1 b.leads.1.1 d.1.1),
+    (
+      voted_done deal.tx deal.asked host deal.turn deal.coord deal.chief
+          (λ deed is. runs (doer deal.asked host []) d.1.0 a.leads.1.0 b.leads.1.0 deed (Answers deal.tx deal.coord (is_watch deal.turn) deal.chief) (ap (λ (h : Here). h.work) a.parties.0.1.0) (ap (λ (h : Here). h.work) b.parties.0.1.0) is),
+      heard_keeps deal.tx deal.turn a.parties.0.1.1 a.leads.1.1 b.leads.1.1 d.1.1,
+    ),
   )
 
   records : (deal : Deal) (agreed : Bool) (host : ℕ) → Kept (Replied deal agreed host) (Recorded deal agreed host)
   records deal agreed host a b d = (
     keeps (doer deal.coord deal.chief (opened deal.tx deal.turn)) d.0 a.leads.0 b.leads.0 (inl (ap (λ (h : Here). h.work) a.parties.0.0)),
-    (keeps (doer deal.asked host (voted deal.tx deal.turn)) d.1.0 a.leads.1.0 b.leads.1.0 (inl (ap (λ (h : Here). h.work) a.parties.0.1.0)),
-    heard_keeps deal.tx deal.turn a.parties.0.1.1 a.leads.1.1 b.leads.1.1 d.1.1),
+    (
+      keeps (doer deal.asked host (voted deal.tx deal.turn)) d.1.0 a.leads.1.0 b.leads.1.0 (inl (ap (λ (h : Here). h.work) a.parties.0.1.0)),
+      heard_keeps deal.tx deal.turn a.parties.0.1.1 a.leads.1.1 b.leads.1.1 d.1.1,
+    ),
   )
 
   abbrev asking : Draw → Draw → ℕ → Turn → List Doer
@@ -266,12 +278,11 @@ module _ (words : ℕ → ℕ → ℕ × ℕ) (births : List (Seat Player)) (qui
   decides tx asked coord Lone host led idle at b d = (keeps (doer asked host (Voting tx ∷ [])) d.0 led.0 b.leads.0 (inl idle), tt)
   decides tx asked coord (Next part node) host led idle at b d = (
     as_party tx part node (keeps (doer part node (Promising tx ∷ [])) d.1.0 led.1.0 b.leads.0 (inl (ap (λ (h : Here). h.work) at.0))),
-    (keeps (doer asked host (Voting tx ∷ [])) d.0 led.0 b.leads.1.0 (inl idle),
-    tt),
+    (
+      keeps (doer asked host (Voting tx ∷ [])) d.0 led.0 b.leads.1.0 (inl idle),
+      tt,
+    ),
   )
-
-
-
 
   -- a party that takes an outcome had no work
   took : (tx : Draw) (party : Party) → party.leg ≡ Mailed → now.at party.group ≡ closing tx party.leg party.host → now.lead party.group ≡ Some party.host → after.lead party.group ≡ Some party.host → Was (closing_doer tx party) → Has (closing_doer tx party)

@@ -132,8 +132,8 @@ module _ (one its : Group) (m : Meets one its) where
       fits =
           cond-false (holds one.core.arc at) (can_cut one.core.arc at) (can_cut its.core.arc at && can_join one.core.arc (before its.core.arc at)) out
           ∙ and_from (can_cut its.core.arc at) (can_join one.core.arc (before its.core.arc at)) cut
-              (and_from (its.core.arc.lo == end_of one.core.arc) (nat_le (one.core.arc.len + offset its.core.arc at) (2 ^ 32)) (eq-eqb its.core.arc.lo (end_of one.core.arc) m.meet)
-              (le-leb (one.core.arc.len + offset its.core.arc at) (2 ^ 32) (before_room one.core.arc.len its.core.arc.len (offset its.core.arc at) m.room near)))
+          (and_from (its.core.arc.lo == end_of one.core.arc) (nat_le (one.core.arc.len + offset its.core.arc at) (2 ^ 32)) (eq-eqb its.core.arc.lo (end_of one.core.arc) m.meet)
+          (le-leb (one.core.arc.len + offset its.core.arc at) (2 ^ 32) (before_room one.core.arc.len its.core.arc.len (offset its.core.arc at) m.room near)))
 
       inner : (key : List ℕ) → holds_key (before its.core.arc at) key ≡ true → holds_key its.core.arc key ≡ true
       inner key held = lt-ltb (offset its.core.arc (pos_of key)) its.core.arc.len (less_too (offset its.core.arc (pos_of key)) (offset its.core.arc at) its.core.arc.len (ltb-true (offset its.core.arc (pos_of key)) (offset its.core.arc at) held) near)

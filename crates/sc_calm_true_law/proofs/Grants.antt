@@ -83,8 +83,10 @@ module _ (group : Group) (tx : Draw) (order by : ℕ) (frozen : Frozen) where
             let is : applied group (RecordVote tx (Vows.Yes frozen) by) ≡ (heard, Changed) = comes ∙ cond-false (same_draw frozen.succ.group group.core.id) (committed (closing_plan group frozen) group tx) (heard, Changed) f in
             inr (
               ap (λ (x : Group × Effect). is_changed x.1) is,
-              (record { stands = ap (λ (x : Group × Effect). x.0.core.gone) is ∙ stands; mine = ap (λ (x : Group × Effect). is_member x.0.core.members me) is ∙ mine },
-              λ e. true≢false (sym (same_name frozen.succ.group group.core.id e) ∙ f)),
+              (
+                record { stands = ap (λ (x : Group × Effect). x.0.core.gone) is ∙ stands; mine = ap (λ (x : Group × Effect). is_member x.0.core.members me) is ∙ mine },
+                λ e. true≢false (sym (same_name frozen.succ.group group.core.id e) ∙ f),
+              ),
             ))
       ]
 

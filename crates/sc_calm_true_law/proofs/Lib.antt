@@ -22,4 +22,5 @@ pub mod Since
 pub mod Stepping
 pub mod Told
 pub mod Took
+pub mod Turns
 pub mod Unsettled

@@ -82,10 +82,10 @@ gains group own at near fits cut keys gift m pairs =
     let meet : group.core.arc.lo ≡ end_of rest = near.meet ∙ sym (end_right own.arc at near.on fits c.held) in
     let room = rest_room own.arc.len group.core.arc.len (offset own.arc at) near.room c.held in
     let fine : can_gain group.core own at ≡ true =
-        and_from (can_cut own.arc at) (can_join rest group.core.arc) cut
-        (and_from (group.core.arc.lo == end_of rest) (nat_le (rest.len + group.core.arc.len) (2 ^ 32)) (eq-eqb group.core.arc.lo (end_of rest) meet) (le-leb (rest.len + group.core.arc.len) (2 ^ 32) room)) in
+    and_from (can_cut own.arc at) (can_join rest group.core.arc) cut
+    (and_from (group.core.arc.lo == end_of rest) (nat_le (rest.len + group.core.arc.len) (2 ^ 32)) (eq-eqb group.core.arc.lo (end_of rest) meet) (le-leb (rest.len + group.core.arc.len) (2 ^ 32) room)) in
     let none : has_key_of group.pairs gift.pairs ≡ false =
-        ap (has_key_of group.pairs) pairs ∙ no_shared group.core.arc rest group.pairs (part_of rest m) keys (inside_part rest m) (λ key h. outside_next rest group.core.arc on near.its_on meet room key h) in
+    ap (has_key_of group.pairs) pairs ∙ no_shared group.core.arc rest group.pairs (part_of rest m) keys (inside_part rest m) (λ key h. outside_next rest group.core.arc on near.its_on meet room key h) in
     (gained_group group own at gift, cond-true (can_gain group.core own at && not (has_key_of group.pairs gift.pairs)) (Some (gained_group group own at gift)) None (and_from (can_gain group.core own at) (not (has_key_of group.pairs gift.pairs)) fine (ap not none)))
 
 loses : (group : Group) (own : Offer) (at : ℕ) → can_cut group.core.arc at ≡ true → (after : Group) × (participant_after (Is.Moved at None) group own ≡ Some after)
@@ -238,15 +238,15 @@ module _ (sources : Sources) (ring : Ring) (gs : Groups) (ys : Stories) (g : Dra
           (λ c. gives_so (sym (cond-true (holds s.core.arc at) (can_cut s.core.arc at) (can_cut f.arc at && can_join s.core.arc (before f.arc at)) held) ∙ c)) (λ _. idle_so))
           (λ out. cond_both (can_repart s.core at f && not (has_key_of s.pairs (taken at f).pairs)) (Some (taking_group s at f, Is.Moved at None)) None (λ (plan : Plan). Answer (committed plan s tx))
           (λ c. takes_so (and_parts (can_cut f.arc at) (can_join s.core.arc (before f.arc at))
-              (sym (Rattle.std.proofs.lemmas.Bool.cond-false (holds s.core.arc at) (can_cut s.core.arc at) (can_cut f.arc at && can_join s.core.arc (before f.arc at)) out) ∙ (and_parts (can_repart s.core at f) (not (has_key_of s.pairs (taken at f).pairs)) c).0)).0)
+          (sym (Rattle.std.proofs.lemmas.Bool.cond-false (holds s.core.arc at) (can_cut s.core.arc at) (can_cut f.arc at && can_join s.core.arc (before f.arc at)) out) ∙ (and_parts (can_repart s.core at f) (not (has_key_of s.pairs (taken at f).pairs)) c).0)).0)
           (λ _. idle_so))
 
     migrate_so : (node : ℕ) → Answer (committed (Rattle.sc_machine_table.specs.Plans.migrate_plan s node f) s tx)
     migrate_so node =
         cond_both (can_migrate s.core node f) (Some (migrated_group s node f, Is.Migrated node)) None (λ (plan : Plan). Answer (committed plan s tx))
         (λ c y e. decided_fits (Is.Migrated node) y (λ offer o frozen v group own same signed keys.
-            welcomes group own node (subst (λ (x : Frozen). nat_le (length (united x.members (node ∷ []))) 9 ≡ true) (voted_is y e frozen v ∙ sym same)
-            (and_parts (is_member s.core.members node && nat_le 2 (length s.core.members)) (nat_le (length (united f.members (node ∷ []))) 9) c).1)))
+        welcomes group own node (subst (λ (x : Frozen). nat_le (length (united x.members (node ∷ []))) 9 ≡ true) (voted_is y e frozen v ∙ sym same)
+        (and_parts (is_member s.core.members node && nat_le 2 (length s.core.members)) (nat_le (length (united f.members (node ∷ []))) 9) c).1)))
         (λ _. idle_so)
 
     merge_so : (order by : ℕ) → Answer (granted At.Merge s tx order f by)

@@ -163,7 +163,7 @@ module _ (at : Sets) (over : Ends) (by : Tellers) (words : ℕ → ℕ → ℕ �
     told_none zero low e who = tt
     told_none (suc zero) low e who =
         Each-append IsNoRound (told_of at course course.newest who) [] (told_quiet at course course.newest who (λ m.
-            ap (λ n. is_member (members_at at n) who) newest_is ∙ (ap (λ s. is_member s who) (sym members_same) ∙ (ap (λ n. is_member (members_at at n) who) e ∙ m)))) tt
+        ap (λ n. is_member (members_at at n) who) newest_is ∙ (ap (λ s. is_member s who) (sym members_same) ∙ (ap (λ n. is_member (members_at at n) who) e ∙ m)))) tt
     told_none (suc (suc more)) low e who = absurd (omega (arith, low))
 
   by_row : (later : Course) → IsGroupRow at over by births rows seat event base course later → Quiet
@@ -184,9 +184,9 @@ module _ (at : Sets) (over : Ends) (by : Tellers) (words : ℕ → ℕ → ℕ �
   by_row later (RowLeads x after row x_runs counts l e) =
       let k = l.led.leads in
       by_sent (led_course l.led.bound course after.0) (λ who. subst (Each IsNoRound) (sym (k.sends who))
-          (Each-append IsNoRound (told_from at course course.newest k.executed who) (k.offers who)
-          (told_none x after.0 row.was x_runs row.is k.executed (few x after.0 row.was x_runs row.is k.executed k.newest k.within) k.newest who)
-          (Each-weaker (IsOffer at (led_course l.led.bound course after.0) course.bound who) IsNoRound (offer_quiet at (led_course l.led.bound course after.0) course.bound who) (k.offers who) (k.asks who))))
+      (Each-append IsNoRound (told_from at course course.newest k.executed who) (k.offers who)
+      (told_none x after.0 row.was x_runs row.is k.executed (few x after.0 row.was x_runs row.is k.executed k.newest k.within) k.newest who)
+      (Each-weaker (IsOffer at (led_course l.led.bound course after.0) course.bound who) IsNoRound (offer_quiet at (led_course l.led.bound course after.0) course.bound who) (k.offers who) (k.asks who))))
   by_row later (RowElects x after ballot row off elects e) = absurd (true≢false (sym leads.0.runs ∙ elects.elects.idle))
 
   pub rounds_stay : IsLedStep at over by words births rows seat event base course → HasNoRounds words births (with_event rows seat event) base.core.id

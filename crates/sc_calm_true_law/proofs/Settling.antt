@@ -193,10 +193,10 @@ module _ (tells : ReplicasTell) (words : ℕ → ℕ → ℕ × ℕ) (scenario :
       let had : view_at births_ then_ base.0.core.id x.1 ≡ Some d.now = ap (λ n. view_at births_ then_ n x.1) name ∙ d.is in
       let firsts : d.first ≡ c.first = same_some d.first c.first (sym d.was ∙ c.was) in
       let sets : members_at at (next d.now) ≡ members_at at (next c.now) =
-          (t.one.states then_ [] x.1 d.now (sym (append-nil then_)) had).members_are
-          ∙ (d.same ∙ (ap members firsts ∙ (sym c.same ∙ sym (s.one.states rows [] x.1 c.now (sym (append-nil rows)) has).members_are))) in
+      (t.one.states then_ [] x.1 d.now (sym (append-nil then_)) had).members_are
+      ∙ (d.same ∙ (ap members firsts ∙ (sym c.same ∙ sym (s.one.states rows [] x.1 c.now (sym (append-nil rows)) has).members_are))) in
       let step : IsLedStep at over by words births_ rows seat event base.0 s.course =
-          events_go_on at over by words births_ then_ base.0 (scenarios_well_born scenario) t.one t.so rows seat event s.course (record { more = []; is = sym (append-nil then_) }) seated comes timely s.led in
+      events_go_on at over by words births_ then_ base.0 (scenarios_well_born scenario) t.one t.so rows seat event s.course (record { more = []; is = sym (append-nil then_) }) seated comes timely s.led in
       subst (HasNoRounds words births_ then_) name
       (rounds_stay at over by words births_ rows seat event base.0 s.course s.led timely (λ a c2 y l o. order_is_kept.alone a c2 y l o) x.1 c.now has c.runs (alone c.now c.is c.runs)
       (λ y e. subst (λ z. members_at at (next z) ≡ members_at at (next c.now)) (same_some d.now y (sym had ∙ e)) sets) (subst (HasNoRounds words births_ rows) (sym name) none) step)
@@ -210,8 +210,8 @@ settled_go_on tells words scenario first journal quiet rows seat number stage la
     let was = coord_at tells words scenario first journal quiet rows more front g.calm g.rests g.seen stage g.untouched.stands g.true_since.done in
     let now = coord_at tells words scenario first journal quiet (with_event rows seat event) g.goes.front.more g.goes.front.is g.calm g.rests g.seen later at_later true_later.done in
     let kept : Each (λ x. IsCoord scenario quiet (with_event rows seat event) x → HasNoRounds words (births as_nodes scenario) (with_event rows seat event) x.0) (coords_of stage) =
-        both_each (IsCoord scenario quiet rows) (λ x. HasNoRounds words (births as_nodes scenario) rows x.0) _ (coords_of stage)
-        (λ x c none d. row_stays tells words scenario first journal quiet rows seat event g.calm g.rests g.seen g.goes.front g.goes.seated g.goes.timely (calm_is words (births as_nodes scenario) rows seat event calm_row) sent sent_then x c d (alone x.0 x.1) none) was settled_ in
+    both_each (IsCoord scenario quiet rows) (λ x. HasNoRounds words (births as_nodes scenario) rows x.0) _ (coords_of stage)
+    (λ x c none d. row_stays tells words scenario first journal quiet rows seat event g.calm g.rests g.seen g.goes.front g.goes.seated g.goes.timely (calm_is words (births as_nodes scenario) rows seat event calm_row) sent sent_then x c d (alone x.0 x.1) none) was settled_ in
     let later_kept = moved (λ x. IsCoord scenario quiet (with_event rows seat event) x → HasNoRounds words (births as_nodes scenario) (with_event rows seat event) x.0) kept goes in
     both_each (λ x. IsCoord scenario quiet (with_event rows seat event) x → HasNoRounds words (births as_nodes scenario) (with_event rows seat event) x.0) (IsCoord scenario quiet (with_event rows seat event)) _ (coords_of later) (λ x f d. f d) later_kept now
   where
@@ -225,7 +225,7 @@ settled_begin tells words scenario first journal quiet seat line stage calm rest
     let now = coord_at tells words scenario first journal quiet (with_event quiet seat event) front.more front.is calm rests seen stage at_stage true_stage.done in
     each_map (IsCoord scenario quiet (with_event quiet seat event)) (λ x. HasNoRounds words (births as_nodes scenario) (with_event quiet seat event) x.0) (coords_of stage)
     (λ x d. row_stays tells words scenario first journal quiet quiet seat event calm rests seen front t.seated t.timely tt rests.sent sent_then x
-        (record { first = d.first; was = d.was; led = d.led; now = d.first; is = d.was; runs = d.led; same = refl }) d (λ r has runs. rests_alone x r has) (quiet_none x.0)) now
+    (record { first = d.first; was = d.was; led = d.led; now = d.first; is = d.was; runs = d.led; same = refl }) d (λ r has runs. rests_alone x r has) (quiet_none x.0)) now
   where
     each_map : {X : Type 0} (P R : X → Type 0) (xs : List X) → ((x : X) → P x → R x) → Each P xs → Each R xs
     each_map P R [] f p = tt

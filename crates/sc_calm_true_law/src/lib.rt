@@ -12,7 +12,9 @@ ghost use Rattle.sc_calm_true_law.specs.Settled.{CoordinatorsAreSettled, Settled
 ghost use Rattle.sc_calm_true_law.specs.Told.{ReplicasTell};
 ghost use Rattle.sc_calm_true_law.specs.Unsettled.{MailComesUnsettled};
 
-use sc_names_law::{counters_part_names, drawn_names_are_new, names_have_one_owner, orders_are_allowed};
+use sc_names_law::{
+    counters_part_names, drawn_names_are_new, names_have_one_owner, orders_are_allowed,
+};
 use sc_scenario::valid_scenarios_are_bounded;
 use sc_whole_law::{valid_entries_are_logs, valid_journals_are_sound, valid_scenarios_begin_well};
 
