@@ -1,5 +1,5 @@
 -- What the leaders of a stage have executed, by the stage after a delivery.
-use Rattle.std.proofs.Common.{◌≡◌, ℕ, Bool, true, false, List, [], ◌∷◌, ◌++◌, Some, None, ◌⊎◌, inl, inr, refl, sym, ◌∙◌, ap, subst}
+use Rattle.std.proofs.Common.{◌≡◌, ℕ, Bool, true, false, List, [], ◌∷◌, ◌++◌, Some, ◌⊎◌, inl, inr, refl, sym, ◌∙◌, ap, subst}
 use Rattle.sc_base.specs.Among.{Each}
 use Rattle.sc_base.specs.declared.names.Draw.{Draw}
 use Rattle.sc_cmd.specs.declared.commands.Command.{Command}
@@ -19,11 +19,11 @@ use Rattle.sc_calm_law.specs.Totals.{Rows}
 use Rattle.sc_calm_orders_law.specs.Follows.{IsTaken, OfQuestion, OfVote, OfOutcome, LastTakes, OneTakes, TwoTakes, LastFreed, OneFreed, TwoFreed, IsStepOf, ByRest, ByOrder, ByChange, ByDeal, ByPassing, ByAsking, ByTaking, ByVote, ByNo, ByHearing, ByDeciding, ByEnd, closed}
 use Rattle.sc_calm_orders_law.specs.Parts.{work_by, works}
 use Rattle.sc_calm_orders_law.specs.Scenes.{Turn, First, Lone, Next, is_watch, Work, Opens, Answers, Records, Here, Scene}
-use Rattle.sc_calm_orders_law.specs.Stages.{Asks, Closes, ClosesBoth, Deal, Filed, IsAt, Leg, Mailed, Ordered, Party, Recorded, Replied, SentOn, Stage, Still, Weighs, closing, heard, heard_lead, party_of}
+use Rattle.sc_calm_orders_law.specs.Stages.{Asks, Closes, ClosesBoth, Deal, Filed, IsAt, Leg, Mailed, Ordered, Party, Recorded, Replied, SentOn, Stage, Still, Weighs, closing, heard, heard_lead}
 use Rattle.sc_calm_rows_law.specs.Groups.{view_at}
 use Rattle.sc_calm_rows_law.specs.Turns.{IsSeat, with_event}
 use Rattle.sc_calm_scenes_law.specs.Found.{FindsOrder}
-use Rattle.sc_calm_scenes_law.specs.Scenes.{is_running, lead_of, scene_at, work_at, works_of}
+use Rattle.sc_calm_scenes_law.specs.Scenes.{is_running, scene_at, work_at, works_of}
 use Rattle.sc_calm_scenes_law.proofs.Newest.{lead_runs}
 use Rattle.sc_calm_true_law.specs.Deeds.{AreDeeds, BeginsSo, Deed, Doer, FlightsBeginSo, HasDone, HasStepped, Rested, Executed, Hearing, IsDeed, Opening, Promising, Voting, closing_doer, doer, doers_of, heard_doer, opened, voted}
 use Rattle.sc_calm_true_law.proofs.Stepping.{Comes, goes_on}

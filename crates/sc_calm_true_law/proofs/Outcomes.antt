@@ -7,7 +7,7 @@ use Rattle.std.proofs.lemmas.Option.{same_Some}
 use Rattle.sc_base.specs.Arc.{Arc, end_of, from, holds, before, offset}
 use Rattle.sc_base.specs.Same.{same_draw}
 use Rattle.sc_base.specs.declared.names.Draw.{Draw}
-use Rattle.sc_base.proofs.NameLemmas.{draw_is, same_name}
+use Rattle.sc_base.proofs.NameLemmas.{draw_is}
 use Rattle.sc_cmd.specs.Cores.{is_alone}
 use Rattle.sc_cmd.specs.Effects.{decided_in, is_changed}
 use Rattle.sc_cmd.specs.declared.bodies.Body.{Body}
@@ -31,7 +31,7 @@ use Rattle.sc_cmd.specs.declared.votes.Vote.TheVariants as Vows
 use Rattle.sc_ideal.specs.IdealStore.{Contents, part_of}
 use Rattle.sc_log_entries.specs.Worlds.{named_group}
 use Rattle.sc_log_entries.specs.declared.LogEntry.{LogEntry}
-use Rattle.sc_machine_table.specs.Finishes.{can_gain, gained_group, group_welcomed, lost_group, moved, participant_after, welcomed_group}
+use Rattle.sc_machine_table.specs.Finishes.{can_gain, gained_group, lost_group, participant_after, welcomed_group}
 use Rattle.sc_machine_table.specs.Group.{Group}
 use Rattle.sc_machine_table.specs.Machine.{applied}
 use Rattle.sc_machine_table.specs.Plans.{Plan, can_cut, can_join, can_migrate, can_repart, can_split, closing_group, frozen_of, giving_group, giving_plan, has_key_of, may_merge, merged_group, merged_route, migrated_group, part_gift, taken, taking_group, taking_plan}
@@ -45,10 +45,10 @@ use Rattle.sc_ring_law.specs.Invariant.{Groups}
 use Rattle.sc_ring_law.specs.Laws.{BeginInPlace, stories_of}
 use Rattle.sc_ring_law.specs.Stories.{Stories, Story, new_story, put, retold, stories_after, unsigned, vote_in, watch_vote_in, with_answer, with_decision, with_vote, with_watch_vote}
 use Rattle.sc_ring_law.proofs.Arcs.{end_right, right_is}
-use Rattle.sc_ring_law.proofs.Commits.{IsDeciding, apart_of, mine_old, own_is, part_eff}
+use Rattle.sc_ring_law.proofs.Commits.{apart_of, mine_old, own_is, part_eff}
 use Rattle.sc_ring_law.proofs.Cuts.{arcs_in}
-use Rattle.sc_ring_law.proofs.Decisions.{IsMineOpen, mine_open}
-use Rattle.sc_ring_law.proofs.Effects.{Good, Old, arc_of, succ_of, view_of}
+use Rattle.sc_ring_law.proofs.Decisions.{mine_open}
+use Rattle.sc_ring_law.proofs.Effects.{Old, arc_of, succ_of, view_of}
 use Rattle.sc_ring_law.proofs.Insides.{inside_part, no_shared, outside_next, room_of}
 use Rattle.sc_ring_law.proofs.Links.{IsPair, pair_meets}
 use Rattle.sc_ring_law.proofs.Moves.{cut_is}

@@ -1,9 +1,8 @@
 -- A vote that a coordinator has in flight is true: what was voted is what the participant had, which fits.
-use Rattle.std.proofs.Common.{◌≡◌, ℕ, ◌≤◌, Bool, true, false, true≢false, List, [], ◌∷◌, ◌++◌, Option, Some, None, ◌⊎◌, inl, inr, refl, sym, ◌∙◌, ap, subst}
+use Rattle.std.proofs.Common.{◌≡◌, ℕ, ◌≤◌, Bool, true, false, true≢false, List, [], ◌∷◌, Some, None, inl, inr, refl, sym, ◌∙◌, ap, subst}
 use Rattle.std.specs.Prelude.{length, not, ◌&&◌}
 use Rattle.sc_base.specs.Among.{Among, Each}
 use Rattle.sc_base.specs.declared.names.Draw.{Draw}
-use Rattle.sc_base.proofs.NameLemmas.{same_name}
 use Rattle.sc_base.specs.Arc.{holds}
 use Rattle.sc_actor.specs.declared.actors.Seat.{Seat}
 use Rattle.sc_actor.proofs.WalkLemmas.{lawful-prefix}
@@ -15,7 +14,6 @@ use Rattle.sc_cmd.specs.declared.bodies.Offer.{Offer}
 use Rattle.sc_cmd.specs.declared.commands.Command.{Command}
 use Rattle.sc_cmd.specs.declared.commands.Command.TheVariants.{Noop, Call, Join, Leave, Split, Begin, Prepared, RecordVote, GiveUp, Finish, Watched, RecordWatch}
 use Rattle.sc_cmd.specs.declared.cores.Base.{Base}
-use Rattle.sc_cmd.specs.declared.cores.Core.{Core}
 use Rattle.sc_cmd.specs.declared.cores.Lock.TheVariants.{Coordinating, Free, Promised}
 use Rattle.sc_cmd.specs.declared.votes.Frozen.{Frozen}
 use Rattle.sc_cmd.specs.declared.votes.Past.{Past}
@@ -29,10 +27,10 @@ use Rattle.sc_machine_table.specs.Logs.{state_after}
 use Rattle.sc_member.specs.Roster.{is_member}
 use Rattle.sc_member.specs.Union.{united}
 use Rattle.sc_node_table.specs.Replica.{ReplicaState}
-use Rattle.sc_node_table.specs.Spoken.{before_in, before_of}
+use Rattle.sc_node_table.specs.Spoken.{before_in}
 use Rattle.sc_paxos_words.specs.declared.flights.Flight.{Flight}
 use Rattle.sc_paxos_words.proofs.ListLemmas.{Each-among}
-use Rattle.sc_ring_law.specs.Stories.{Story, offer_for, offer_with, unsigned, watch_with}
+use Rattle.sc_ring_law.specs.Stories.{offer_with, unsigned, watch_with}
 use Rattle.sc_scenario.specs.declared.scenarios.Scenario.{Scenario}
 use Rattle.sc_sound.specs.GroupsOf.{world_at}
 use Rattle.sc_sound.specs.Players.{Lawful, Player, as_nodes, births, schedule, system_of}
@@ -43,7 +41,7 @@ use Rattle.sc_calm_law.specs.Quiet.{StandsQuiet}
 use Rattle.sc_calm_law.specs.Totals.{Rows}
 use Rattle.sc_calm_found_law.specs.Votes.{IsTrueEntry}
 use Rattle.sc_calm_orders_law.specs.Parts.{bond_of, is_cast_yes, turn_of, work_by}
-use Rattle.sc_calm_orders_law.specs.Scenes.{Answers, Asking, Bond, Bound, Ends, First, Here, Lone, Next, Records, Turn, Work, is_watch}
+use Rattle.sc_calm_orders_law.specs.Scenes.{Answers, Asking, Bound, Ends, First, Here, Lone, Next, Records, Turn, Work, is_watch}
 use Rattle.sc_calm_orders_law.specs.Stages.{Deal, IsAt, IsOrder, Recorded, Stage, bound_by, heard, heard_lead}
 use Rattle.sc_calm_rows_law.specs.Groups.{view_at}
 use Rattle.sc_calm_scenes_law.specs.Fresh.{IsThere}
@@ -55,13 +53,13 @@ use Rattle.sc_calm_true_law.specs.Recorded.{IsRecord, RecordsAreTrue}
 use Rattle.sc_calm_true_law.specs.Told.{IsAllowedBy, LockTells, ReplicasTell}
 use Rattle.sc_calm_true_law.specs.Under.{IsTrueSince}
 use Rattle.sc_calm_true_law.proofs.Fits.{Agrees, Meets, gives, merges, migrates, none_of, takes}
-use Rattle.sc_calm_true_law.proofs.Grants.{AsksOn, Decides, lone_true, merge_true, migrate_true, next_true, repart_true}
+use Rattle.sc_calm_true_law.proofs.Grants.{lone_true, merge_true, migrate_true, next_true, repart_true}
 use Rattle.sc_calm_true_law.proofs.Leads.{IsWorkAt, OfOrder, OfOutcome, OfQuestion, OfVote, at_stage, stands_in, was_there}
-use Rattle.sc_calm_true_law.proofs.Opened.{ByOffer, ByWatch, HasBoth, IsBoundBy, IsOpened, opening_refused}
+use Rattle.sc_calm_true_law.proofs.Opened.{ByOffer, ByWatch, IsBoundBy, IsOpened, opening_refused}
 use Rattle.sc_calm_true_law.proofs.Parties.{Coordinates, lead_bond, promised}
 use Rattle.sc_calm_true_law.proofs.Ring.{meet_so, pred_is}
 use Rattle.sc_calm_true_law.proofs.Turns.{not_itself, lone_split, not_alone, has_offer, some_one, some_nat, same_asking, same_record, same_offer, first_turn, no_first, no_next, no_lone, same_next, same_body}
-use Rattle.sc_calm_true_law.proofs.Since.{base_of, both, coords, flights_at, free_first, frozen_is, heard_vote, led_first, locks_at, next_is, one_vote, there_of, tx_is}
+use Rattle.sc_calm_true_law.proofs.Since.{base_of, both, coords, flights_at, free_first, frozen_is, heard_vote, led_first, locks_at, one_vote, there_of, tx_is}
 
 -- ---- a coordinator
 

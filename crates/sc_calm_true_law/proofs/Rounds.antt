@@ -1,7 +1,7 @@
 -- A row of a group leaves it without rounds, where its leader has at most one command in flight, by which nobody comes.
-use Rattle.std.proofs.Common.{◌≡◌, ℕ, zero, suc, ◌+◌, ◌<◌, ◌≤◌, ◌==◌, ◌&&◌, Bool, true, false, true≢false, is_some, List, [], ◌∷◌, ◌++◌, Option, Some, None, ◌⊎◌, inl, inr, option_map, refl, sym, ◌∙◌, ap, subst, arith}
+use Rattle.std.proofs.Common.{◌≡◌, ℕ, zero, suc, ◌+◌, ◌≤◌, ◌==◌, true, true≢false, is_some, List, [], ◌∷◌, ◌++◌, Option, Some, None, ◌⊎◌, inl, inr, option_map, refl, sym, ◌∙◌, ap, subst, arith}
 use Rattle.std.proofs.lemmas.Bool.{cases_eq, cases_lt, cond_both}
-use Rattle.sc_base.specs.Among.{Among, Each}
+use Rattle.sc_base.specs.Among.{Each}
 use Rattle.sc_base.specs.declared.names.Ballot.{Ballot}
 use Rattle.sc_actor.specs.declared.actors.Seat.{Seat}
 use Rattle.sc_actor.specs.declared.rows.Event.{Event}
@@ -24,14 +24,14 @@ use Rattle.sc_following_law.specs.Hints.{Tellers}
 use Rattle.sc_following_law.specs.Leading.{ActsAlone, IsLeadOf}
 use Rattle.sc_following_law.specs.Counted.{IsLed}
 use Rattle.sc_following_law.specs.Orderly.{IsOrderly}
-use Rattle.sc_following_law.specs.Rows.{IsOffer, IsRow, Leads, answered, told_from, told_of, welcome}
+use Rattle.sc_following_law.specs.Rows.{IsOffer, IsRow, answered, told_from, told_of, welcome}
 use Rattle.sc_calm_law.specs.Charts.{players}
 use Rattle.sc_calm_law.specs.Totals.{Rows}
 use Rattle.sc_calm_orders_law.specs.Parts.{work_by}
 use Rattle.sc_calm_orders_law.specs.Scenes.{Work}
 use Rattle.sc_calm_rows_law.specs.Groups.{marks_at, progress_at, view_at}
 use Rattle.sc_calm_rows_law.specs.Steps.{led_course}
-use Rattle.sc_calm_rows_law.specs.Turns.{IsKind, with_event}
+use Rattle.sc_calm_rows_law.specs.Turns.{with_event}
 use Rattle.sc_calm_rows_law.proofs.Marking.{rows_are}
 use Rattle.sc_calm_scenes_law.specs.Quiet.{IsWork}
 use Rattle.sc_calm_groups_law.specs.Kinds.{IsGroupRow, IsLedStep, RowElects, RowLeads, RowMakes, RowPasses, RowRests, RowTakes}

@@ -1,5 +1,5 @@
 -- The group that is told an order, or coordinates its transaction, stays without rounds; so its leader has its promises.
-use Rattle.std.proofs.Common.{◌≡◌, ℕ, ◌+◌, ◌*◌, ◌<◌, ◌≤◌, ◌==◌, ◌&&◌, ◌||◌, not, eqb, Bool, true, false, true≢false, cond, List, [], ◌∷◌, ◌++◌, length, Option, Some, None, ◌⊎◌, inl, inr, refl, sym, ◌∙◌, ap, subst, append-nil, append_assoc, arith}
+use Rattle.std.proofs.Common.{◌≡◌, ℕ, ◌*◌, ◌≤◌, ◌&&◌, ◌||◌, not, eqb, Bool, true, false, cond, List, [], ◌∷◌, ◌++◌, length, Option, Some, ◌⊎◌, inl, inr, refl, sym, ◌∙◌, ap, subst, append-nil, append_assoc, arith}
 use Rattle.std.proofs.lemmas.Bool.{cases_Bool, cond-true, eq-eqb, lt-ltb, or_left, or_right}
 use Rattle.std.proofs.lemmas.List.Sums.{sum_by-cons}
 use Rattle.sc_base.specs.Among.{Among, Each}
@@ -18,7 +18,7 @@ use Rattle.sc_mail.specs.declared.bodies.MailBody.TheVariants.{TxElsewhere}
 use Rattle.sc_mail.specs.declared.roles.Role.TheVariants.{Node}
 use Rattle.sc_member.specs.Majority.{is_majority, votes_of}
 use Rattle.sc_member.specs.Roster.{is_member}
-use Rattle.sc_node_table.specs.Node.{NodeState, group_of_mail, replica_of}
+use Rattle.sc_node_table.specs.Node.{NodeState, group_of_mail}
 use Rattle.sc_node_table.specs.Replica.{ReplicaState, first_set, may_offer, members, next, settled}
 use Rattle.sc_orderly_law.specs.Orderly.{IsCalmEvent, is_born}
 use Rattle.sc_orderly_law.specs.Timely.{AreInTime}
@@ -44,20 +44,19 @@ use Rattle.sc_calm_sent_law.specs.Journals.{IsSentThrough}
 use Rattle.sc_calm_found_law.specs.Votes.{IsOrdersAlone}
 use Rattle.sc_calm_journals_law.specs.Journal.{AreSent, IsCalmJournal, IsFront}
 use Rattle.sc_calm_journals_law.specs.Resting.{RestsAt}
-use Rattle.sc_calm_orders_law.specs.Follows.{IsTaken, OfQuestion, OfVote, OfOutcome, LastTakes, OneTakes, TwoTakes, LastFreed, OneFreed, TwoFreed, IsStepOf, ByRest, ByOrder, ByChange, ByDeal, ByPassing, ByAsking, ByTaking, ByVote, ByNo, ByHearing, ByDeciding, ByEnd, closed}
+use Rattle.sc_calm_orders_law.specs.Follows.{OfQuestion, OfVote, OfOutcome, LastTakes, OneTakes, TwoTakes, LastFreed, OneFreed, TwoFreed, IsStepOf, ByRest, ByOrder, ByChange, ByDeal, ByPassing, ByAsking, ByTaking, ByVote, ByNo, ByHearing, ByDeciding, ByEnd, closed}
 use Rattle.sc_calm_orders_law.specs.Parts.{errand_by}
 use Rattle.sc_calm_orders_law.specs.Scenes.{Asking, Elsewhere, First, Here, Lone, Next, Turn}
 use Rattle.sc_calm_orders_law.specs.Stages.{Asks, Closes, ClosesBoth, Deal, IsAt, Ordered, Recorded, Replied, SentOn, Stage, Still, Weighs}
 use Rattle.sc_calm_rows_law.specs.Groups.{marks_at, progress_at, view_at}
 use Rattle.sc_calm_rows_law.specs.Turns.{IsSeat, with_event}
 use Rattle.sc_calm_rows_law.proofs.Viewing.{view_was}
-use Rattle.sc_calm_scenes_law.specs.Fresh.{IsThere, IsToldInQuiet}
+use Rattle.sc_calm_scenes_law.specs.Fresh.{IsThere}
 use Rattle.sc_calm_scenes_law.specs.Kept.{GoesBy}
 use Rattle.sc_calm_scenes_law.specs.Scenes.{is_running, scene_at}
 use Rattle.sc_calm_scenes_law.proofs.Newest.{lead_runs}
 use Rattle.sc_calm_scenes_law.proofs.Turning.{calm_is}
-use Rattle.sc_calm_true_law.specs.Deeds.{AreDeeds, Doer, HasDone, doer, doers_of, opened}
-use Rattle.sc_calm_true_law.specs.Going.{GoesOnSince}
+use Rattle.sc_calm_true_law.specs.Deeds.{AreDeeds, HasDone, doer, doers_of, opened}
 use Rattle.sc_calm_true_law.specs.Settled.{AreSettled, CoordinatorsAreSettled, HasNoRounds, IsNoRound, SettledOrdersBegin, SettledOrdersGoOn, coords_of}
 use Rattle.sc_calm_true_law.specs.Told.{ReplicasTell}
 use Rattle.sc_calm_true_law.specs.Under.{AreSeen, IsTrueSince}

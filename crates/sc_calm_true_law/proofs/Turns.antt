@@ -1,59 +1,21 @@
 -- Turns, votes and offers of one transaction.
-use Rattle.std.proofs.Common.{◌≡◌, ℕ, ◌≤◌, Bool, true, false, true≢false, List, [], ◌∷◌, ◌++◌, Option, Some, None, ◌⊎◌, inl, inr, refl, sym, ◌∙◌, ap, subst}
-use Rattle.std.specs.Prelude.{length, not, ◌&&◌}
-use Rattle.sc_base.specs.Among.{Among, Each}
+use Rattle.std.proofs.Common.{◌≡◌, ℕ, Bool, false, true≢false, Option, Some, None, refl, sym, ◌∙◌, ap}
 use Rattle.sc_base.specs.declared.names.Draw.{Draw}
 use Rattle.sc_base.proofs.NameLemmas.{same_name}
-use Rattle.sc_base.specs.Arc.{holds}
-use Rattle.sc_actor.specs.declared.actors.Seat.{Seat}
-use Rattle.sc_actor.proofs.WalkLemmas.{lawful-prefix}
-use Rattle.sc_budget_law.specs.AskingQuiet.{replicas_after}
 use Rattle.sc_cmd.specs.Cores.{is_alone}
 use Rattle.sc_cmd.specs.declared.bodies.Body.{Body}
 use Rattle.sc_cmd.specs.declared.bodies.Body.TheVariants as At
 use Rattle.sc_cmd.specs.declared.bodies.Offer.{Offer}
-use Rattle.sc_cmd.specs.declared.commands.Command.{Command}
-use Rattle.sc_cmd.specs.declared.commands.Command.TheVariants.{Noop, Call, Join, Leave, Split, Begin, Prepared, RecordVote, GiveUp, Finish, Watched, RecordWatch}
-use Rattle.sc_cmd.specs.declared.cores.Base.{Base}
+use Rattle.sc_cmd.specs.declared.commands.Command.TheVariants.{Prepared}
 use Rattle.sc_cmd.specs.declared.cores.Core.{Core}
-use Rattle.sc_cmd.specs.declared.cores.Lock.TheVariants.{Coordinating, Free, Promised}
-use Rattle.sc_cmd.specs.declared.votes.Frozen.{Frozen}
-use Rattle.sc_cmd.specs.declared.votes.Past.{Past}
-use Rattle.sc_cmd.specs.declared.votes.Vote.TheVariants as Vows
-use Rattle.sc_machine_table.specs.Group.{Group}
-use Rattle.sc_machine_table.specs.Orders.{limit_refused}
-use Rattle.sc_machine_table.specs.Plans.{can_migrate, can_repart, frozen_of, has_key_of, may_merge, merged_link, taken}
-use Rattle.sc_machine_table.specs.Transactions.{begun_group, heard_group}
-use Rattle.sc_machine_table.specs.Votes.{vote_of}
-use Rattle.sc_machine_table.specs.Logs.{state_after}
-use Rattle.sc_member.specs.Roster.{is_member}
-use Rattle.sc_member.specs.Union.{united}
+use Rattle.sc_cmd.specs.declared.cores.Lock.TheVariants.{Coordinating}
 use Rattle.sc_node_table.specs.Replica.{ReplicaState}
-use Rattle.sc_node_table.specs.Spoken.{before_in, before_of}
-use Rattle.sc_paxos_words.specs.declared.flights.Flight.{Flight}
-use Rattle.sc_paxos_words.proofs.ListLemmas.{Each-among}
-use Rattle.sc_ring_law.specs.Stories.{Story, offer_for, offer_with, unsigned, watch_with}
+use Rattle.sc_ring_law.specs.Stories.{Story, offer_for, offer_with, unsigned}
 use Rattle.sc_scenario.specs.declared.scenarios.Scenario.{Scenario}
-use Rattle.sc_sound.specs.GroupsOf.{world_at}
-use Rattle.sc_sound.specs.Players.{Lawful, Player, as_nodes, births, schedule, system_of}
-use Rattle.sc_sound.specs.Soundness.{IsOneMap}
-use Rattle.sc_whole_law.specs.Valid.{ValidEntriesAreLogs, ValidJournalsAreSound}
-use Rattle.sc_log_law.specs.Findings.{AreItsLogs}
-use Rattle.sc_calm_law.specs.Quiet.{StandsQuiet}
 use Rattle.sc_calm_law.specs.Totals.{Rows}
-use Rattle.sc_calm_found_law.specs.Votes.{IsTrueEntry}
-use Rattle.sc_calm_orders_law.specs.Parts.{bond_of, is_cast_yes, turn_of, work_by}
-use Rattle.sc_calm_orders_law.specs.Scenes.{Answers, Asking, Bond, Bound, Ends, First, Here, Lone, Next, Records, Turn, Work, is_watch}
-use Rattle.sc_calm_orders_law.specs.Stages.{Deal, IsAt, IsOrder, Recorded, Stage, bound_by, heard, heard_lead}
-use Rattle.sc_calm_rows_law.specs.Groups.{view_at}
-use Rattle.sc_calm_scenes_law.specs.Fresh.{IsThere}
-use Rattle.sc_calm_scenes_law.specs.Scenes.{scene_at}
-use Rattle.sc_calm_scenes_law.proofs.Viewing.{tell}
-use Rattle.sc_calm_true_law.specs.Deeds.{Doer, HasDone, Promising, doer, heard_doer, opened, voted}
-use Rattle.sc_calm_true_law.specs.Entries.{LeadsSince}
-use Rattle.sc_calm_true_law.specs.Recorded.{IsRecord, RecordsAreTrue}
-use Rattle.sc_calm_true_law.specs.Told.{IsAllowedBy, LockTells, ReplicasTell}
-use Rattle.sc_calm_true_law.specs.Under.{IsTrueSince}
+use Rattle.sc_calm_orders_law.specs.Parts.{turn_of}
+use Rattle.sc_calm_orders_law.specs.Scenes.{Asking, First, Lone, Next, Records, Turn, is_watch}
+use Rattle.sc_calm_true_law.specs.Told.{IsAllowedBy}
 use Rattle.sc_calm_true_law.proofs.Fits.{none_of}
 use Rattle.sc_calm_true_law.proofs.Opened.{opening_refused}
 
