@@ -1,7 +1,7 @@
 -- What is known of an order since a quiet journal, from when it is told.
-use Rattle.std.proofs.Common.{◌≡◌, ℕ, Bool, eqb, true, false, true≢false, List, [], ◌∷◌, ◌++◌, Option, Some, None, ◌⊎◌, inl, inr, refl, sym, ◌∙◌, ap, subst}
+use Rattle.std.proofs.Common.{◌≡◌, ℕ, eqb, true≢false, List, [], ◌∷◌, Option, Some, None, ◌⊎◌, inl, inr, refl, sym, ◌∙◌, ap, subst}
 use Rattle.std.proofs.lemmas.Bool.{cases_Bool, eq-eqb, eqb-true}
-use Rattle.sc_base.specs.Among.{Among, Each}
+use Rattle.sc_base.specs.Among.{Each}
 use Rattle.sc_base.specs.Drawing.{next_name}
 use Rattle.sc_base.specs.declared.names.Draw.{Draw}
 use Rattle.sc_actor.specs.declared.actors.Seat.{Seat}
@@ -29,14 +29,14 @@ use Rattle.sc_sound.specs.Players.{Lawful, Player, as_nodes, births, player_tabl
 use Rattle.sc_calm_law.specs.Totals.{Rows}
 use Rattle.sc_calm_orders_law.specs.Follows.{IsStepOf, ByRest, ByOrder, ByChange, ByDeal, ByPassing, ByAsking, ByTaking, ByVote, ByNo, ByHearing, ByDeciding, ByEnd, LastFreed, LastTakes, OfOutcome, OfQuestion, OfVote, OneFreed, OneTakes, TwoFreed, TwoTakes}
 use Rattle.sc_calm_orders_law.specs.Parts.{work_by, works}
-use Rattle.sc_calm_orders_law.specs.Scenes.{Answers, Asking, Bond, Bound, Changes, Ends, Errand, GivesUp, Here, IsNone, Opens, Records, Scene, Turn, Unbound, Work, free}
-use Rattle.sc_calm_orders_law.specs.Stages.{Asks, Closes, ClosesBoth, Filed, IsAt, Leg, Mailed, Ordered, Recorded, Replied, SentOn, Stage, Still, Weighs, closing, parties_of}
+use Rattle.sc_calm_orders_law.specs.Scenes.{Answers, Asking, Bound, Changes, Ends, GivesUp, Here, Opens, Records, Scene, Turn, Unbound, Work, free}
+use Rattle.sc_calm_orders_law.specs.Stages.{Asks, Closes, ClosesBoth, Filed, IsAt, Leg, Mailed, Ordered, Recorded, Replied, SentOn, Stage, Still, Weighs, closing}
 use Rattle.sc_calm_orders_law.specs.Tables.{MayFile}
 use Rattle.sc_calm_orders_law.proofs.Lists.{cases-draw}
 use Rattle.sc_calm_orders_law.proofs.Ordering.{tables-order}
 use Rattle.sc_calm_rows_law.specs.Groups.{view_at}
 use Rattle.sc_calm_rows_law.specs.Turns.{with_event}
-use Rattle.sc_calm_rows_law.proofs.Viewing.{view_is, view_others, view_was}
+use Rattle.sc_calm_rows_law.proofs.Viewing.{view_is, view_others}
 use Rattle.sc_calm_scenes_law.specs.Counted.{IsOrdered}
 use Rattle.sc_calm_scenes_law.specs.Found.{ByAnother, ByLeader, FindsQuiet}
 use Rattle.sc_calm_scenes_law.specs.Fresh.{IsToldInQuiet}

@@ -1,5 +1,5 @@
 -- What the leaders of a stage have executed, by the stage after a delivery.
-use Rattle.std.proofs.Common.{◌≡◌, ℕ, Bool, true, false, List, [], ◌∷◌, ◌++◌, Some, None, ◌⊎◌, inl, inr, refl, sym, ◌∙◌, ap, subst}
+use Rattle.std.proofs.Common.{◌≡◌, ℕ, Bool, true, false, List, [], ◌∷◌, ◌++◌, Some, ◌⊎◌, inl, inr, refl, sym, ◌∙◌, ap, subst}
 use Rattle.sc_base.specs.Among.{Each}
 use Rattle.sc_base.specs.declared.names.Draw.{Draw}
 use Rattle.sc_cmd.specs.declared.commands.Command.{Command}
@@ -19,11 +19,11 @@ use Rattle.sc_calm_law.specs.Totals.{Rows}
 use Rattle.sc_calm_orders_law.specs.Follows.{IsTaken, OfQuestion, OfVote, OfOutcome, LastTakes, OneTakes, TwoTakes, LastFreed, OneFreed, TwoFreed, IsStepOf, ByRest, ByOrder, ByChange, ByDeal, ByPassing, ByAsking, ByTaking, ByVote, ByNo, ByHearing, ByDeciding, ByEnd, closed}
 use Rattle.sc_calm_orders_law.specs.Parts.{work_by, works}
 use Rattle.sc_calm_orders_law.specs.Scenes.{Turn, First, Lone, Next, is_watch, Work, Opens, Answers, Records, Here, Scene}
-use Rattle.sc_calm_orders_law.specs.Stages.{Asks, Closes, ClosesBoth, Deal, Filed, IsAt, Leg, Mailed, Ordered, Party, Recorded, Replied, SentOn, Stage, Still, Weighs, closing, heard, heard_lead, party_of}
+use Rattle.sc_calm_orders_law.specs.Stages.{Asks, Closes, ClosesBoth, Deal, Filed, IsAt, Leg, Mailed, Ordered, Party, Recorded, Replied, SentOn, Stage, Still, Weighs, closing, heard, heard_lead}
 use Rattle.sc_calm_rows_law.specs.Groups.{view_at}
 use Rattle.sc_calm_rows_law.specs.Turns.{IsSeat, with_event}
 use Rattle.sc_calm_scenes_law.specs.Found.{FindsOrder}
-use Rattle.sc_calm_scenes_law.specs.Scenes.{is_running, lead_of, scene_at, work_at, works_of}
+use Rattle.sc_calm_scenes_law.specs.Scenes.{is_running, scene_at, work_at, works_of}
 use Rattle.sc_calm_scenes_law.proofs.Newest.{lead_runs}
 use Rattle.sc_calm_true_law.specs.Deeds.{AreDeeds, BeginsSo, Deed, Doer, FlightsBeginSo, HasDone, HasStepped, Rested, Executed, Hearing, IsDeed, Opening, Promising, Voting, closing_doer, doer, doers_of, heard_doer, opened, voted}
 use Rattle.sc_calm_true_law.proofs.Stepping.{Comes, goes_on}
@@ -166,18 +166,24 @@ module _ (words : ℕ → ℕ → ℕ × ℕ) (births : List (Seat Player)) (qui
   )
   stays (Weighs deal host) a b d = (
     keeps (doer deal.coord deal.chief (opened deal.tx deal.turn)) d.0 a.leads.0 b.leads.0 (inl (ap (λ (h : Here). h.work) a.parties.0.0)),
-    (keeps (doer deal.asked host []) d.1.0 a.leads.1.0 b.leads.1.0 (works_on deal.asked _ (ap (λ (h : Here). h.work) b.parties.0.1.0)),
-    heard_keeps deal.tx deal.turn a.parties.0.1.1 a.leads.1.1 b.leads.1.1 d.1.1),
+    (
+      keeps (doer deal.asked host []) d.1.0 a.leads.1.0 b.leads.1.0 (works_on deal.asked _ (ap (λ (h : Here). h.work) b.parties.0.1.0)),
+      heard_keeps deal.tx deal.turn a.parties.0.1.1 a.leads.1.1 b.leads.1.1 d.1.1,
+    ),
   )
   stays (Replied deal agreed host) a b d = (
     keeps (doer deal.coord deal.chief (opened deal.tx deal.turn)) d.0 a.leads.0 b.leads.0 (inl (ap (λ (h : Here). h.work) a.parties.0.0)),
-    (keeps (doer deal.asked host (voted deal.tx deal.turn)) d.1.0 a.leads.1.0 b.leads.1.0 (inl (ap (λ (h : Here). h.work) a.parties.0.1.0)),
-    heard_keeps deal.tx deal.turn a.parties.0.1.1 a.leads.1.1 b.leads.1.1 d.1.1),
+    (
+      keeps (doer deal.asked host (voted deal.tx deal.turn)) d.1.0 a.leads.1.0 b.leads.1.0 (inl (ap (λ (h : Here). h.work) a.parties.0.1.0)),
+      heard_keeps deal.tx deal.turn a.parties.0.1.1 a.leads.1.1 b.leads.1.1 d.1.1,
+    ),
   )
   stays (Recorded deal agreed host) a b d = (
     keeps (doer deal.coord deal.chief (opened deal.tx deal.turn)) d.0 a.leads.0 b.leads.0 (works_on deal.coord _ (ap (λ (h : Here). h.work) b.parties.0.0)),
-    (keeps (doer deal.asked host (voted deal.tx deal.turn)) d.1.0 a.leads.1.0 b.leads.1.0 (inl (ap (λ (h : Here). h.work) a.parties.0.1.0)),
-    heard_keeps deal.tx deal.turn a.parties.0.1.1 a.leads.1.1 b.leads.1.1 d.1.1),
+    (
+      keeps (doer deal.asked host (voted deal.tx deal.turn)) d.1.0 a.leads.1.0 b.leads.1.0 (inl (ap (λ (h : Here). h.work) a.parties.0.1.0)),
+      heard_keeps deal.tx deal.turn a.parties.0.1.1 a.leads.1.1 b.leads.1.1 d.1.1,
+    ),
   )
   stays (Closes tx party) a b d = (closing_stays tx party a.parties.0.0 b.parties.0.0 a.leads.0 b.leads.0 d.0, tt)
   stays (ClosesBoth tx one two) a b d = (closing_stays tx one a.parties.0.0 b.parties.0.0 a.leads.0 b.leads.0 d.0, (closing_stays tx two a.parties.0.1.0 b.parties.0.1.0 a.leads.1.0 b.leads.1.0 d.1.0, tt))
@@ -213,8 +219,10 @@ module _ (words : ℕ → ℕ → ℕ × ℕ) (births : List (Seat Player)) (qui
   takes : (deal : Deal) (node host : ℕ) → (IsAt (Weighs deal host) after → Has (doer deal.asked host [])) → Kept (Asks deal node) (Weighs deal host)
   takes deal node host fresh a b d = (
     keeps (doer deal.coord deal.chief (opened deal.tx deal.turn)) d.0 a.leads.0 b.leads.0 (inl (ap (λ (h : Here). h.work) a.parties.0.0)),
-    (fresh b,
-    heard_keeps deal.tx deal.turn a.parties.0.1.1 a.leads.1 b.leads.1.1 d.1),
+    (
+      fresh b,
+      heard_keeps deal.tx deal.turn a.parties.0.1.1 a.leads.1 b.leads.1.1 d.1,
+    ),
   )
 
   voted_done : (tx asked : Draw) (host : ℕ) (turn : Turn) (coord : Draw) (by : ℕ) → ((deed : Deed) → ((command : Command) → work_by command ≡ Some (Answers tx coord (is_watch turn) by) → BeginsSo command → IsDeed deed command) → Has (doer asked host (deed ∷ [])))
@@ -226,16 +234,20 @@ module _ (words : ℕ → ℕ → ℕ × ℕ) (births : List (Seat Player)) (qui
   votes : (deal : Deal) (agreed : Bool) (host : ℕ) → Kept (Weighs deal host) (Replied deal agreed host)
   votes deal agreed host a b d = (
     keeps (doer deal.coord deal.chief (opened deal.tx deal.turn)) d.0 a.leads.0 b.leads.0 (inl (ap (λ (h : Here). h.work) a.parties.0.0)),
-    (voted_done deal.tx deal.asked host deal.turn deal.coord deal.chief
-        (λ deed is. runs (doer deal.asked host []) d.1.0 a.leads.1.0 b.leads.1.0 deed (Answers deal.tx deal.coord (is_watch deal.turn) deal.chief) (ap (λ (h : Here). h.work) a.parties.0.1.0) (ap (λ (h : Here). h.work) b.parties.0.1.0) is),
-    heard_keeps deal.tx deal.turn a.parties.0.1.1 a.leads.1.1 b.leads.1.1 d.1.1),
+    (
+      voted_done deal.tx deal.asked host deal.turn deal.coord deal.chief
+          (λ deed is. runs (doer deal.asked host []) d.1.0 a.leads.1.0 b.leads.1.0 deed (Answers deal.tx deal.coord (is_watch deal.turn) deal.chief) (ap (λ (h : Here). h.work) a.parties.0.1.0) (ap (λ (h : Here). h.work) b.parties.0.1.0) is),
+      heard_keeps deal.tx deal.turn a.parties.0.1.1 a.leads.1.1 b.leads.1.1 d.1.1,
+    ),
   )
 
   records : (deal : Deal) (agreed : Bool) (host : ℕ) → Kept (Replied deal agreed host) (Recorded deal agreed host)
   records deal agreed host a b d = (
     keeps (doer deal.coord deal.chief (opened deal.tx deal.turn)) d.0 a.leads.0 b.leads.0 (inl (ap (λ (h : Here). h.work) a.parties.0.0)),
-    (keeps (doer deal.asked host (voted deal.tx deal.turn)) d.1.0 a.leads.1.0 b.leads.1.0 (inl (ap (λ (h : Here). h.work) a.parties.0.1.0)),
-    heard_keeps deal.tx deal.turn a.parties.0.1.1 a.leads.1.1 b.leads.1.1 d.1.1),
+    (
+      keeps (doer deal.asked host (voted deal.tx deal.turn)) d.1.0 a.leads.1.0 b.leads.1.0 (inl (ap (λ (h : Here). h.work) a.parties.0.1.0)),
+      heard_keeps deal.tx deal.turn a.parties.0.1.1 a.leads.1.1 b.leads.1.1 d.1.1,
+    ),
   )
 
   abbrev asking : Draw → Draw → ℕ → Turn → List Doer
@@ -266,12 +278,11 @@ module _ (words : ℕ → ℕ → ℕ × ℕ) (births : List (Seat Player)) (qui
   decides tx asked coord Lone host led idle at b d = (keeps (doer asked host (Voting tx ∷ [])) d.0 led.0 b.leads.0 (inl idle), tt)
   decides tx asked coord (Next part node) host led idle at b d = (
     as_party tx part node (keeps (doer part node (Promising tx ∷ [])) d.1.0 led.1.0 b.leads.0 (inl (ap (λ (h : Here). h.work) at.0))),
-    (keeps (doer asked host (Voting tx ∷ [])) d.0 led.0 b.leads.1.0 (inl idle),
-    tt),
+    (
+      keeps (doer asked host (Voting tx ∷ [])) d.0 led.0 b.leads.1.0 (inl idle),
+      tt,
+    ),
   )
-
-
-
 
   -- a party that takes an outcome had no work
   took : (tx : Draw) (party : Party) → party.leg ≡ Mailed → now.at party.group ≡ closing tx party.leg party.host → now.lead party.group ≡ Some party.host → after.lead party.group ≡ Some party.host → Was (closing_doer tx party) → Has (closing_doer tx party)

@@ -1,7 +1,6 @@
 -- What a leader has in flight of an order is true: where it asks, and where its group votes.
-use Rattle.std.proofs.Common.{◌≡◌, ℕ, Bool, true, false, true≢false, cond, List, [], ◌∷◌, ◌++◌, Option, Some, None, ◌⊎◌, inl, inr, refl, sym, ◌∙◌, ap, subst}
+use Rattle.std.proofs.Common.{◌≡◌, ℕ, Bool, true, false, true≢false, cond, List, [], ◌∷◌, Option, Some, None, inl, inr, refl, sym, ◌∙◌, ap, subst}
 use Rattle.std.proofs.lemmas.Bool.{cases_Bool, cond-true, cond-false, cond_both}
-use Rattle.std.specs.List.{list_any}
 use Rattle.sc_base.specs.Among.{Among, Each}
 use Rattle.sc_base.specs.Same.{same_draw}
 use Rattle.sc_base.specs.declared.names.Draw.{Draw}
@@ -10,7 +9,6 @@ use Rattle.sc_cmd.specs.Cores.{is_alone}
 use Rattle.sc_cmd.specs.Effects.{is_changed}
 use Rattle.sc_cmd.specs.declared.bodies.Body.{Body}
 use Rattle.sc_cmd.specs.declared.bodies.Body.TheVariants as At
-use Rattle.sc_cmd.specs.declared.bodies.Offer.{Offer}
 use Rattle.sc_cmd.specs.declared.bodies.Watch.{Watch}
 use Rattle.sc_cmd.specs.declared.commands.Command.{Command}
 use Rattle.sc_cmd.specs.declared.commands.Command.TheVariants.{Noop, Call, Join, Leave, Split, Begin, Prepared, RecordVote, GiveUp, Finish, Watched, RecordWatch}
@@ -22,10 +20,9 @@ use Rattle.sc_cmd.specs.declared.effects.Effect.TheVariants.{NoEffect, Voted}
 use Rattle.sc_cmd.specs.declared.links.Route.{Route}
 use Rattle.sc_cmd.specs.declared.orders.OrderRefusal.{OrderRefusal}
 use Rattle.sc_cmd.specs.declared.votes.No.{No}
-use Rattle.sc_cmd.specs.declared.votes.Past.{Past}
 use Rattle.sc_machine_table.specs.Group.{Group}
 use Rattle.sc_machine_table.specs.Machine.{applied, split_group}
-use Rattle.sc_machine_table.specs.Orders.{begin_refused, body_refused, locked_in, ordered, refusal_of, refused_in}
+use Rattle.sc_machine_table.specs.Orders.{body_refused, locked_in, ordered, refusal_of, refused_in}
 use Rattle.sc_machine_table.specs.Splits.{has_named, left_group}
 use Rattle.sc_machine_table.specs.Transactions.{begun_group}
 use Rattle.sc_machine_table.specs.Votes.{has_voted, no_of, past_of, voted_on, watch_no, watch_vote_of}
@@ -35,12 +32,11 @@ use Rattle.sc_paxos_words.specs.declared.flights.Flight.{Flight}
 use Rattle.sc_paxos_words.proofs.ListLemmas.{Each-among}
 use Rattle.sc_scenario.specs.declared.scenarios.Scenario.{Scenario}
 use Rattle.sc_sound.specs.Players.{as_nodes, births}
-use Rattle.sc_names_law.specs.Names.{CoreNames, PastNames}
-use Rattle.sc_whole_law.proofs.Coming.{comes}
+use Rattle.sc_names_law.specs.Names.{CoreNames}
 use Rattle.sc_calm_law.specs.Totals.{Rows}
 use Rattle.sc_calm_orders_law.specs.Entries.{IsBegun}
 use Rattle.sc_calm_scenes_law.specs.Counted.{StaysIn}
-use Rattle.sc_calm_found_law.specs.Votes.{AsksAnother, IsTrueEntry}
+use Rattle.sc_calm_found_law.specs.Votes.{IsTrueEntry}
 use Rattle.sc_actor.specs.declared.actors.Seat.{Seat}
 use Rattle.sc_actor.proofs.WalkLemmas.{lawful-prefix}
 use Rattle.sc_budget_law.specs.AskingQuiet.{replicas_after}

@@ -1,5 +1,5 @@
 -- Two groups one of which begins where the other ends fit together, where neither holds a key of the other's arc.
-use Rattle.std.proofs.Common.{◌≡◌, ℕ, ◌+◌, ◌^◌, ◌<◌, ◌≤◌, Bool, true, false, true≢false, List, [], ◌∷◌, Option, Some, None, inl, inr, refl, sym, ◌∙◌, ap, subst, arith}
+use Rattle.std.proofs.Common.{◌≡◌, ℕ, ◌+◌, ◌^◌, ◌<◌, ◌≤◌, Bool, true, false, true≢false, List, [], ◌∷◌, Option, Some, None, inl, inr, refl, sym, ◌∙◌, ap, arith}
 use Rattle.std.specs.Prelude.{length, ◌&&◌, ◌||◌, ◌==◌, not, nat_le, nat_lt, cond}
 use Rattle.std.specs.FinMap.{empty, entries}
 use Rattle.std.proofs.lemmas.Bool.{and_from, cases_Bool, cond-true, cond-false, eq-eqb, le-leb, lt-ltb, ltb-true, ltb-false, or_parts}
@@ -11,12 +11,11 @@ use Rattle.sc_cmd.specs.declared.bodies.Body.TheVariants as At
 use Rattle.sc_cmd.specs.declared.bodies.Offer.{Offer}
 use Rattle.sc_cmd.specs.declared.cores.Core.{Core}
 use Rattle.sc_cmd.specs.declared.links.Route.{Route}
-use Rattle.sc_cmd.specs.declared.votes.Frozen.{Frozen}
 use Rattle.sc_cmd.specs.declared.votes.No.{No}
 use Rattle.sc_cmd.specs.declared.votes.No.TheVariants.{Apart, TooMany}
 use Rattle.sc_ideal.specs.IdealStore.{holds_key, part_of, with_pairs}
 use Rattle.sc_machine_table.specs.Group.{Group}
-use Rattle.sc_machine_table.specs.Orders.{body_refused, limit_refused, locked_in, migrate_refused, repart_refused}
+use Rattle.sc_machine_table.specs.Orders.{limit_refused, locked_in, migrate_refused, repart_refused}
 use Rattle.sc_machine_table.specs.Plans.{can_cut, can_join, can_merge, can_migrate, can_repart, frozen_of, has_key_of, may_merge, taken}
 use Rattle.sc_machine_table.specs.Votes.{body_no, no_of, offer_no, place_no, size_no, vote_of}
 use Rattle.sc_member.specs.Roster.{is_member}
@@ -132,8 +131,8 @@ module _ (one its : Group) (m : Meets one its) where
       fits =
           cond-false (holds one.core.arc at) (can_cut one.core.arc at) (can_cut its.core.arc at && can_join one.core.arc (before its.core.arc at)) out
           ∙ and_from (can_cut its.core.arc at) (can_join one.core.arc (before its.core.arc at)) cut
-              (and_from (its.core.arc.lo == end_of one.core.arc) (nat_le (one.core.arc.len + offset its.core.arc at) (2 ^ 32)) (eq-eqb its.core.arc.lo (end_of one.core.arc) m.meet)
-              (le-leb (one.core.arc.len + offset its.core.arc at) (2 ^ 32) (before_room one.core.arc.len its.core.arc.len (offset its.core.arc at) m.room near)))
+          (and_from (its.core.arc.lo == end_of one.core.arc) (nat_le (one.core.arc.len + offset its.core.arc at) (2 ^ 32)) (eq-eqb its.core.arc.lo (end_of one.core.arc) m.meet)
+          (le-leb (one.core.arc.len + offset its.core.arc at) (2 ^ 32) (before_room one.core.arc.len its.core.arc.len (offset its.core.arc at) m.room near)))
 
       inner : (key : List ℕ) → holds_key (before its.core.arc at) key ≡ true → holds_key its.core.arc key ≡ true
       inner key held = lt-ltb (offset its.core.arc (pos_of key)) its.core.arc.len (less_too (offset its.core.arc (pos_of key)) (offset its.core.arc at) its.core.arc.len (ltb-true (offset its.core.arc (pos_of key)) (offset its.core.arc at) held) near)

@@ -1,50 +1,29 @@
 -- What is known of an order since a quiet journal, after one more delivery.
-use Rattle.std.proofs.Common.{◌≡◌, ℕ, Bool, true, false, true≢false, List, [], ◌∷◌, ◌++◌, Option, Some, None, ◌⊎◌, inl, inr, refl, sym, ◌∙◌, ap, subst, append_assoc}
-use Rattle.sc_base.specs.Among.{Among, Each}
+use Rattle.std.proofs.Common.{◌≡◌, ℕ, List, [], ◌∷◌, ◌++◌, Some, ◌⊎◌, inl, inr, refl, sym, ◌∙◌, ap, subst, append_assoc}
+use Rattle.sc_base.specs.Among.{Each}
 use Rattle.sc_base.specs.declared.names.Draw.{Draw}
 use Rattle.sc_actor.specs.declared.actors.Seat.{Seat}
 use Rattle.sc_actor.specs.declared.rows.Event.TheVariants.{Deliver}
 use Rattle.sc_actor.specs.System.{row_of}
-use Rattle.sc_cmd.specs.declared.bodies.Body.{Body}
-use Rattle.sc_cmd.specs.declared.bodies.Body.TheVariants as At
-use Rattle.sc_cmd.specs.declared.bodies.Offer.{Offer}
-use Rattle.sc_cmd.specs.declared.commands.Command.{Command}
-use Rattle.sc_cmd.specs.declared.commands.Command.TheVariants.{Noop, Call, Join, Leave, Split, Begin, Prepared, RecordVote, GiveUp, Finish, Watched, RecordWatch}
 use Rattle.sc_cmd.specs.declared.cores.Base.{Base}
-use Rattle.sc_cmd.specs.declared.cores.Lock.TheVariants.{Coordinating, Free, Promised}
-use Rattle.sc_cmd.specs.declared.votes.Frozen.{Frozen}
-use Rattle.sc_cmd.specs.declared.votes.Heard.{Heard}
-use Rattle.sc_cmd.specs.declared.votes.Vote.TheVariants as Vows
-use Rattle.sc_machine_table.specs.Group.{Group}
-use Rattle.sc_machine_table.specs.Plans.{frozen_of}
-use Rattle.sc_node_table.specs.Node.{NodeState}
-use Rattle.sc_node_table.specs.Replica.{ReplicaState, listed}
-use Rattle.sc_paxos_words.specs.declared.flights.Flight.{Flight}
-use Rattle.sc_paxos_words.proofs.ListLemmas.{Each-weaker}
+use Rattle.sc_node_table.specs.Replica.{listed}
 use Rattle.sc_scenario.specs.declared.scenarios.Scenario.{Scenario}
 use Rattle.sc_sound.specs.Players.{Player, as_nodes, births, player_table}
 use Rattle.sc_calm_law.specs.Quiet.{StandsQuiet}
 use Rattle.sc_calm_law.specs.Totals.{Rows}
-use Rattle.sc_calm_logs_law.specs.Logged.{HasReplica, IsGroupOf}
-use Rattle.sc_calm_logs_law.proofs.Views.{views_are_replicas}
-use Rattle.sc_calm_orders_law.specs.Follows.{IsTaken, OfQuestion, OfVote, OfOutcome, LastTakes, OneTakes, TwoTakes, LastFreed, OneFreed, TwoFreed, IsStepOf, ByRest, ByOrder, ByChange, ByDeal, ByPassing, ByAsking, ByTaking, ByVote, ByNo, ByHearing, ByDeciding, ByEnd, closed}
-use Rattle.sc_calm_orders_law.specs.Parts.{bond_of}
-use Rattle.sc_calm_orders_law.specs.Scenes.{Asking, Bond, Bound, First, Here, Lone, Next, Scene, Turn, Unbound, Work}
-use Rattle.sc_calm_orders_law.specs.Stages.{Asks, Closes, ClosesBoth, Deal, IsAt, Ordered, Recorded, Replied, SentOn, Stage, Still, Weighs, heard, heard_lead}
-use Rattle.sc_calm_rows_law.specs.Groups.{view_at}
+use Rattle.sc_calm_orders_law.specs.Follows.{OfQuestion, OfVote, OfOutcome, LastTakes, OneTakes, TwoTakes, LastFreed, OneFreed, TwoFreed, IsStepOf, ByRest, ByOrder, ByChange, ByDeal, ByPassing, ByAsking, ByTaking, ByVote, ByNo, ByHearing, ByDeciding, ByEnd, closed}
+use Rattle.sc_calm_orders_law.specs.Scenes.{First, Here, Lone, Next, Scene, Turn}
+use Rattle.sc_calm_orders_law.specs.Stages.{Asks, Deal, IsAt, Stage, Still, Weighs}
 use Rattle.sc_calm_rows_law.specs.Turns.{with_event}
-use Rattle.sc_calm_scenes_law.specs.Fresh.{IsThere}
 use Rattle.sc_calm_scenes_law.specs.Kept.{GoesBy}
 use Rattle.sc_calm_scenes_law.specs.Scenes.{scene_at}
 use Rattle.sc_budget_law.specs.AskingQuiet.{replicas_after}
-use Rattle.sc_calm_true_law.specs.Deeds.{AreDeeds, BeginsSo, Doer, FlightsBeginSo, HasDone, Promising, doer, doers_of, heard_doer, opened}
+use Rattle.sc_calm_true_law.specs.Deeds.{Doer, FlightsBeginSo, HasDone, doer, doers_of}
 use Rattle.sc_calm_true_law.specs.Going.{GoesOnSince}
 use Rattle.sc_calm_true_law.specs.New.{IsUnused, tx_of}
-use Rattle.sc_calm_true_law.specs.Told.{IsAllowedBy, LockTells, ReplicasTell}
+use Rattle.sc_calm_true_law.specs.Told.{ReplicasTell}
 use Rattle.sc_calm_true_law.specs.Under.{asked_of}
 use Rattle.sc_calm_true_law.proofs.Doers.{stays, steps}
-use Rattle.sc_calm_true_law.proofs.Opened.{ByOffer, ByWatch, HasBoth, HasHeard, IsBoundBy, IsOpened}
-use Rattle.sc_calm_true_law.proofs.Parties.{Coordinates, coordinates, lead_bond, promised}
 use Rattle.sc_calm_true_law.proofs.Since.{asked_stands, begin_so}
 
 -- ---- the transaction of a stage

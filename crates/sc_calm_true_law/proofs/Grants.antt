@@ -1,5 +1,5 @@
 -- What a vote that is recorded comes to at a coordinator: it decides, or by a Yes on a merge the one that stands behind is asked.
-use Rattle.std.proofs.Common.{◌≡◌, ℕ, Bool, true, false, true≢false, List, [], ◌∷◌, Option, Some, None, ◌⊎◌, inl, inr, refl, sym, ◌∙◌, ap, subst}
+use Rattle.std.proofs.Common.{◌≡◌, ℕ, Bool, true, false, true≢false, Option, Some, None, ◌⊎◌, inl, inr, refl, sym, ◌∙◌, ap, subst}
 use Rattle.std.specs.Prelude.{◌&&◌, not, cond}
 use Rattle.std.proofs.lemmas.Bool.{cases_Bool, cond-true, cond-false}
 use Rattle.sc_base.specs.Arc.{holds}
@@ -11,7 +11,6 @@ use Rattle.sc_cmd.specs.declared.bodies.Body.{Body}
 use Rattle.sc_cmd.specs.declared.bodies.Body.TheVariants as At
 use Rattle.sc_cmd.specs.declared.commands.Command.{Command}
 use Rattle.sc_cmd.specs.declared.commands.Command.TheVariants.{RecordVote, RecordWatch}
-use Rattle.sc_cmd.specs.declared.cores.Lock.{Lock}
 use Rattle.sc_cmd.specs.declared.cores.Lock.TheVariants.{Coordinating}
 use Rattle.sc_cmd.specs.declared.effects.Effect.{Effect}
 use Rattle.sc_cmd.specs.declared.effects.Effect.TheVariants.{Changed, NoEffect}
@@ -24,7 +23,7 @@ use Rattle.sc_cmd.specs.declared.votes.Past.TheVariants as Cast
 use Rattle.sc_cmd.specs.declared.votes.Vote.TheVariants as Vows
 use Rattle.sc_machine_table.specs.Group.{Group}
 use Rattle.sc_machine_table.specs.Machine.{applied}
-use Rattle.sc_machine_table.specs.Plans.{can_migrate, can_repart, can_split, closing_group, closing_plan, giving_group, giving_plan, has_key_of, may_merge, merge_plan, merged_group, merged_route, migrated_group, part_gift, repart_plan, taken, taking_group, taking_plan}
+use Rattle.sc_machine_table.specs.Plans.{can_migrate, can_repart, can_split, closing_group, closing_plan, giving_group, giving_plan, has_key_of, may_merge, merged_group, merged_route, migrated_group, part_gift, taken, taking_group, taking_plan}
 use Rattle.sc_machine_table.specs.Splits.{left_group}
 use Rattle.sc_machine_table.specs.Transactions.{committed, granted, heard_group, watch_answered, vote_recorded, watch_recorded}
 use Rattle.sc_member.specs.Roster.{is_member}
@@ -83,8 +82,10 @@ module _ (group : Group) (tx : Draw) (order by : ℕ) (frozen : Frozen) where
             let is : applied group (RecordVote tx (Vows.Yes frozen) by) ≡ (heard, Changed) = comes ∙ cond-false (same_draw frozen.succ.group group.core.id) (committed (closing_plan group frozen) group tx) (heard, Changed) f in
             inr (
               ap (λ (x : Group × Effect). is_changed x.1) is,
-              (record { stands = ap (λ (x : Group × Effect). x.0.core.gone) is ∙ stands; mine = ap (λ (x : Group × Effect). is_member x.0.core.members me) is ∙ mine },
-              λ e. true≢false (sym (same_name frozen.succ.group group.core.id e) ∙ f)),
+              (
+                record { stands = ap (λ (x : Group × Effect). x.0.core.gone) is ∙ stands; mine = ap (λ (x : Group × Effect). is_member x.0.core.members me) is ∙ mine },
+                λ e. true≢false (sym (same_name frozen.succ.group group.core.id e) ∙ f),
+              ),
             ))
       ]
 

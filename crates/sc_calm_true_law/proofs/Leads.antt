@@ -1,18 +1,14 @@
 -- A leader is a member of a group that stands, and what it has in flight is the work of a stage.
-use Rattle.std.proofs.Common.{◌≡◌, ℕ, Bool, true, false, true≢false, List, [], ◌∷◌, ◌++◌, Option, Some, None, ◌⊎◌, inl, inr, is_some, refl, sym, ◌∙◌, ap, subst, append_assoc, append-nil}
+use Rattle.std.proofs.Common.{◌≡◌, ℕ, Bool, true, false, true≢false, List, [], ◌∷◌, ◌++◌, Option, Some, None, inl, inr, is_some, refl, sym, ◌∙◌, ap, subst, append_assoc, append-nil}
 use Rattle.sc_base.specs.Among.{Among, Each}
 use Rattle.sc_base.specs.declared.names.Draw.{Draw}
-use Rattle.sc_actor.specs.declared.rows.Row.{Row}
 use Rattle.sc_cmd.specs.declared.commands.Command.{Command}
 use Rattle.sc_cmd.specs.declared.cores.Base.{Base}
 use Rattle.sc_cmd.specs.declared.links.Route.{Route}
-use Rattle.sc_cmd.specs.declared.orders.OrderLine.{OrderLine}
-use Rattle.sc_mail.specs.declared.bodies.Mail.{Mail}
 use Rattle.sc_member.specs.Roster.{is_member}
-use Rattle.sc_node_table.specs.Replica.{ReplicaState, listed, members, next}
+use Rattle.sc_node_table.specs.Replica.{ReplicaState, listed, members}
 use Rattle.sc_orderly_law.specs.Timely.{AreInTime}
 use Rattle.sc_paxos_words.specs.declared.flights.Flight.{Flight}
-use Rattle.sc_paxos_words.proofs.ListLemmas.{Each-among}
 use Rattle.sc_scenario.specs.declared.scenarios.Scenario.{Scenario}
 use Rattle.sc_sound.specs.Players.{as_nodes, births}
 use Rattle.sc_calm_law.specs.Charts.{players}
@@ -22,8 +18,8 @@ use Rattle.sc_calm_logs_law.specs.Logged.{IsGroupOf, logged_sets}
 use Rattle.sc_following_law.specs.Following.{members_at}
 use Rattle.sc_calm_mail_law.proofs.FewJournals.{journals_idle}
 use Rattle.sc_calm_orders_law.specs.Parts.{work_by, works, works_flying, works_in, works_ready}
-use Rattle.sc_calm_orders_law.specs.Scenes.{Answers, Bound, Ends, Errand, Here, Records, Scene, Turn, Work, is_watch}
-use Rattle.sc_calm_orders_law.specs.Stages.{Asks, Closes, ClosesBoth, Deal, Filed, IsAt, Leg, Mailed, Ordered, Party, Recorded, Replied, SentOn, Stage, Still, Weighs, closing, heard, leads_of, parties_of}
+use Rattle.sc_calm_orders_law.specs.Scenes.{Answers, Bound, Ends, Here, Records, Work, is_watch}
+use Rattle.sc_calm_orders_law.specs.Stages.{Asks, Closes, ClosesBoth, Deal, Filed, Leg, Mailed, Ordered, Party, Recorded, Replied, SentOn, Stage, Still, Weighs, closing, leads_of, parties_of}
 use Rattle.sc_calm_orders_law.proofs.Lists.{among-left, among-right, found, tagged, tokens}
 use Rattle.sc_calm_orders_law.proofs.Moves.{closing-work, no-work, work_of}
 use Rattle.sc_calm_rows_law.specs.Groups.{view_at}

@@ -16,8 +16,11 @@ pub mod Pending
 pub mod Quiet
 pub mod Records
 pub mod Ring
+pub mod Rounds
+pub mod Settling
 pub mod Since
 pub mod Stepping
 pub mod Told
 pub mod Took
+pub mod Turns
 pub mod Unsettled

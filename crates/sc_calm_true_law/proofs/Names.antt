@@ -1,5 +1,5 @@
 -- Which names replicas have after some rows, and that a name that is new is none of them.
-use Rattle.std.proofs.Common.{◌≡◌, ℕ, ◌≤◌, ◌<◌, zero, suc, eqb, Bool, true, false, List, [], ◌∷◌, ◌++◌, Option, Some, None, find, option_map, length, inl, inr, refl, sym, ◌∙◌, ap, subst}
+use Rattle.std.proofs.Common.{◌≡◌, ℕ, zero, suc, eqb, false, List, [], ◌∷◌, Option, Some, None, find, option_map, length, inl, inr, refl, sym, ap, subst}
 use Rattle.std.proofs.lemmas.Bool.{cases_Bool, or_from}
 use Rattle.std.specs.List.{list_any}
 use Rattle.sc_machine_table.specs.Votes.{has_voted}
@@ -9,12 +9,11 @@ use Rattle.sc_base.specs.declared.names.Draw.{Draw}
 use Rattle.sc_base.proofs.NameLemmas.{draw_is}
 use Rattle.sc_actor.specs.declared.actors.Seat.{Seat}
 use Rattle.sc_actor.specs.Replay.{value}
-use Rattle.sc_cmd.specs.declared.cores.Base.{Base}
 use Rattle.sc_cmd.specs.declared.cores.Core.{Core}
 use Rattle.sc_cmd.specs.declared.votes.Outcome.{Outcome}
 use Rattle.sc_cmd.specs.declared.votes.Past.{Past}
 use Rattle.sc_mail.specs.declared.roles.Role.TheVariants.{Node, Client}
-use Rattle.sc_node_table.specs.Node.{NodeState, replica_of}
+use Rattle.sc_node_table.specs.Node.{replica_of}
 use Rattle.sc_node_table.specs.Replica.{ReplicaState, name_of}
 use Rattle.sc_node_table.specs.Transactions.{noted_outcome, noted_vote}
 use Rattle.sc_paxos_words.proofs.ListLemmas.{Each-among, Each-append, Each-weaker, find_found, find_nothing}
@@ -23,11 +22,10 @@ use Rattle.sc_scenario.specs.Valid.{IsBounded}
 use Rattle.sc_scenario.specs.declared.drafts.GroupLine.{GroupLine}
 use Rattle.sc_scenario.specs.declared.scenarios.Scenario.{Scenario}
 use Rattle.sc_sound.specs.Players.{Lawful, Player, as_nodes, births, player_table}
-use Rattle.sc_names_law.specs.Fresh.{AllNames, BeginsUndrawn, IsUsed, NamesAreDrawn}
-use Rattle.sc_names_law.specs.Names.{CoreNames, HeldNames, NodeNames, OutcomeNames, PastNames, PlayerNames, ReplicaNames}
+use Rattle.sc_names_law.specs.Fresh.{BeginsUndrawn, IsUsed, NamesAreDrawn}
+use Rattle.sc_names_law.specs.Names.{CoreNames, OutcomeNames, PastNames, PlayerNames, ReplicaNames}
 use Rattle.sc_calm_law.specs.Totals.{Rows}
 use Rattle.sc_calm_rows_law.specs.Groups.{replica_in, view_at}
-use Rattle.sc_calm_true_law.specs.New.{IsUnused}
 
 -- ---- the groups of a scenario
 

@@ -1,5 +1,5 @@
 -- The number of a node that plays at a seat, and that its next name is not in use.
-use Rattle.std.proofs.Common.{◌≡◌, ℕ, ◌≤◌, eqb, List, [], ◌∷◌, ◌++◌, map, Option, Some, None, inl, inr, refl, sym, ◌∙◌, ap, subst, arith}
+use Rattle.std.proofs.Common.{◌≡◌, ℕ, ◌≤◌, eqb, map, Option, Some, None, inl, inr, refl, sym, ◌∙◌, ap, subst, arith}
 use Rattle.sc_base.specs.Drawing.{next_name}
 use Rattle.sc_base.specs.declared.names.Draw.{Draw}
 use Rattle.sc_actor.specs.declared.actors.Seat.{Seat}

@@ -7,7 +7,7 @@ use Rattle.std.proofs.lemmas.Option.{same_Some}
 use Rattle.sc_base.specs.Arc.{Arc, end_of, from, holds, before, offset}
 use Rattle.sc_base.specs.Same.{same_draw}
 use Rattle.sc_base.specs.declared.names.Draw.{Draw}
-use Rattle.sc_base.proofs.NameLemmas.{draw_is, same_name}
+use Rattle.sc_base.proofs.NameLemmas.{draw_is}
 use Rattle.sc_cmd.specs.Cores.{is_alone}
 use Rattle.sc_cmd.specs.Effects.{decided_in, is_changed}
 use Rattle.sc_cmd.specs.declared.bodies.Body.{Body}
@@ -31,7 +31,7 @@ use Rattle.sc_cmd.specs.declared.votes.Vote.TheVariants as Vows
 use Rattle.sc_ideal.specs.IdealStore.{Contents, part_of}
 use Rattle.sc_log_entries.specs.Worlds.{named_group}
 use Rattle.sc_log_entries.specs.declared.LogEntry.{LogEntry}
-use Rattle.sc_machine_table.specs.Finishes.{can_gain, gained_group, group_welcomed, lost_group, moved, participant_after, welcomed_group}
+use Rattle.sc_machine_table.specs.Finishes.{can_gain, gained_group, lost_group, participant_after, welcomed_group}
 use Rattle.sc_machine_table.specs.Group.{Group}
 use Rattle.sc_machine_table.specs.Machine.{applied}
 use Rattle.sc_machine_table.specs.Plans.{Plan, can_cut, can_join, can_migrate, can_repart, can_split, closing_group, frozen_of, giving_group, giving_plan, has_key_of, may_merge, merged_group, merged_route, migrated_group, part_gift, taken, taking_group, taking_plan}
@@ -45,10 +45,10 @@ use Rattle.sc_ring_law.specs.Invariant.{Groups}
 use Rattle.sc_ring_law.specs.Laws.{BeginInPlace, stories_of}
 use Rattle.sc_ring_law.specs.Stories.{Stories, Story, new_story, put, retold, stories_after, unsigned, vote_in, watch_vote_in, with_answer, with_decision, with_vote, with_watch_vote}
 use Rattle.sc_ring_law.proofs.Arcs.{end_right, right_is}
-use Rattle.sc_ring_law.proofs.Commits.{IsDeciding, apart_of, mine_old, own_is, part_eff}
+use Rattle.sc_ring_law.proofs.Commits.{apart_of, mine_old, own_is, part_eff}
 use Rattle.sc_ring_law.proofs.Cuts.{arcs_in}
-use Rattle.sc_ring_law.proofs.Decisions.{IsMineOpen, mine_open}
-use Rattle.sc_ring_law.proofs.Effects.{Good, Old, arc_of, succ_of, view_of}
+use Rattle.sc_ring_law.proofs.Decisions.{mine_open}
+use Rattle.sc_ring_law.proofs.Effects.{Old, arc_of, succ_of, view_of}
 use Rattle.sc_ring_law.proofs.Insides.{inside_part, no_shared, outside_next, room_of}
 use Rattle.sc_ring_law.proofs.Links.{IsPair, pair_meets}
 use Rattle.sc_ring_law.proofs.Moves.{cut_is}
@@ -82,10 +82,10 @@ gains group own at near fits cut keys gift m pairs =
     let meet : group.core.arc.lo ≡ end_of rest = near.meet ∙ sym (end_right own.arc at near.on fits c.held) in
     let room = rest_room own.arc.len group.core.arc.len (offset own.arc at) near.room c.held in
     let fine : can_gain group.core own at ≡ true =
-        and_from (can_cut own.arc at) (can_join rest group.core.arc) cut
-        (and_from (group.core.arc.lo == end_of rest) (nat_le (rest.len + group.core.arc.len) (2 ^ 32)) (eq-eqb group.core.arc.lo (end_of rest) meet) (le-leb (rest.len + group.core.arc.len) (2 ^ 32) room)) in
+    and_from (can_cut own.arc at) (can_join rest group.core.arc) cut
+    (and_from (group.core.arc.lo == end_of rest) (nat_le (rest.len + group.core.arc.len) (2 ^ 32)) (eq-eqb group.core.arc.lo (end_of rest) meet) (le-leb (rest.len + group.core.arc.len) (2 ^ 32) room)) in
     let none : has_key_of group.pairs gift.pairs ≡ false =
-        ap (has_key_of group.pairs) pairs ∙ no_shared group.core.arc rest group.pairs (part_of rest m) keys (inside_part rest m) (λ key h. outside_next rest group.core.arc on near.its_on meet room key h) in
+    ap (has_key_of group.pairs) pairs ∙ no_shared group.core.arc rest group.pairs (part_of rest m) keys (inside_part rest m) (λ key h. outside_next rest group.core.arc on near.its_on meet room key h) in
     (gained_group group own at gift, cond-true (can_gain group.core own at && not (has_key_of group.pairs gift.pairs)) (Some (gained_group group own at gift)) None (and_from (can_gain group.core own at) (not (has_key_of group.pairs gift.pairs)) fine (ap not none)))
 
 loses : (group : Group) (own : Offer) (at : ℕ) → can_cut group.core.arc at ≡ true → (after : Group) × (participant_after (Is.Moved at None) group own ≡ Some after)
@@ -238,15 +238,15 @@ module _ (sources : Sources) (ring : Ring) (gs : Groups) (ys : Stories) (g : Dra
           (λ c. gives_so (sym (cond-true (holds s.core.arc at) (can_cut s.core.arc at) (can_cut f.arc at && can_join s.core.arc (before f.arc at)) held) ∙ c)) (λ _. idle_so))
           (λ out. cond_both (can_repart s.core at f && not (has_key_of s.pairs (taken at f).pairs)) (Some (taking_group s at f, Is.Moved at None)) None (λ (plan : Plan). Answer (committed plan s tx))
           (λ c. takes_so (and_parts (can_cut f.arc at) (can_join s.core.arc (before f.arc at))
-              (sym (Rattle.std.proofs.lemmas.Bool.cond-false (holds s.core.arc at) (can_cut s.core.arc at) (can_cut f.arc at && can_join s.core.arc (before f.arc at)) out) ∙ (and_parts (can_repart s.core at f) (not (has_key_of s.pairs (taken at f).pairs)) c).0)).0)
+          (sym (Rattle.std.proofs.lemmas.Bool.cond-false (holds s.core.arc at) (can_cut s.core.arc at) (can_cut f.arc at && can_join s.core.arc (before f.arc at)) out) ∙ (and_parts (can_repart s.core at f) (not (has_key_of s.pairs (taken at f).pairs)) c).0)).0)
           (λ _. idle_so))
 
     migrate_so : (node : ℕ) → Answer (committed (Rattle.sc_machine_table.specs.Plans.migrate_plan s node f) s tx)
     migrate_so node =
         cond_both (can_migrate s.core node f) (Some (migrated_group s node f, Is.Migrated node)) None (λ (plan : Plan). Answer (committed plan s tx))
         (λ c y e. decided_fits (Is.Migrated node) y (λ offer o frozen v group own same signed keys.
-            welcomes group own node (subst (λ (x : Frozen). nat_le (length (united x.members (node ∷ []))) 9 ≡ true) (voted_is y e frozen v ∙ sym same)
-            (and_parts (is_member s.core.members node && nat_le 2 (length s.core.members)) (nat_le (length (united f.members (node ∷ []))) 9) c).1)))
+        welcomes group own node (subst (λ (x : Frozen). nat_le (length (united x.members (node ∷ []))) 9 ≡ true) (voted_is y e frozen v ∙ sym same)
+        (and_parts (is_member s.core.members node && nat_le 2 (length s.core.members)) (nat_le (length (united f.members (node ∷ []))) 9) c).1)))
         (λ _. idle_so)
 
     merge_so : (order by : ℕ) → Answer (granted At.Merge s tx order f by)

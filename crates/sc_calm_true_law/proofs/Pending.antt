@@ -1,5 +1,5 @@
 -- Of which stage an errand is that is delivered.
-use Rattle.std.proofs.Common.{◌≡◌, ℕ, Bool, true, false, cond, List, [], ◌∷◌, ◌++◌, Option, Some, None, ◌⊎◌, inl, inr, refl, sym, ◌∙◌, ap, subst}
+use Rattle.std.proofs.Common.{◌≡◌, ℕ, Bool, List, [], ◌∷◌, ◌++◌, Some, inl, inr, refl, sym, ◌∙◌, ap, subst}
 use Rattle.std.proofs.lemmas.Bool.{cond-true}
 use Rattle.sc_base.specs.Among.{Among}
 use Rattle.sc_base.specs.Same.{same_draw}
@@ -17,7 +17,7 @@ use Rattle.sc_calm_law.specs.Charts.{players}
 use Rattle.sc_calm_law.specs.Totals.{Rows}
 use Rattle.sc_calm_orders_law.specs.Parts.{errand_by, errand_for, errands_for}
 use Rattle.sc_calm_orders_law.specs.Scenes.{Turn, Errand, Question, Elsewhere, Reply, Result, Scene}
-use Rattle.sc_calm_orders_law.specs.Stages.{Asks, Closes, ClosesBoth, Deal, IsAt, Leg, Ordered, Recorded, Replied, SentOn, Stage, Still, Weighs, closing, heard, parties_of}
+use Rattle.sc_calm_orders_law.specs.Stages.{Asks, Closes, ClosesBoth, Deal, IsAt, Leg, Ordered, Recorded, Replied, SentOn, Stage, Still, Weighs, closing, parties_of}
 use Rattle.sc_calm_orders_law.proofs.Lists.{among-left, among-right, found, tagged, tokens}
 use Rattle.sc_calm_orders_law.proofs.Moves.{closing-errand, errands_of, no-errand}
 use Rattle.sc_calm_rows_law.specs.Turns.{with_event}

@@ -1,21 +1,16 @@
 -- What stands in a quiet journal: whoever runs leads a group that stands, and so does its successor.
-use Rattle.std.proofs.Common.{◌≡◌, ℕ, ◌≤◌, eqb, true, true≢false, length, List, [], ◌∷◌, Option, Some, None, ◌⊎◌, inl, inr, refl, sym, ◌∙◌, ap, subst, arith}
+use Rattle.std.proofs.Common.{◌≡◌, ℕ, ◌≤◌, eqb, true, true≢false, length, List, [], ◌∷◌, Option, Some, None, inl, inr, refl, sym, ◌∙◌, ap, subst, arith}
 use Rattle.std.proofs.lemmas.Bool.{eq-eqb, or_left}
-use Rattle.sc_base.specs.Among.{Among}
 use Rattle.sc_base.specs.declared.names.Draw.{Draw}
-use Rattle.sc_cmd.specs.declared.cores.Base.{Base}
 use Rattle.sc_cmd.specs.declared.links.Route.{Route}
-use Rattle.sc_client_table.specs.Client.{Client as ClientState}
 use Rattle.sc_member.specs.Roster.{is_member, least_of}
 use Rattle.sc_machine_table.specs.Group.{Group}
 use Rattle.sc_node_table.specs.Replica.{ReplicaState}
 use Rattle.sc_scenario.specs.declared.scenarios.Scenario.{Scenario}
-use Rattle.sc_sound.specs.GroupsOf.{groups_at}
 use Rattle.sc_sound.specs.Players.{as_nodes, births}
-use Rattle.sc_calm_law.specs.Quiet.{HasReplica, IsGoneQuiet, IsNewest, IsQuiet, StandsQuiet, View}
+use Rattle.sc_calm_law.specs.Quiet.{HasReplica, IsNewest, IsQuiet, StandsQuiet, View}
 use Rattle.sc_calm_law.specs.Totals.{Rows}
-use Rattle.sc_calm_ring_law.specs.Cuts.{AreKnown, state_of}
-use Rattle.sc_calm_rows_law.specs.Groups.{view_at}
+use Rattle.sc_calm_ring_law.specs.Cuts.{AreKnown}
 use Rattle.sc_calm_settings_law.specs.Settings.{AreReachable}
 use Rattle.sc_calm_scenes_law.specs.Fresh.{IsThere}
 use Rattle.sc_budget_law.specs.AskingQuiet.{replicas_after}

@@ -1,9 +1,8 @@
 -- A vote that a coordinator has in flight is true: what was voted is what the participant had, which fits.
-use Rattle.std.proofs.Common.{◌≡◌, ℕ, ◌≤◌, Bool, true, false, true≢false, List, [], ◌∷◌, ◌++◌, Option, Some, None, ◌⊎◌, inl, inr, refl, sym, ◌∙◌, ap, subst}
+use Rattle.std.proofs.Common.{◌≡◌, ℕ, ◌≤◌, Bool, true, false, true≢false, List, [], ◌∷◌, Some, None, inl, inr, refl, sym, ◌∙◌, ap, subst}
 use Rattle.std.specs.Prelude.{length, not, ◌&&◌}
 use Rattle.sc_base.specs.Among.{Among, Each}
 use Rattle.sc_base.specs.declared.names.Draw.{Draw}
-use Rattle.sc_base.proofs.NameLemmas.{same_name}
 use Rattle.sc_base.specs.Arc.{holds}
 use Rattle.sc_actor.specs.declared.actors.Seat.{Seat}
 use Rattle.sc_actor.proofs.WalkLemmas.{lawful-prefix}
@@ -15,7 +14,6 @@ use Rattle.sc_cmd.specs.declared.bodies.Offer.{Offer}
 use Rattle.sc_cmd.specs.declared.commands.Command.{Command}
 use Rattle.sc_cmd.specs.declared.commands.Command.TheVariants.{Noop, Call, Join, Leave, Split, Begin, Prepared, RecordVote, GiveUp, Finish, Watched, RecordWatch}
 use Rattle.sc_cmd.specs.declared.cores.Base.{Base}
-use Rattle.sc_cmd.specs.declared.cores.Core.{Core}
 use Rattle.sc_cmd.specs.declared.cores.Lock.TheVariants.{Coordinating, Free, Promised}
 use Rattle.sc_cmd.specs.declared.votes.Frozen.{Frozen}
 use Rattle.sc_cmd.specs.declared.votes.Past.{Past}
@@ -29,10 +27,10 @@ use Rattle.sc_machine_table.specs.Logs.{state_after}
 use Rattle.sc_member.specs.Roster.{is_member}
 use Rattle.sc_member.specs.Union.{united}
 use Rattle.sc_node_table.specs.Replica.{ReplicaState}
-use Rattle.sc_node_table.specs.Spoken.{before_in, before_of}
+use Rattle.sc_node_table.specs.Spoken.{before_in}
 use Rattle.sc_paxos_words.specs.declared.flights.Flight.{Flight}
 use Rattle.sc_paxos_words.proofs.ListLemmas.{Each-among}
-use Rattle.sc_ring_law.specs.Stories.{Story, offer_for, offer_with, unsigned, watch_with}
+use Rattle.sc_ring_law.specs.Stories.{offer_with, unsigned, watch_with}
 use Rattle.sc_scenario.specs.declared.scenarios.Scenario.{Scenario}
 use Rattle.sc_sound.specs.GroupsOf.{world_at}
 use Rattle.sc_sound.specs.Players.{Lawful, Player, as_nodes, births, schedule, system_of}
@@ -43,7 +41,7 @@ use Rattle.sc_calm_law.specs.Quiet.{StandsQuiet}
 use Rattle.sc_calm_law.specs.Totals.{Rows}
 use Rattle.sc_calm_found_law.specs.Votes.{IsTrueEntry}
 use Rattle.sc_calm_orders_law.specs.Parts.{bond_of, is_cast_yes, turn_of, work_by}
-use Rattle.sc_calm_orders_law.specs.Scenes.{Answers, Asking, Bond, Bound, Ends, First, Here, Lone, Next, Records, Turn, Work, is_watch}
+use Rattle.sc_calm_orders_law.specs.Scenes.{Answers, Asking, Bound, Ends, First, Here, Lone, Next, Records, Turn, Work, is_watch}
 use Rattle.sc_calm_orders_law.specs.Stages.{Deal, IsAt, IsOrder, Recorded, Stage, bound_by, heard, heard_lead}
 use Rattle.sc_calm_rows_law.specs.Groups.{view_at}
 use Rattle.sc_calm_scenes_law.specs.Fresh.{IsThere}
@@ -55,74 +53,13 @@ use Rattle.sc_calm_true_law.specs.Recorded.{IsRecord, RecordsAreTrue}
 use Rattle.sc_calm_true_law.specs.Told.{IsAllowedBy, LockTells, ReplicasTell}
 use Rattle.sc_calm_true_law.specs.Under.{IsTrueSince}
 use Rattle.sc_calm_true_law.proofs.Fits.{Agrees, Meets, gives, merges, migrates, none_of, takes}
-use Rattle.sc_calm_true_law.proofs.Grants.{AsksOn, Decides, lone_true, merge_true, migrate_true, next_true, repart_true}
+use Rattle.sc_calm_true_law.proofs.Grants.{lone_true, merge_true, migrate_true, next_true, repart_true}
 use Rattle.sc_calm_true_law.proofs.Leads.{IsWorkAt, OfOrder, OfOutcome, OfQuestion, OfVote, at_stage, stands_in, was_there}
-use Rattle.sc_calm_true_law.proofs.Opened.{ByOffer, ByWatch, HasBoth, IsBoundBy, IsOpened, opening_refused}
+use Rattle.sc_calm_true_law.proofs.Opened.{ByOffer, ByWatch, IsBoundBy, IsOpened, opening_refused}
 use Rattle.sc_calm_true_law.proofs.Parties.{Coordinates, lead_bond, promised}
 use Rattle.sc_calm_true_law.proofs.Ring.{meet_so, pred_is}
-use Rattle.sc_calm_true_law.proofs.Since.{base_of, both, coords, flights_at, free_first, frozen_is, heard_vote, led_first, locks_at, next_is, one_vote, there_of, tx_is}
-
--- ---- names and turns
-
-not_itself : (core : Core) (name : Draw) → core.id ≡ name → is_alone core ≡ false → name ≡ core.succ.group → ⊥
-not_itself core name id alone e = true≢false (sym (same_name core.succ.group core.id (sym e ∙ sym id)) ∙ alone)
-
-lone_split : (core : Core) (body : Body) → Lone ≡ turn_of core body None → (at : ℕ) × (child : Draw) × (body ≡ At.Split at child)
-lone_split core (At.Split at child) e = (at, child, refl)
-lone_split core At.Merge e = absurd cc
-lone_split core (At.Repart at) e = absurd cc
-lone_split core (At.Migrate node) e = absurd cc
-
-not_alone : (core : Core) (body : Body) → First ≡ turn_of core body None → opening_refused core body ≡ None → is_alone core ≡ false
-not_alone core (At.Split at child) e may = absurd cc
-not_alone core At.Merge e may = (none_of (is_alone core) _ _ may).0
-not_alone core (At.Repart at) e may = (none_of (is_alone core) _ _ may).0
-not_alone core (At.Migrate node) e may = (none_of (is_alone core) _ _ may).0
-
-has_offer : (core now : Core) (body : Body) → First ≡ turn_of core body None → offer_for now body ≡ Some (unsigned (offer_with now body))
-has_offer core now (At.Split at child) e = absurd cc
-has_offer core now At.Merge e = refl
-has_offer core now (At.Repart at) e = refl
-has_offer core now (At.Migrate node) e = refl
-
-some_one : (x y : ReplicaState) → Some x ≡ Some y → x ≡ y
-some_one x y e = cc
-
-some_nat : (x y : ℕ) → Some x ≡ Some y → x ≡ y
-some_nat x y e = cc
-
-same_asking : (tx tx2 asked asked2 : Draw) (turn turn2 : Turn) → Asking tx asked turn ≡ Asking tx2 asked2 turn2 → (asked ≡ asked2) × (turn ≡ turn2)
-same_asking tx tx2 asked asked2 turn turn2 e = (cc, cc)
-
-same_record : (tx tx2 : Draw) (w w2 a a2 : Bool) (by by2 : ℕ) → Records tx w a by ≡ Records tx2 w2 a2 by2 → (tx ≡ tx2) × ((w ≡ w2) × (a ≡ a2))
-same_record tx tx2 w w2 a a2 by by2 e = (cc, (cc, cc))
-
-same_offer : (scenario : Scenario) (journal : Rows) (tx one other : Draw) (offer again : Offer) → IsAllowedBy scenario journal one (Prepared tx offer) → IsAllowedBy scenario journal other (Prepared tx again) → unsigned offer ≡ unsigned again
-same_offer scenario journal tx one other offer again a b =
-    let same : Some a.0 ≡ Some b.0 = sym a.1 ∙ b.1 in
-    let story : a.0 ≡ b.0 = cc in
-    let offered : Some (unsigned offer) ≡ Some (unsigned again) = sym a.2 ∙ (ap (λ (s : Story). s.offer) story ∙ b.2) in
-    cc
-
-first_turn : (turn : Turn) → is_watch turn ≡ false → turn ≡ First
-first_turn First e = refl
-first_turn Lone e = absurd (true≢false e)
-first_turn (Next part host) e = absurd (true≢false e)
-
-no_first : First ≡ Lone → ⊥
-no_first e = cc
-
-no_next : (part : Draw) (host : ℕ) → Lone ≡ Next part host → ⊥
-no_next part host e = cc
-
-no_lone : (part : Draw) (host : ℕ) → Next part host ≡ Lone → ⊥
-no_lone part host e = cc
-
-same_next : (part other : Draw) (host who : ℕ) → Next part host ≡ Next other who → part ≡ other
-same_next part other host who e = cc
-
-same_body : (tx t : Draw) (body body2 : Body) (order order2 : ℕ) (h h2 : Option _) → Coordinating tx body order h ≡ Coordinating t body2 order2 h2 → body ≡ body2
-same_body tx t body body2 order order2 h h2 e = cc
+use Rattle.sc_calm_true_law.proofs.Turns.{not_itself, lone_split, not_alone, has_offer, some_one, some_nat, same_asking, same_record, same_offer, first_turn, no_first, no_next, no_lone, same_next, same_body}
+use Rattle.sc_calm_true_law.proofs.Since.{base_of, both, coords, flights_at, free_first, frozen_is, heard_vote, led_first, locks_at, one_vote, there_of, tx_is}
 
 -- ---- a coordinator
 
@@ -220,12 +157,13 @@ module _ (tells : ReplicasTell) (sound : ValidJournalsAreSound) (logs : ValidEnt
       lone_so e =
           let o : IsOpened c.first.group deal.tx deal.asked Lone c.now.group = subst (λ t. Coordinates c.first.group deal.tx deal.asked t c.now.group) e made in
           let b = lone_split c.first.group.core o.body o.turn_is in
-          let lock : c.now.group.core.lock ≡ Coordinating deal.tx (At.Split b.0 b.1) o.order None = ap (λ (g : Group). g.core.lock) o.is ∙ ap (λ x. Coordinating deal.tx x o.order None) b.2 in
-          (λ asked turn bond. (
-            λ lone. ap (λ k. (before_in k c.now.group.core).heard) lock,
-            λ part at next same. no_next part at (sym e ∙ ((asks_whom asked turn bond).1 ∙ next)),
-          ),
-          lone_true c.now.group deal.tx b.1 b.0 o.order by None vote lock ((locks (doer deal.coord deal.chief (opened deal.tx deal.turn)) c).splits deal.tx b.0 b.1 o.order None lock))
+          let lock : c.now.group.core.lock ≡ Coordinating deal.tx (At.Split b.0 b.1) o.order None = ap (λ (g : Group). g.core.lock) o.is ∙ ap (λ x. Coordinating deal.tx x o.order None) b.2 in (
+            λ asked turn bond. (
+              λ lone. ap (λ k. (before_in k c.now.group.core).heard) lock,
+              λ part at next same. no_next part at (sym e ∙ ((asks_whom asked turn bond).1 ∙ next)),
+            ),
+            lone_true c.now.group deal.tx b.1 b.0 o.order by None vote lock ((locks (doer deal.coord deal.chief (opened deal.tx deal.turn)) c).splits deal.tx b.0 b.1 o.order None lock),
+          )
 
       next_so : (part : Draw) (at : ℕ) → deal.turn ≡ Next part at → IsTrueEntry r.me c.now.group (RecordWatch deal.tx vote by)
       next_so part at e =
@@ -250,14 +188,15 @@ module _ (tells : ReplicasTell) (sound : ValidJournalsAreSound) (logs : ValidEnt
           let succ : part ≡ c.first.group.core.succ.group = b.heard.part_is ∙ ap (λ (g : Group). g.core.succ.group) b.opened.is in
           let meet = both_meet (doer deal.coord deal.chief (opened deal.tx deal.turn)) (doer part at (Promising deal.tx ∷ [])) c p succ alone in
           let fit : length (united c.first.group.core.members p.first.group.core.members) ≤ 9 =
-              subst (λ (x : Frozen). length (united c.first.group.core.members x.members) ≤ 9) frozen (subst (λ (g : Group). length (united g.core.members f.members) ≤ 9) again few) in
-          let may : may_merge c.now.group f ≡ true = subst (λ g. may_merge g f ≡ true) (sym again) (subst (λ x. may_merge c.first.group x ≡ true) (sym frozen) (merges c.first.group p.first.group meet fit)) in
-          (λ asked turn bond. (
-            λ lone. absurd (no_lone part at (sym e ∙ ((asks_whom asked turn bond).1 ∙ lone))),
-            λ other who next same. tells.apart words scenario journal base.0 base.1 deal.tx core.succ.group f.succ.group (offer_with core At.Merge) (watch_with core f.succ.group core.succ.group (merged_link core f)) offers asks
-                (ap (λ (g : Group). g.core.succ.group) again ∙ (sym succ ∙ (same_next part other at who (sym e ∙ ((asks_whom asked turn bond).1 ∙ next)) ∙ (same ∙ (sym (asks_whom asked turn bond).0 ∙ b.heard.asked_is))))),
-          ),
-          next_true c.now.group deal.tx b.heard.order by b.heard.heard vote lock may)
+          subst (λ (x : Frozen). length (united c.first.group.core.members x.members) ≤ 9) frozen (subst (λ (g : Group). length (united g.core.members f.members) ≤ 9) again few) in
+          let may : may_merge c.now.group f ≡ true = subst (λ g. may_merge g f ≡ true) (sym again) (subst (λ x. may_merge c.first.group x ≡ true) (sym frozen) (merges c.first.group p.first.group meet fit)) in (
+            λ asked turn bond. (
+              λ lone. absurd (no_lone part at (sym e ∙ ((asks_whom asked turn bond).1 ∙ lone))),
+              λ other who next same. tells.apart words scenario journal base.0 base.1 deal.tx core.succ.group f.succ.group (offer_with core At.Merge) (watch_with core f.succ.group core.succ.group (merged_link core f)) offers asks
+                  (ap (λ (g : Group). g.core.succ.group) again ∙ (sym succ ∙ (same_next part other at who (sym e ∙ ((asks_whom asked turn bond).1 ∙ next)) ∙ (same ∙ (sym (asks_whom asked turn bond).0 ∙ b.heard.asked_is))))),
+            ),
+            next_true c.now.group deal.tx b.heard.order by b.heard.heard vote lock may,
+          )
 
       watch_so : (turn : Turn) → deal.turn ≡ turn → is_watch turn ≡ true → IsTrueEntry r.me c.now.group (RecordWatch deal.tx vote by)
       watch_so First e w = absurd (true≢false (sym w))

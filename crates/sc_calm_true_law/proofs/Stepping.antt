@@ -31,7 +31,7 @@ use Rattle.sc_sound.specs.Players.{Player, player_table}
 use Rattle.sc_calm_law.specs.Charts.{players}
 use Rattle.sc_calm_law.specs.Totals.{Rows}
 use Rattle.sc_calm_orders_law.specs.Parts.{bond_of, errand_by, is_yes, is_cast_yes, work_by, works, works_flying, works_in, works_ready}
-use Rattle.sc_calm_orders_law.specs.Running.{FliesLone, Decides, RunsAlone}
+use Rattle.sc_calm_orders_law.specs.Running.{FliesLone, RunsAlone}
 use Rattle.sc_calm_orders_law.specs.Scenes.{Answers, Bound, Elsewhere, Errand, Question, Reply, Result, Here, Records, Ends, Unbound, Work}
 use Rattle.sc_calm_orders_law.specs.Stages.{IsUnderWay}
 use Rattle.sc_calm_orders_law.specs.Tables.{IsUnbound, MayFile, Works}

@@ -1,5 +1,5 @@
 -- What a journal tells of its replicas' locks, and of what they have in flight.
-use Rattle.std.proofs.Common.{◌≡◌, ℕ, ◌≤◌, List, [], ◌++◌, drop, length, Some, refl, sym, ◌∙◌, ap, subst}
+use Rattle.std.proofs.Common.{◌≡◌, ℕ, ◌≤◌, List, ◌++◌, drop, length, refl, sym, ◌∙◌, ap, subst}
 use Rattle.std.proofs.lemmas.Option.{same_Some}
 use Rattle.sc_base.specs.Among.{Among, Each}
 use Rattle.sc_base.specs.declared.names.Draw.{Draw}
@@ -20,14 +20,14 @@ use Rattle.sc_machine_table.specs.Logs.{state_after}
 use Rattle.sc_node_table.specs.Node.{NodeState}
 use Rattle.sc_node_table.specs.Replica.{ReplicaState}
 use Rattle.sc_paxos_words.specs.declared.flights.Flight.{Flight}
-use Rattle.sc_paxos_words.proofs.ListLemmas.{Each-among, Each-weaker}
+use Rattle.sc_paxos_words.proofs.ListLemmas.{Each-weaker}
 use Rattle.sc_paxos_law.specs.Chosen.{IsLog}
 use Rattle.sc_scenario.specs.Valid.{IsValid, ValidScenariosAreBounded}
 use Rattle.sc_scenario.specs.declared.scenarios.Scenario.{Scenario}
 use Rattle.sc_sound.specs.GroupsOf.{entries_at, groups_at}
 use Rattle.sc_sound.specs.Logs.{decided_log}
 use Rattle.sc_sound.specs.Players.{Lawful, Player, as_nodes, route_of}
-use Rattle.sc_ring_law.specs.Allowed.{Sources, IsAllowed}
+use Rattle.sc_ring_law.specs.Allowed.{Sources}
 use Rattle.sc_ring_law.specs.Stories.{Story, unsigned, unsigned_watch}
 use Rattle.sc_log_law.specs.Allows.{AllowsAsItStands, GroupAllows}
 use Rattle.sc_log_law.proofs.Allowing.{states_allow}
@@ -52,7 +52,6 @@ use Rattle.sc_whole_law.proofs.Speaking.{stands_heard, stands_offer, stands_watc
 use Rattle.sc_whole_law.proofs.Turning.{Holds}
 use Rattle.sc_calm_law.specs.Totals.{Rows}
 use Rattle.sc_calm_logs_law.specs.Logged.{HasReplica, IsGroupOf}
-use Rattle.sc_calm_logs_law.proofs.Along.{IsAlong}
 use Rattle.sc_calm_logs_law.proofs.Journals.{along, flying, found, fronts, part, stay, whole}
 use Rattle.sc_calm_true_law.specs.Outcomes.{IsTakenBy, OutcomesAreTaken}
 use Rattle.sc_calm_true_law.proofs.Outcomes.{outcomes_fit}

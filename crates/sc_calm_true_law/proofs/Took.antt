@@ -1,5 +1,5 @@
 -- A group that takes a question is as it was in the quiet; so what is known of an order goes on.
-use Rattle.std.proofs.Common.{◌≡◌, ℕ, Bool, eqb, true, false, true≢false, List, [], ◌∷◌, ◌++◌, Option, Some, None, ◌⊎◌, inl, inr, refl, sym, ◌∙◌, ap, subst}
+use Rattle.std.proofs.Common.{◌≡◌, ℕ, Bool, eqb, true, false, true≢false, List, [], ◌∷◌, ◌++◌, Option, Some, None, inl, inr, refl, sym, ◌∙◌, ap, subst}
 use Rattle.std.proofs.lemmas.Bool.{cases_Bool, eq-eqb, eqb-true}
 use Rattle.sc_base.specs.Among.{Among, Each}
 use Rattle.sc_base.specs.declared.names.Draw.{Draw}
@@ -10,23 +10,22 @@ use Rattle.sc_cmd.specs.declared.cores.Base.{Base}
 use Rattle.sc_mail.specs.declared.bodies.Mail.{Mail}
 use Rattle.sc_node_table.specs.Node.{NodeState, replica_of}
 use Rattle.sc_node_table.specs.Replica.{Place, ReplicaState, born_replica}
-use Rattle.sc_node_table.specs.Rows.{mailed}
 use Rattle.sc_node_table.specs.Slots.{slots_ahead}
 use Rattle.sc_scenario.specs.declared.scenarios.Scenario.{Scenario}
 use Rattle.sc_sound.specs.Players.{Player, as_nodes, births, player_table}
 use Rattle.sc_calm_law.specs.Quiet.{IsAtRest, StandsQuiet}
 use Rattle.sc_calm_law.specs.Totals.{Rows}
 use Rattle.sc_calm_orders_law.specs.Parts.{works, works_flying, works_in, works_ready}
-use Rattle.sc_calm_orders_law.specs.Scenes.{Answers, Asking, Bond, Bound, Elsewhere, Ends, Errand, First, Here, IsNone, Lone, Next, Question, Records, Reply, Result, Scene, Turn, Unbound, Work, free, is_watch}
+use Rattle.sc_calm_orders_law.specs.Scenes.{Answers, Asking, Bound, Elsewhere, Ends, Errand, First, Here, IsNone, Lone, Next, Question, Records, Reply, Result, Scene, Turn, Unbound, Work, free, is_watch}
 use Rattle.sc_calm_orders_law.specs.Stages.{Asks, Closes, ClosesBoth, Deal, Filed, IsAt, Leg, Mailed, Ordered, Recorded, Replied, SentOn, Stage, Still, Weighs, bound_by, closing, heard, parties_of}
 use Rattle.sc_calm_orders_law.proofs.Lists.{cases-draw, found}
 use Rattle.sc_calm_orders_law.proofs.Moves.{no-work, work_of}
 use Rattle.sc_calm_rows_law.specs.Groups.{view_at}
 use Rattle.sc_calm_rows_law.specs.Turns.{with_event}
-use Rattle.sc_calm_rows_law.proofs.Viewing.{view_others, view_was}
+use Rattle.sc_calm_rows_law.proofs.Viewing.{view_others}
 use Rattle.sc_calm_scenes_law.specs.Found.{BesideFinds}
 use Rattle.sc_calm_scenes_law.specs.Fresh.{AreUntouched, IsDelivered, IsFresh, IsThere}
-use Rattle.sc_calm_scenes_law.specs.Kept.{ComesTo, GoesBy, StageAfter}
+use Rattle.sc_calm_scenes_law.specs.Kept.{ComesTo, StageAfter}
 use Rattle.sc_calm_scenes_law.specs.Scenes.{is_running, scene_at}
 use Rattle.sc_calm_scenes_law.specs.Taken.{IsTaking}
 use Rattle.sc_calm_scenes_law.specs.Turns.{Bears, LeadsAlone}
@@ -39,7 +38,7 @@ use Rattle.sc_calm_scenes_law.proofs.Reaching.{errand_among}
 use Rattle.sc_calm_scenes_law.proofs.Taking.{misses}
 use Rattle.sc_calm_scenes_law.proofs.Untouched.{asked_fresh, fresh_errand}
 use Rattle.sc_budget_law.specs.AskingQuiet.{replicas_after}
-use Rattle.sc_calm_true_law.specs.Deeds.{Executed, HasDone, HasStepped, Rested, doer, doers_of}
+use Rattle.sc_calm_true_law.specs.Deeds.{Executed, HasDone, HasStepped, Rested, doer}
 use Rattle.sc_calm_true_law.specs.Going.{AskedGroupsStood, GoesOnSince, TrueOrdersGoOn}
 use Rattle.sc_calm_true_law.specs.Told.{ReplicasTell}
 use Rattle.sc_calm_true_law.specs.Under.{asked_of}

@@ -1,14 +1,13 @@
 -- Mail of a transaction that is under way comes unsettled.
-use Rattle.std.proofs.Common.{◌≡◌, ℕ, Bool, true, false, List, [], ◌∷◌, Option, Some, None, inl, inr, option_map, refl, sym, ◌∙◌, ap, subst}
+use Rattle.std.proofs.Common.{◌≡◌, ℕ, Bool, true, false, List, Option, Some, None, option_map, refl, sym, ◌∙◌, ap, subst}
 use Rattle.std.specs.List.{find}
-use Rattle.sc_base.specs.Among.{Among, Each}
+use Rattle.sc_base.specs.Among.{Among}
 use Rattle.sc_base.specs.Same.{same_draw}
 use Rattle.sc_base.specs.declared.names.Draw.{Draw}
 use Rattle.sc_actor.specs.declared.actors.Seat.{Seat}
 use Rattle.sc_actor.specs.declared.rows.Event.TheVariants.{Deliver}
 use Rattle.sc_actor.proofs.WalkLemmas.{lawful-prefix}
 use Rattle.sc_cmd.specs.declared.cores.Base.{Base}
-use Rattle.sc_cmd.specs.declared.cores.Core.{Core}
 use Rattle.sc_cmd.specs.declared.votes.Outcome.{Outcome}
 use Rattle.sc_mail.specs.declared.bodies.Mail.{Mail}
 use Rattle.sc_mail.specs.declared.bodies.MailBody.{MailBody}
@@ -22,17 +21,16 @@ use Rattle.sc_node_table.specs.Replica.{ReplicaState}
 use Rattle.sc_node_table.specs.Transactions.{gone_vote, noted_outcome, standing_by, standing_vote}
 use Rattle.sc_scenario.specs.Valid.{ValidScenariosAreBounded}
 use Rattle.sc_scenario.specs.declared.scenarios.Scenario.{Scenario}
-use Rattle.sc_sound.specs.Players.{Lawful, Player, as_nodes, births, player_table, schedule, system_of}
+use Rattle.sc_sound.specs.Players.{Lawful, Player, as_nodes, births, schedule, system_of}
 use Rattle.sc_names_law.specs.Fresh.{IsUsed, NamesAreDrawn}
 use Rattle.sc_names_law.specs.Names.{CoreNames}
-use Rattle.sc_calm_law.specs.Quiet.{StandsQuiet}
 use Rattle.sc_calm_law.specs.Totals.{Rows}
 use Rattle.sc_calm_orders_law.specs.Parts.{bond_of, errand_by, is_cast_yes, is_yes}
-use Rattle.sc_calm_orders_law.specs.Scenes.{Asking, Errand, Here, Question, Reply, Scene}
-use Rattle.sc_calm_orders_law.specs.Stages.{Asks, Deal, IsAt, Replied, Stage}
+use Rattle.sc_calm_orders_law.specs.Scenes.{Asking, Errand, Here, Question, Reply}
+use Rattle.sc_calm_orders_law.specs.Stages.{Asks, Deal, Replied, Stage}
 use Rattle.sc_calm_rows_law.specs.Groups.{view_at}
 use Rattle.sc_calm_rows_law.proofs.Viewing.{view_was}
-use Rattle.sc_calm_scenes_law.specs.Fresh.{AreUntouched, IsFresh, IsThere}
+use Rattle.sc_calm_scenes_law.specs.Fresh.{AreUntouched, IsThere}
 use Rattle.sc_calm_scenes_law.specs.Scenes.{scene_at}
 use Rattle.sc_calm_scenes_law.proofs.Untouched.{asked_fresh}
 use Rattle.sc_calm_found_law.specs.Beside.{IsUnsettled}

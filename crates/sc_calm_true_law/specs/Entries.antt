@@ -1,6 +1,6 @@
 -- That what leaders have in flight of an order is true, since a quiet journal.
-use Rattle.std.specs.Prelude.{◌≡◌, ℕ}
-use Rattle.sc_base.specs.Among.{Among, Each}
+use Rattle.std.specs.Prelude.{ℕ}
+use Rattle.sc_base.specs.Among.{Among}
 use Rattle.sc_base.specs.declared.names.Draw.{Draw}
 use Rattle.sc_cmd.specs.declared.commands.Command.{Command}
 use Rattle.sc_cmd.specs.declared.commands.Command.TheVariants.{Noop, Call, Join, Leave, Split, Begin, Prepared, RecordVote, GiveUp, Finish, Watched, RecordWatch}

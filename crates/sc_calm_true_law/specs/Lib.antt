@@ -6,6 +6,7 @@ pub mod Going
 pub mod New
 pub mod Outcomes
 pub mod Recorded
+pub mod Settled
 pub mod Told
 pub mod Under
 pub mod Unsettled

@@ -1,5 +1,5 @@
 -- That an order's transaction has a name that was nowhere in the quiet before it.
-use Rattle.std.specs.Prelude.{List, [], ◌∷◌, Option, Some, None}
+use Rattle.std.specs.Prelude.{Option, Some, None}
 use Rattle.sc_base.specs.Among.{Each}
 use Rattle.sc_base.specs.declared.names.Draw.{Draw}
 use Rattle.sc_node_table.specs.Replica.{listed}

@@ -8,10 +8,13 @@ ghost use Rattle.sc_calm_true_law.specs.Finished.{EntriesAreTrue, FinishesAreTru
 ghost use Rattle.sc_calm_true_law.specs.Going.{AskedGroupsStood, TrueOrdersGoOn};
 ghost use Rattle.sc_calm_true_law.specs.Outcomes.{OutcomesAreTaken};
 ghost use Rattle.sc_calm_true_law.specs.Recorded.{RecordsAreTrue};
+ghost use Rattle.sc_calm_true_law.specs.Settled.{CoordinatorsAreSettled, SettledOrdersBegin, SettledOrdersGoOn};
 ghost use Rattle.sc_calm_true_law.specs.Told.{ReplicasTell};
 ghost use Rattle.sc_calm_true_law.specs.Unsettled.{MailComesUnsettled};
 
-use sc_names_law::{counters_part_names, drawn_names_are_new, names_have_one_owner, orders_are_allowed};
+use sc_names_law::{
+    counters_part_names, drawn_names_are_new, names_have_one_owner, orders_are_allowed,
+};
 use sc_scenario::valid_scenarios_are_bounded;
 use sc_whole_law::{valid_entries_are_logs, valid_journals_are_sound, valid_scenarios_begin_well};
 
@@ -119,4 +122,27 @@ pub fn entries_are_true()
     outcomes_are_taken();
     votes_are_true();
     records_are_true();
+}
+
+/// Since a quiet journal nobody is asked to promise a ballot in the group that is told an order, or
+/// coordinates its transaction: not by the row that tells it.
+pub fn settled_orders_begin()
+    ensures { SettledOrdersBegin }
+{
+    replicas_tell();
+}
+
+/// Nor is anybody by a delivery, since the leader has one command in flight at most, by which nobody
+/// comes.
+pub fn settled_orders_go_on()
+    ensures { SettledOrdersGoOn }
+{
+    replicas_tell();
+}
+
+/// So a coordinator that is to ask elsewhere has its promises.
+pub fn coordinators_are_settled()
+    ensures { CoordinatorsAreSettled }
+{
+    replicas_tell();
 }
