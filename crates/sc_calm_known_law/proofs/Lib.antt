@@ -6,6 +6,11 @@ pub mod LinkFronts
 pub mod Offered
 pub mod Arcs
 pub mod Chosen
+pub mod HomeNodes
+pub mod HomeNaming
+pub mod HomeBearing
+pub mod HomeBringing
+pub mod Members
 pub mod Homes
 pub mod Fronts
 pub mod Groups

@@ -7,3 +7,4 @@ pub mod Noted
 pub mod Turns
 pub mod Bearing
 pub mod There
+pub mod Members

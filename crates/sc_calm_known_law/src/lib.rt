@@ -15,6 +15,7 @@ ghost use Rattle.sc_calm_known_law.specs.Known.{
   StillFrontsAreFree,
 };
 ghost use Rattle.sc_calm_known_law.specs.Links.{LinksWereMembers};
+ghost use Rattle.sc_calm_known_law.specs.Members.{MembersAreHome};
 ghost use Rattle.sc_calm_known_law.specs.Noted.{FrontsAreNoted, IssuedAreBegun};
 ghost use Rattle.sc_calm_known_law.specs.Offered.{GroupsAreAskedThrough};
 ghost use Rattle.sc_calm_known_law.specs.There.{ChildrenAreMade, FrontsAreThere, FrontsHaveMembers};
@@ -260,4 +261,14 @@ pub fn fronts_have_members()
     groups_are_asked_through();
     fronts_are_found();
     children_are_made();
+}
+
+/// The members of each slot of each group are nodes of the scenario.
+pub fn members_are_home()
+    ensures { MembersAreHome }
+{
+    valid_scenarios_are_bounded();
+    valid_scenarios_begin_well();
+    orders_are_allowed();
+    names_have_one_owner();
 }

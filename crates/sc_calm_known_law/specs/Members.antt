@@ -1,0 +1,15 @@
+-- That members of groups are nodes of their scenario.
+use Rattle.std.specs.Prelude.{◌≡◌, ℕ, ◌≤◌, true}
+use Rattle.sc_base.specs.Among.{Among}
+use Rattle.sc_cmd.specs.declared.cores.Base.{Base}
+use Rattle.sc_member.specs.Roster.{is_member}
+use Rattle.sc_scenario.specs.declared.scenarios.Scenario.{Scenario}
+use Rattle.sc_sound.specs.Players.{Ahead}
+use Rattle.sc_log_law.specs.Descent.{Rows}
+use Rattle.sc_calm_logs_law.specs.Logged.{logged_sets, IsGroupOf}
+
+-- The first members of each group of a lawful journal of a valid scenario are nodes of the scenario, and so are those of each slot of its log.
+pub record MembersAreHome : Type 0 where
+  pub first : (ahead : Ahead) (words : ℕ → ℕ → ℕ × ℕ) (scenario : Scenario) (journal : Rows) (base : Base) → IsGroupOf ahead words scenario journal base → (node : ℕ) → is_member base.core.members node ≡ true → (1 ≤ node) × (node ≤ scenario.nodes)
+  pub slots : (ahead : Ahead) (words : ℕ → ℕ → ℕ × ℕ) (scenario : Scenario) (journal : Rows) (base : Base) → IsGroupOf ahead words scenario journal base
+      → (slot node : ℕ) → is_member (logged_sets ahead base journal slot) node ≡ true → (1 ≤ node) × (node ≤ scenario.nodes)
