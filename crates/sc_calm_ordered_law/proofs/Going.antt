@@ -1,8 +1,9 @@
 -- Each delivery while an order is under way keeps all that holds then, and finds what keeps the journal calm.
-use Rattle.std.proofs.Common.{◌≡◌, ◌⊎◌, ℕ, Bool, true, false, eqb, List, [], ◌∷◌, ◌++◌, Option, Some, None, inl, inr, refl, sym, ◌∙◌, ap, subst, append_assoc}
+use Rattle.std.proofs.Common.{◌≡◌, ◌⊎◌, ◌≤◌, ℕ, Bool, true, false, eqb, length, List, [], ◌∷◌, ◌++◌, Option, Some, None, inl, inr, refl, sym, ◌∙◌, ap, subst, append_assoc}
 use Rattle.std.proofs.lemmas.Option.{none-some}
 use Rattle.sc_base.specs.Among.{Among, Each}
 use Rattle.sc_base.specs.declared.names.Draw.{Draw}
+use Rattle.sc_cmd.specs.declared.commands.Command.{Command}
 use Rattle.sc_cmd.specs.declared.cores.Base.{Base}
 use Rattle.sc_cmd.specs.declared.orders.OrderLine.{OrderLine}
 use Rattle.sc_mail.specs.declared.bodies.Mail.{Mail}
@@ -20,6 +21,8 @@ use Rattle.sc_orderly_law.specs.Orderly.{is_born, rest}
 use Rattle.sc_orderly_law.proofs.Resting.{is_born-from}
 use Rattle.sc_scenario.specs.Valid.{ValidScenariosAreBounded}
 use Rattle.sc_scenario.specs.declared.scenarios.Scenario.{Scenario}
+use Rattle.sc_machine_table.specs.Machine.{applied}
+use Rattle.sc_paxos_words.specs.declared.flights.Flight.{Flight}
 use Rattle.sc_node_table.specs.Node.{NodeState, replica_of, group_of_mail, may_come}
 use Rattle.sc_node_table.specs.Replica.{ReplicaState, name_of}
 use Rattle.sc_sound.specs.GroupsOf.{groups_at}
@@ -27,7 +30,7 @@ use Rattle.sc_sound.specs.Players.{Player, player_table, births, as_nodes}
 use Rattle.sc_calm_law.specs.Charts.{players}
 use Rattle.sc_calm_law.specs.Keeping.{FindsCalm}
 use Rattle.sc_calm_law.specs.Totals.{Rows}
-use Rattle.sc_paxos_words.proofs.ListLemmas.{Each-among}
+use Rattle.sc_paxos_words.proofs.ListLemmas.{Each-from}
 use Rattle.sc_calm_orders_law.specs.Stages.{Deal, Stage, Asks, IsAt}
 use Rattle.sc_calm_rows_law.specs.Groups.{view_at}
 use Rattle.sc_calm_rows_law.specs.Turns.{IsSeat, with_event}
@@ -41,6 +44,7 @@ use Rattle.sc_calm_scenes_law.specs.Found.{FindsOrder}
 use Rattle.sc_calm_scenes_law.specs.Kept.{GoesBy}
 use Rattle.sc_calm_scenes_law.specs.Scenes.{scene_at}
 use Rattle.sc_calm_scenes_law.specs.Taken.{IsTaking}
+use Rattle.sc_calm_entries_law.specs.Paid.{IsEntry}
 use Rattle.sc_calm_found_law.specs.Beside.{IsUnsettled}
 use Rattle.sc_calm_found_law.specs.Guided.{IsGuided, IsNamedGuide, NewestStay, WellLedLeadAlone}
 use Rattle.sc_calm_found_law.specs.Rows.{IsOrdersRow, OrdersRowsFind, OrdersRowsMeet}
@@ -59,9 +63,12 @@ use Rattle.sc_calm_kept_law.specs.Viewing.{ViewsAgree}
 use Rattle.sc_calm_young_law.specs.Children.{ChildrenWereNowhere}
 use Rattle.sc_calm_young_law.specs.Young.{IsUnanswered, YoungGroupsStay}
 use Rattle.sc_calm_true_law.specs.Under.{AreSeen, IsTrueSince}
+use Rattle.sc_calm_true_law.specs.Entries.{LeadsSince}
+use Rattle.sc_calm_true_law.specs.Finished.{EntriesAreTrue}
 use Rattle.sc_calm_true_law.specs.Unsettled.{MailComesUnsettled}
 use Rattle.sc_calm_true_law.specs.Going.{AskedGroupsStood, GoesOnSince, TrueOrdersGoOn}
 use Rattle.sc_calm_works_law.specs.Works.{IsGuidedRow, DeliveriesKeepWork, WorkStandsAlone}
+use Rattle.sc_calm_ordered_law.specs.Entries.{FlightsAreEntries}
 use Rattle.sc_calm_ordered_law.specs.Ordered.{IsHomelyJournal, IsNamedGroup, IsOfJournal, IsOrderedSince, IsGivenBesides, DeliveriesKeepOrdered}
 use Rattle.sc_calm_ordered_law.proofs.Known as at_row
 use Rattle.sc_calm_ordered_law.proofs.Known.{named_there}
@@ -115,7 +122,7 @@ no_request (Told order result) none = tt
 
 module _ (all_bounded : ValidScenariosAreBounded) (few_law : SlotsAreLeft) (logs_law : ReplicasRunLogs) (views_law : ViewsAreReplicas) (rosters_law : SlotsHaveRosters) (last_law : ReplicasLast) (next_law : NextRowsAreSent) (newest_law : NewestStay) (found_law : FrontsAreFound)
     (agree_law : ViewsAgree) (alone_law : WellLedLeadAlone) (plain_law : SentReplicas) (meets_law : OrdersRowsMeet) (finds_law : OrdersRowsFind) (nowhere_law : ChildrenWereNowhere) (fresh_law : FreshGroupsStay) (young_law : YoungGroupsStay) (unsettled_law : MailComesUnsettled) (asked_law : AskedGroupsStood) (true_law : TrueOrdersGoOn)
-    (work_law : DeliveriesKeepWork) (stands_law : WorkStandsAlone) (calm_law : OrderRowsFindCalm) (come_law : MailMayCome) (once_law : LawfulReplicasAreNamedOnce) (words : ℕ → ℕ → ℕ × ℕ) (scenario : Scenario) (first : Base) (journal quiet rows : Rows) (seat : Seat Player) (number : ℕ) (calm : IsCalmJournal words scenario journal)
+    (work_law : DeliveriesKeepWork) (stands_law : WorkStandsAlone) (calm_law : OrderRowsFindCalm) (entries_law : EntriesAreTrue) (flights_law : FlightsAreEntries) (come_law : MailMayCome) (once_law : LawfulReplicasAreNamedOnce) (words : ℕ → ℕ → ℕ × ℕ) (scenario : Scenario) (first : Base) (journal quiet rows : Rows) (seat : Seat Player) (number : ℕ) (calm : IsCalmJournal words scenario journal)
     (home : IsHomelyJournal words scenario journal) (o : IsOrderedSince words scenario first journal quiet rows) (on : GoesOnBy words scenario journal rows seat number) (given : IsGivenBesides words scenario rows seat number) where
   abbrev all : List (Seat Player)
   all = births as_nodes scenario
@@ -177,6 +184,26 @@ module _ (all_bounded : ValidScenariosAreBounded) (few_law : SlotsAreLeft) (logs
   viewed : (group : Draw) (node : NodeState) (r : ReplicaState) → value player_table seat rows ≡ Node node → replica_of group node.replicas ≡ Some r → view_at all rows group seat.who ≡ Some r
   viewed group node r is here = view_was all rows seat (Deliver number) group on.seated (Node node) is ∙ here
 
+  -- one that runs leads its group alone, with only work in flight
+  lead_at : (name : Draw) (node : ℕ) (r : ReplicaState) → view_at all rows name node ≡ Some r → r.running ≡ true → LeadsAlone all rows name node r
+  lead_at name node r e runs =
+      let g = named name (node, r, e) in
+      let t = under.sent g.0 g.1 in
+      subst (λ n. LeadsAlone all rows n node r) g.2 (alone_law.alone _ _ _ words all rows g.0 t.course node r t.led (ap (λ n. view_at all rows n node) g.2 ∙ e) runs).0
+
+  leads_since : (name : Draw) (node : ℕ) (r : ReplicaState) → view_at all rows name node ≡ Some r → r.running ≡ true → LeadsSince words scenario first journal quiet rows name node r under.stage
+  leads_since name node r e runs = record {
+    calm = calm;
+    rests = under.rests;
+    seen = seen;
+    front = under.front;
+    sent = under.sent;
+    untouched = under.untouched;
+    true_since = o.true_since;
+    leads = lead_at name node r e runs;
+    alone = stands_law.alone o.task name r (o.work.replicas name node r e);
+  }
+
   orders_row : IsOrdersRow words scenario rows seat (Deliver number)
   orders_row = record {
     bounded = all_bounded scenario calm.valid;
@@ -195,7 +222,7 @@ module _ (all_bounded : ValidScenariosAreBounded) (few_law : SlotsAreLeft) (logs
         work_law.unasked words all rows seat number o.task on.seated on.timely o.work mail group client seq op (subst (λ m. numbered (mails rows) m ≡ Some mail) same at) body);
     votes = λ n mail group node r group_ ballot slot e taking here runs body.
         (let view = viewed group node r taking.is_node here in
-        (stands_law.alone o.task group r (o.work.replicas group seat.who r view), (given.entries group seat.who r view runs).0));
+        (stands_law.alone o.task group r (o.work.replicas group seat.who r view), entries_law words scenario first journal quiet rows group seat.who r under.stage (leads_since group seat.who r view runs)));
     told = λ line e. cc;
     clients = λ client is. absurd (given.nodes client is);
   }
@@ -267,13 +294,7 @@ module _ (all_bounded : ValidScenariosAreBounded) (few_law : SlotsAreLeft) (logs
       let front = at_row.here few_law logs_law views_law rosters_law next_law newest_law found_law words scenario journal rows seat (Deliver number) calm home on.front on.seated on.timely under.sent under.reached young in
       let f = found_law words scenario journal rows calm front in
       let p = place_of all_bounded once_law agree_law words scenario rows calm.valid f.lawful f.homes r a in
-      (p.0, lead_at p.0 r p.1 runs)
-    where
-      lead_at : (node : ℕ) (x : ReplicaState) → view_at all rows (name_of x) node ≡ Some x → x.running ≡ true → LeadsAlone all rows (name_of x) node x
-      lead_at node x e runs_ =
-          let g = named (name_of x) (node, x, e) in
-          let t = under.sent g.0 g.1 in
-          subst (λ n. LeadsAlone all rows n node x) g.2 (alone_law.alone _ _ _ words all rows g.0 t.course node x t.led (ap (λ n. view_at all rows n node) g.2 ∙ e) runs_).0
+      (p.0, lead_at (name_of r) p.0 r p.1 runs)
 
   mail_so : (mail : Mail) (node : NodeState) (name : Draw) → numbered (mails rows) number ≡ Some mail → value player_table seat rows ≡ Node node → group_of_mail mail.body ≡ Some name → IsKnownMail scenario journal mail node name
   mail_so mail node name at is of = record {
@@ -286,7 +307,7 @@ module _ (all_bounded : ValidScenariosAreBounded) (few_law : SlotsAreLeft) (logs
     counts = λ r here runs.
         (let view = viewed name node r is here in
         let w = o.work.replicas name seat.who r view in
-        record { alone = stands_law.alone o.task name r w; calls = λ some. w.calls; entries = (given.entries name seat.who r view runs).1 });
+        record { alone = stands_law.alone o.task name r w; calls = λ some. w.calls; entries = Each-from (λ (flight : Flight Command). IsEntry flight.value r × (length (applied r.group flight.value).0.core.members ≤ 9)) r.leader.flights (flights_law words scenario first journal quiet rows name seat.who r under.stage (leads_since name seat.who r view runs)) });
   }
     where
       g : IsNamedGroup scenario journal name
@@ -305,8 +326,8 @@ module _ (all_bounded : ValidScenariosAreBounded) (few_law : SlotsAreLeft) (logs
       (record { alone = alone; homes = (found_law words scenario journal quiet calm under.rests.front).homes; front = front; rise = rise; nodes = given.nodes; mail = mail_so })
 
 pub deliveries_keep : ValidScenariosAreBounded → SlotsAreLeft → ReplicasRunLogs → ViewsAreReplicas → SlotsHaveRosters → ReplicasLast → NextRowsAreSent → NewestStay → FrontsAreFound → ViewsAgree → WellLedLeadAlone → SentReplicas → OrdersRowsMeet → OrdersRowsFind → ChildrenWereNowhere → FreshGroupsStay → YoungGroupsStay
-    → MailComesUnsettled → AskedGroupsStood → TrueOrdersGoOn → DeliveriesKeepWork → WorkStandsAlone → OrderRowsFindCalm → MailMayCome → LawfulReplicasAreNamedOnce → DeliveriesKeepOrdered
-deliveries_keep all_bounded few_law logs_law views_law rosters_law last_law next_law newest_law found_law agree_law alone_law plain_law meets_law finds_law nowhere_law fresh_law young_law unsettled_law asked_law true_law work_law stands_law calm_law come_law once_law words scenario first journal quiet rows seat number calm home o on given = (
-  keeps all_bounded few_law logs_law views_law rosters_law last_law next_law newest_law found_law agree_law alone_law plain_law meets_law finds_law nowhere_law fresh_law young_law unsettled_law asked_law true_law work_law stands_law calm_law come_law once_law words scenario first journal quiet rows seat number calm home o on given,
-  found all_bounded few_law logs_law views_law rosters_law last_law next_law newest_law found_law agree_law alone_law plain_law meets_law finds_law nowhere_law fresh_law young_law unsettled_law asked_law true_law work_law stands_law calm_law come_law once_law words scenario first journal quiet rows seat number calm home o on given,
+    → MailComesUnsettled → AskedGroupsStood → TrueOrdersGoOn → DeliveriesKeepWork → WorkStandsAlone → OrderRowsFindCalm → EntriesAreTrue → FlightsAreEntries → MailMayCome → LawfulReplicasAreNamedOnce → DeliveriesKeepOrdered
+deliveries_keep all_bounded few_law logs_law views_law rosters_law last_law next_law newest_law found_law agree_law alone_law plain_law meets_law finds_law nowhere_law fresh_law young_law unsettled_law asked_law true_law work_law stands_law calm_law entries_law flights_law come_law once_law words scenario first journal quiet rows seat number calm home o on given = (
+  keeps all_bounded few_law logs_law views_law rosters_law last_law next_law newest_law found_law agree_law alone_law plain_law meets_law finds_law nowhere_law fresh_law young_law unsettled_law asked_law true_law work_law stands_law calm_law entries_law flights_law come_law once_law words scenario first journal quiet rows seat number calm home o on given,
+  found all_bounded few_law logs_law views_law rosters_law last_law next_law newest_law found_law agree_law alone_law plain_law meets_law finds_law nowhere_law fresh_law young_law unsettled_law asked_law true_law work_law stands_law calm_law entries_law flights_law come_law once_law words scenario first journal quiet rows seat number calm home o on given,
 )

@@ -1,8 +1,7 @@
 -- All that holds while an order is under way since a quiet front of a calm journal, and that each delivery keeps it.
-use Rattle.std.specs.Prelude.{◌≡◌, ℕ, ◌≤◌, true, false, [], ◌++◌, length, Option, Some}
+use Rattle.std.specs.Prelude.{◌≡◌, ℕ, true, false, [], ◌++◌, Option, Some}
 use Rattle.sc_base.specs.Among.{Among, Each}
 use Rattle.sc_base.specs.declared.names.Draw.{Draw}
-use Rattle.sc_cmd.specs.declared.commands.Command.{Command}
 use Rattle.sc_cmd.specs.declared.cores.Base.{Base}
 use Rattle.sc_cmd.specs.declared.orders.OrderLine.{OrderLine}
 use Rattle.sc_mail.specs.declared.bodies.Mail.{Mail}
@@ -14,10 +13,8 @@ use Rattle.sc_actor.specs.declared.rows.Event.TheVariants.{Deliver, Told}
 use Rattle.sc_actor.specs.Mail.{mails}
 use Rattle.sc_actor.specs.Replay.{value}
 use Rattle.sc_client_table.specs.Client.{Client as ClientState}
-use Rattle.sc_machine_table.specs.Machine.{applied}
 use Rattle.sc_orderly_law.specs.Orderly.{is_born, rest}
 use Rattle.sc_orderly_law.specs.Timely.{AreInTime}
-use Rattle.sc_paxos_words.specs.declared.flights.Flight.{Flight}
 use Rattle.sc_scenario.specs.declared.scenarios.Scenario.{Scenario}
 use Rattle.sc_node_table.specs.Node.{NodeState, replica_of, group_of_mail}
 use Rattle.sc_node_table.specs.Replica.{ReplicaState, settled}
@@ -27,13 +24,11 @@ use Rattle.sc_sound.specs.Players.{Player, player_table, births, as_nodes}
 use Rattle.sc_calm_law.specs.Charts.{players}
 use Rattle.sc_calm_law.specs.Keeping.{FindsCalm}
 use Rattle.sc_calm_law.specs.Totals.{Rows}
-use Rattle.sc_calm_rows_law.specs.Groups.{view_at, marks_at}
+use Rattle.sc_calm_rows_law.specs.Groups.{marks_at}
 use Rattle.sc_calm_rows_law.specs.Turns.{IsSeat, with_event}
 use Rattle.sc_calm_scenes_law.specs.Quiet.{GoesToActor}
 use Rattle.sc_calm_scenes_law.specs.Taken.{IsTaking}
-use Rattle.sc_calm_entries_law.specs.Paid.{IsEntry}
 use Rattle.sc_calm_found_law.specs.Missed.{IsYoung}
-use Rattle.sc_calm_found_law.specs.Votes.{IsTrueEntry}
 use Rattle.sc_calm_charts_law.specs.Charting.{chart_at}
 use Rattle.sc_calm_charts_law.specs.Fronts.{quiet_front}
 use Rattle.sc_budget_law.specs.AskingQuiet.{replicas_after, DoHintsRise}
@@ -78,13 +73,11 @@ OrdersBeginOrdered =
     → IsOrderedSince words scenario first journal quiet (with_event quiet seat (Told line))
     × ((far sent : ℕ) → FindsCalm (chart_at far sent (players words (births as_nodes scenario)) quiet) (births as_nodes scenario) quiet seat (Told line))
 
--- What is asked besides of a delivery: a node takes it; children that it makes are young; commands in flight are true, and leave at most nine members; and a coordinator that is to ask elsewhere is told whom, and has its promises.
+-- What is asked besides of a delivery: a node takes it; children that it makes are young; and a coordinator that is to ask elsewhere is told whom, and has its promises.
 pub record IsGivenBesides (words : ℕ → ℕ → ℕ × ℕ) (scenario : Scenario) (rows : Rows) (seat : Seat Player) (number : ℕ) : Type 0 where
   pub nodes : (client : ClientState) → value player_table seat rows ≡ Client client → ⊥
   pub children : (mail : Mail) (group : Draw) (node : NodeState) (r : ReplicaState) → IsTaking words (births as_nodes scenario) rows seat number mail group node → replica_of group node.replicas ≡ Some r
       → Each (IsYoung words (births as_nodes scenario) rows seat) (mailed mail.from mail.body (r, [])).1
-  pub entries : (name : Draw) (node : ℕ) (r : ReplicaState) → view_at (births as_nodes scenario) rows name node ≡ Some r → r.running ≡ true
-      → Each (λ (flight : Flight Command). IsTrueEntry r.me r.group flight.value) r.leader.flights × Each (λ (flight : Flight Command). IsEntry flight.value r × (length (applied r.group flight.value).0.core.members ≤ 9)) r.leader.flights
   pub elsewhere : (mail : Mail) (group : Draw) (node : NodeState) (r : ReplicaState) (tx coord : Draw) (hint : Option ℕ) → IsTaking words (births as_nodes scenario) rows seat number mail group node → replica_of group node.replicas ≡ Some r
       → mail.body ≡ TxElsewhere tx coord hint → r.running ≡ true → (to : ℕ) × (hint ≡ Some to) × (settled r ≡ true)
 

@@ -15,7 +15,7 @@ use sc_calm_requests_law::lawful_replicas_are_named_once;
 use sc_calm_scenes_law::{fresh_groups_stay, quiet_scenes_are_over};
 use sc_calm_sent_law::{next_rows_are_sent, sent_replicas};
 use sc_calm_true_law::{
-    asked_groups_stood, mail_comes_unsettled, records_are_true, replicas_tell, true_orders_begin,
+    asked_groups_stood, entries_are_true, mail_comes_unsettled, records_are_true, replicas_tell, true_orders_begin,
     true_orders_go_on,
 };
 use sc_calm_works_law::{deliveries_keep_work, orders_begin_work, work_stands_alone};
@@ -51,6 +51,8 @@ pub fn deliveries_keep_ordered()
     deliveries_keep_work();
     work_stands_alone();
     order_rows_find_calm();
+    entries_are_true();
+    flights_are_entries();
     mail_may_come();
     lawful_replicas_are_named_once();
 }
