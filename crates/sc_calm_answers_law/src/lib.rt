@@ -1,57 +1,106 @@
-//! That calm scenarios are answered within their budget, as far as it is proved: what is known of
-//! single rows and of journals, put together. Definitions and laws, no logic.
+//! That calm scenarios are answered within their budget, as far as it is proved: what each row of a
+//! calm journal finds, what holds of its quiet fronts and while an order is under way. Definitions
+//! and laws, no logic.
 #![tactic(auto)]
 
-ghost use Rattle.sc_calm_answers_law.specs.Begins.{QuietJournalsBegin};
-ghost use Rattle.sc_calm_answers_law.specs.Covered.{BirthsAreCovered};
-ghost use Rattle.sc_calm_answers_law.specs.Given.{OrdersMayBeGiven};
-ghost use Rattle.sc_calm_answers_law.specs.Lines.{CalmLinesEndQuiet};
-ghost use Rattle.sc_calm_answers_law.specs.Short.{CalmJournalsAreShort};
+mod answer_laws;
 
-use sc_budget_law::{calm_lines_are_spaced, plain_lines_end_quiet};
-use sc_calm_law::kept_calm_ends_quiet;
-use sc_scenario::valid_scenarios_are_bounded;
+pub use answer_laws::{
+    births_are_covered, calm_journals_are_short, calm_lines_end_quiet, orders_may_be_given,
+    quiet_journals_begin,
+};
 
-/// The budget of a calm scenario with an order covers what its clients owe at their births and
-/// what one order raises, by a chart on which no way by hints is longer than one more than there
-/// are orders, and no client is sent on more often than there are groups and orders.
-pub fn births_are_covered()
-    ensures { BirthsAreCovered }
-{}
+mod between_laws;
 
-/// In each lawful journal of a valid calm scenario each order that is told is one for a node of the
-/// scenario's, which names nodes and positions that there are.
-pub fn orders_may_be_given()
-    ensures { OrdersMayBeGiven }
-{
-    valid_scenarios_are_bounded();
-    calm_lines_are_spaced();
-}
+pub use between_laws::{requests_begin, requests_keep_calm, requests_leave_young};
 
-/// In each lawful journal of a valid calm scenario at its budget no line of deliveries is cut off,
-/// where there are charts by which each row finds what it needs and quiet journals rest.
-pub fn calm_lines_end_quiet()
-    ensures { CalmLinesEndQuiet }
-{
-    valid_scenarios_are_bounded();
-    calm_lines_are_spaced();
-    kept_calm_ends_quiet();
-    plain_lines_end_quiet();
-}
+mod finding_laws;
 
-/// Before the first row of a valid scenario all is quiet: each group is led by its first member, and
-/// each of its members is up to date, no client was told to go, and no mail is left.
-pub fn quiet_journals_begin()
-    ensures { QuietJournalsBegin }
-{
-    valid_scenarios_are_bounded();
-}
+pub use finding_laws::{
+    group_mail_finds, journal_mail_finds, mail_is_for_its_node, needs_by_kind, states_stand,
+    stray_mail_finds,
+};
 
-/// A journal of a valid calm scenario at its budget has few rows, so slots and rounds are left in each:
-/// its budget is no more than a line may deliver, and so it gives few orders.
-pub fn calm_journals_are_short()
-    ensures { CalmJournalsAreShort }
-{
-    valid_scenarios_are_bounded();
-    calm_lines_are_spaced();
-}
+mod found_laws;
+
+pub use found_laws::{
+    besides_are_found, leaders_are_found, missed_are_found, newest_stay, orders_rows_find,
+    orders_rows_meet, quiet_leaders_have_nothing, rows_are_guided, stages_expect_work,
+    stages_leave_one_work, votes_are_found, well_led_lead_alone, young_may_bear,
+};
+
+mod front_laws;
+
+pub use front_laws::journals_begin_resting;
+
+mod journal_laws;
+
+pub use journal_laws::fronts_of_fronts;
+
+mod kept_laws;
+
+pub use kept_laws::{
+    chart_hints_rise, order_charts_follow, order_rows_find_calm, stages_ask, told_orders_find_calm,
+    views_agree,
+};
+
+mod known_laws;
+
+pub use known_laws::{
+    children_are_made, entries_bear_children, free_groups_have_arcs, fronts_are_found,
+    fronts_are_known, fronts_are_linked, fronts_are_noted, fronts_are_reachable,
+    fronts_are_taken_in, fronts_are_there, fronts_go_in_turn, fronts_gone_agree,
+    fronts_have_members, groups_are_asked_through, issued_are_begun, links_were_members,
+    members_are_home, quiet_courses_end, quiet_fronts_have_groups, quiet_logs_are_executed,
+    still_fronts_are_free, turns_go_on,
+};
+
+mod ordered_laws;
+
+pub use ordered_laws::{deliveries_keep_ordered, flights_are_entries, orders_begin_ordered};
+
+mod over_laws;
+
+pub use over_laws::{quiet_fronts_rest, quiet_journals_rest, requests_leave_resting};
+
+mod rest_laws;
+
+pub use rest_laws::{
+    members_have_replicas, quiet_groups_are_gone, quiet_groups_stand, quiet_replicas_are_kept,
+    quiet_replicas_rest,
+};
+
+mod rise_laws;
+
+pub use rise_laws::{
+    groups_begin_rising, next_rows_rise, quiet_hints_rise, quiet_keeps_round, rounds_are_seen,
+    rows_keep_round, same_views_keep_ballot,
+};
+
+mod sent_laws;
+
+pub use sent_laws::{
+    first_groups_are_never_young, groups_are_born_as_begun, groups_begin_sent, homes_are_kept,
+    led_journals_are_sent_so, next_mail_is_sent_so, next_rows_are_sent, sent_replicas,
+};
+
+mod setting_laws;
+
+pub use setting_laws::{quiet_charts_count, quiet_journals_have_frames, quiet_settings_are_linked};
+
+mod true_laws;
+
+pub use true_laws::{
+    asked_groups_stood, coordinators_are_settled, entries_are_true, finishes_are_true,
+    mail_comes_unsettled, outcomes_are_taken, records_are_true, replicas_tell,
+    settled_orders_begin, settled_orders_go_on, true_orders_begin, true_orders_go_on,
+    votes_are_true,
+};
+
+mod work_laws;
+
+pub use work_laws::{deliveries_keep_work, orders_begin_work, work_stands_alone};
+
+mod young_laws;
+
+pub use young_laws::{children_were_nowhere, groups_are_quiet_while_young, young_groups_stay};

@@ -1,0 +1,38 @@
+-- The replicas of a group at the births are as the group begins, at its first members; and those of the scenario's groups are there from then on.
+use Rattle.std.proofs.Common.{◌≡◌, Bool, true, false, cond, [], Option, Some, None, ◌⊎◌, inl, inr, refl, sym, ◌∙◌}
+use Rattle.std.proofs.lemmas.Bool.{cond-true}
+use Rattle.sc_base.specs.Among.{Among}
+use Rattle.sc_cmd.specs.declared.cores.Base.{Base}
+use Rattle.sc_member.specs.Roster.{is_member}
+use Rattle.sc_node_table.specs.Replica.{born_replica}
+use Rattle.sc_node_table.specs.Slots.{slots_ahead}
+use Rattle.sc_scenario.specs.Valid.{IsBounded, ValidScenariosAreBounded}
+use Rattle.sc_scenario.specs.declared.scenarios.Scenario.{Scenario}
+use Rattle.sc_sound.specs.Players.{births, as_nodes}
+use Rattle.sc_calm_mail_law.specs.Lasting.{ReplicasLast}
+use Rattle.sc_calm_rows_law.specs.Groups.{view_at}
+use Rattle.sc_calm_rows_law.proofs.Beginning.{view_born}
+use Rattle.sc_calm_led_law.specs.Tellers.{GroupsAreBornOrNot}
+use Rattle.sc_calm_answers_law.specs.SentJournals.{AreBornAsBegun, GroupsAreBornAsBegun, FirstGroupsAreNeverYoung}
+
+one_or_none : {X : Type 0} (b : Bool) (x : X) (o : Option X) → o ≡ cond b (Some x) None → (o ≡ None) ⊎ ((o ≡ Some x) × (b ≡ true))
+one_or_none true x o e = inr (e, refl)
+one_or_none false x o e = inl e
+
+scenarios_born : (scenario : Scenario) (base : Base) → IsBounded scenario → Among base scenario.groups → AreBornAsBegun (births as_nodes scenario) base
+scenarios_born scenario base bounded a who = one_or_none (is_member base.core.members who) (born_replica slots_ahead who base) _ (view_born scenario bounded base a who)
+
+pub groups_born : ValidScenariosAreBounded → GroupsAreBornOrNot → GroupsAreBornAsBegun
+groups_born bounded born words scenario journal base group = elim (born words scenario journal base group) [
+  | inl own ↦ scenarios_born scenario base (bounded scenario group.valid) own
+  | inr unborn ↦ λ who. inl (unborn who)
+]
+
+some_none : {X : Type 0} (x : X) → Some x ≡ None → ⊥
+some_none x e = cc
+
+pub never_young : ReplicasLast → FirstGroupsAreNeverYoung
+never_young last words scenario rows base bounded a timely who member none =
+    let born : view_at (births as_nodes scenario) [] base.core.id who ≡ Some (born_replica slots_ahead who base) = view_born scenario bounded base a who ∙ cond-true (is_member base.core.members who) (Some (born_replica slots_ahead who base)) None member in
+    let later = last words scenario [] rows base.core.id who (born_replica slots_ahead who base) timely born in
+    absurd (some_none later.0 (sym later.1 ∙ none))

@@ -1,0 +1,248 @@
+-- What is in flight at a leader while an order is under way is an entry of it, that leaves at most nine members.
+use Rattle.std.proofs.Common.{◌≡◌, ◌⊎◌, ℕ, zero, suc, ◌≤◌, eqb, cond, true, false, true≢false, Bool, List, [], ◌∷◌, length, filter, take, Option, Some, None, inl, inr, refl, sym, ◌∙◌, ap, subst, arith, ◌-◌}
+use Rattle.std.specs.Prelude.{not, ◌||◌}
+use Rattle.std.specs.List.{list_any}
+use Rattle.std.proofs.lemmas.Bool.{cond_both, or_left, or_right, eq-eqb}
+use Rattle.std.proofs.lemmas.Option.{none-some}
+use Rattle.sc_base.specs.Among.{Among, Each}
+use Rattle.sc_base.specs.Same.{same_draw}
+use Rattle.sc_base.specs.declared.names.Draw.{Draw}
+use Rattle.sc_cmd.specs.declared.bodies.Body.{Body}
+use Rattle.sc_cmd.specs.declared.bodies.Body.TheVariants as At
+use Rattle.sc_cmd.specs.declared.commands.Command.{Command}
+use Rattle.sc_cmd.specs.declared.commands.Command.TheVariants.{Noop, Call, Join, Leave, Split, Begin, Prepared, RecordVote, GiveUp, Finish, Watched, RecordWatch}
+use Rattle.sc_cmd.specs.declared.cores.Base.{Base}
+use Rattle.sc_cmd.specs.declared.cores.Core.{Core}
+use Rattle.sc_cmd.specs.declared.cores.Lock.{Lock}
+use Rattle.sc_cmd.specs.declared.cores.Lock.TheVariants.{Free, Coordinating, Promised, Watching}
+use Rattle.sc_cmd.specs.declared.effects.Effect.{Effect}
+use Rattle.sc_cmd.specs.declared.votes.Heard.{Heard}
+use Rattle.sc_cmd.specs.declared.votes.Past.{Past}
+use Rattle.sc_cmd.specs.declared.votes.Past.TheVariants as Cast
+use Rattle.sc_member.specs.Roster.{IsRoster, is_member, with_member}
+use Rattle.sc_member.specs.Union.{united, with_any}
+use Rattle.sc_machine_table.specs.Group.{Group, group_of}
+use Rattle.sc_machine_table.specs.Machine.{applied}
+use Rattle.sc_machine_table.specs.Plans.{can_split, split_plan, merge_plan, may_merge}
+use Rattle.sc_machine_table.specs.Splits.{left_members, staying}
+use Rattle.sc_machine_table.specs.Transactions.{released, watch_recorded, asks_watcher, committed}
+use Rattle.sc_paxos_words.specs.declared.flights.Flight.{Flight}
+use Rattle.sc_paxos_words.proofs.ListLemmas.{Each-among}
+use Rattle.sc_scenario.specs.declared.scenarios.Scenario.{Scenario}
+use Rattle.sc_node_table.specs.Replica.{ReplicaState, forgotten, members, next}
+use Rattle.sc_node_table.specs.Execute.{entered}
+use Rattle.sc_node_table.specs.Questions.{asked_link}
+use Rattle.sc_node_table.specs.Spoken.{before_of}
+use Rattle.sc_sound.specs.Logs.{decided_log}
+use Rattle.sc_sound.specs.Players.{births, as_nodes}
+use Rattle.sc_whole_law.specs.Laws.{MembersStayRosters}
+use Rattle.sc_calm_law.specs.Laws.{newcomers}
+use Rattle.sc_calm_law.specs.Totals.{Rows}
+use Rattle.sc_calm_orders_law.specs.Parts.{bond_in, bond_of, is_cast_yes, work_by}
+use Rattle.sc_calm_orders_law.specs.Scenes.{Work, Opens, Records, GivesUp, Here, Turn, First, Lone, Next, is_watch, Asking}
+use Rattle.sc_calm_orders_law.specs.Stages.{Stage, IsAt, IsVote}
+use Rattle.sc_calm_rows_law.specs.Groups.{view_at}
+use Rattle.sc_calm_logs_law.specs.Logged.{SlotsHaveRosters, ViewsAreReplicas}
+use Rattle.sc_calm_led_law.specs.States.{ReplicasRunLogs}
+use Rattle.sc_following_law.proofs.Polled.{with_kept}
+use Rattle.sc_calm_scenes_law.specs.Quiet.{IsWork, QuietScenesAreOver}
+use Rattle.sc_calm_scenes_law.specs.Scenes.{scene_at}
+use Rattle.sc_calm_scenes_law.proofs.Viewing.{tell}
+use Rattle.sc_calm_entries_law.specs.Paid.{IsEntry}
+use Rattle.sc_calm_answers_law.specs.TrueEntries.{LeadsSince}
+use Rattle.sc_calm_answers_law.specs.Recorded.{IsRecord, RecordsAreTrue}
+use Rattle.sc_calm_answers_law.specs.Told.{ReplicasTell}
+use Rattle.sc_calm_answers_law.specs.Votes.{IsTrueEntry}
+use Rattle.sc_calm_scenes_law.specs.Fresh.{IsThere}
+use Rattle.sc_calm_answers_law.proofs.Since.{base_of}
+use Rattle.sc_calm_answers_law.proofs.Leads.{IsWorkAt, OfOrder, OfQuestion, OfVote, OfOutcome, at_stage, stands_in, was_there}
+use Rattle.sc_calm_answers_law.specs.OrderedEntries.{FlightsAreEntries}
+
+-- ---- members
+
+or_map : (b c d : Bool) → (c ≡ true → d ≡ true) → (b || c) ≡ true → (b || d) ≡ true
+or_map true c d f e = refl
+or_map false c d f e = f e
+
+take_member : (n : ℕ) (members : List ℕ) (who : ℕ) → is_member (take n members) who ≡ true → is_member members who ≡ true
+take_member zero members who e = cc
+take_member (suc n) [] who e = cc
+take_member (suc n) (x ∷ members) who e = or_map (eqb x who) (is_member (take n members) who) (is_member members who) (take_member n members who) e
+
+-- none of these is new that are all there
+none_new : (old members : List ℕ) → Each (λ who. is_member old who ≡ true) members → filter (λ who. not (is_member old who)) members ≡ []
+none_new old [] all = refl
+none_new old (m ∷ members) all = ap (λ b. cond (not b) (m ∷ filter (λ who. not (is_member old who)) members) (filter (λ who. not (is_member old who)) members)) all.0 ∙ none_new old members all.1
+
+taken_old : (n : ℕ) (old members : List ℕ) → Each (λ who. is_member old who ≡ true) members → Each (λ who. is_member old who ≡ true) (take n members)
+taken_old zero old members all = tt
+taken_old (suc n) old [] all = tt
+taken_old (suc n) old (m ∷ members) all = (all.0, taken_old n old members all.1)
+
+own_members : (old more : List ℕ) → ((who : ℕ) → is_member more who ≡ true → is_member old who ≡ true) → Each (λ who. is_member old who ≡ true) more
+own_members old [] f = tt
+own_members old (m ∷ more) f = (f m (or_left (eqb m m) (is_member more m) (eq-eqb m m refl)), own_members old more (λ who e. f who (or_right (eqb m who) (is_member more who) e)))
+
+left_none : (n : ℕ) (old : List ℕ) → length (filter (λ who. not (is_member old who)) (take n old)) ≡ 0
+left_none n old = ap (λ (l : List ℕ). length l) (none_new old (take n old) (taken_old n old old (own_members old old (λ who e. e))))
+
+any_kept : (members : List ℕ) (node who : ℕ) → is_member members who ≡ true → is_member (with_any members node) who ≡ true
+any_kept members node who m = cond_both (is_member members node) members (with_member members node) (λ xs. is_member xs who ≡ true) (λ _. m) (λ _. with_kept members node who m)
+
+united_kept : (members others : List ℕ) (who : ℕ) → is_member members who ≡ true → is_member (united members others) who ≡ true
+united_kept members [] who m = m
+united_kept members (x ∷ others) who m = united_kept (with_any members x) others who (any_kept members x who m)
+
+-- ---- a watcher's Yes
+
+module _ (me : ℕ) (group : Group) (tx : Draw) (mine : is_member group.core.members me ≡ true) where
+  -- by the body: a merge brings members, and a split leaves some of them
+  module _ (Split_ : Type 0) where
+    abbrev Kept : Group × Effect → Type 0
+    Kept made = (is_member made.0.core.members me ≡ true) ⊎ ((length (filter (λ who. not (is_member group.core.members who)) made.0.core.members) ≡ 0) × Split_)
+
+    released_kept : (body : Body) (heard : Option Heard) → ((at : ℕ) (child : Draw) → body ≡ At.Split at child → Split_) → Kept (released body heard group tx)
+    released_kept At.Merge None f = inl mine
+    released_kept At.Merge (Some h) f =
+        cond_both (may_merge group h.frozen) _ None (λ plan. Kept (committed plan group tx)) (λ _. inl (united_kept group.core.members h.frozen.members me mine)) (λ _. inl mine)
+    released_kept (At.Repart at) heard f = inl mine
+    released_kept (At.Migrate node) heard f = inl mine
+    released_kept (At.Split at child) heard f =
+        cond_both (can_split group.core at) _ None (λ plan. Kept (committed plan group tx)) (λ _. inr (left_none (staying group.core.members) group.core.members, f at child refl)) (λ _. inl mine)
+
+    recorded_kept : (lock : Lock) → ((t : Draw) (order at : ℕ) (child : Draw) (heard : Option Heard) → lock ≡ Coordinating t (At.Split at child) order heard → Split_) → Kept (watch_recorded lock group tx Cast.Yes)
+    recorded_kept Free f = inl mine
+    recorded_kept (Promised t offer) f = inl mine
+    recorded_kept (Watching t watch) f = inl mine
+    recorded_kept (Coordinating t body order heard) f =
+        cond_both (same_draw t tx) _ (group, _) Kept
+        (λ _. cond_both (asks_watcher body heard) (released body heard group tx) (group, _) Kept (λ _. released_kept body heard (λ at child e. f t order at child heard (ap (λ b. Coordinating t b order heard) e))) (λ _. inl mine))
+        (λ _. inl mine)
+
+-- the bond of a group that coordinates a split
+split_bond : (lock : Lock) (core : Core) (t tx asked : Draw) (turn : Turn) (order at : ℕ) (child : Draw) (heard : Option Heard) → lock ≡ Coordinating t (At.Split at child) order heard → bond_in lock core ≡ Asking tx asked turn
+    → (found : Draw) × (bond_in lock core ≡ Asking tx found Lone)
+split_bond lock core t tx asked turn order at child heard e b =
+    let is : bond_in lock core ≡ Asking t (asked_link core (At.Split at child) heard).group Lone = ap (λ l. bond_in l core) e in
+    let same : Asking t (asked_link core (At.Split at child) heard).group Lone ≡ Asking tx asked turn = sym is ∙ b in
+    let one : t ≡ tx = cc in
+    ((asked_link core (At.Split at child) heard).group, is ∙ ap (λ n. Asking n (asked_link core (At.Split at child) heard).group Lone) one)
+
+cast_yes : (vote : Past) → is_cast_yes vote ≡ true → vote ≡ Cast.Yes
+cast_yes Cast.Yes e = refl
+cast_yes (Cast.No why) e = cc
+cast_yes Cast.Ended e = cc
+
+watch_agrees : (turn : Turn) (agreed : Bool) → is_watch turn ≡ true → IsVote turn agreed → agreed ≡ true
+watch_agrees First agreed w v = cc
+watch_agrees Lone agreed w v = v
+watch_agrees (Next part host) agreed w v = v
+
+same_records : (tx tx2 : Draw) (w w2 agreed agreed2 : Bool) (by by2 : ℕ) → Records tx w agreed by ≡ Records tx2 w2 agreed2 by2 → (tx ≡ tx2) × (w ≡ w2) × (agreed ≡ agreed2)
+same_records tx tx2 w w2 agreed agreed2 by by2 e = (cc, cc, cc)
+
+-- ---- what is in flight
+
+module _ (tells : ReplicasTell) (records : RecordsAreTrue) (over : QuietScenesAreOver) (stay : MembersStayRosters) (slots : SlotsHaveRosters) (logs : ReplicasRunLogs) (views : ViewsAreReplicas) (words : ℕ → ℕ → ℕ × ℕ) (scenario : Scenario) (first : Base) (journal quiet rows : Rows) (name : Draw) (node : ℕ)
+    (r : ReplicaState) (stage : Stage) (l : LeadsSince words scenario first journal quiet rows name node r stage) (flight : Flight Command) (among : Among flight r.leader.flights) where
+  work : (w : Work) × (work_by flight.value ≡ Some w)
+  work = Each-among (λ (f : Flight Command). IsWork f.value) r.leader.flights flight l.alone.flights among
+
+  staged : (w : Work) → work_by flight.value ≡ Some w → IsWorkAt stage name w
+  staged w e = at_stage tells words scenario first journal quiet rows name node r stage l flight among w e
+
+  there : IsThere (births as_nodes scenario) quiet name
+  there = was_there tells words scenario first journal quiet rows name node r stage l flight among work.0 work.1
+
+  mine : is_member (members r) r.me ≡ true
+  mine = (stands_in tells words scenario first journal quiet rows name node r stage l there).1
+
+  -- ---- members
+
+  roster : IsRoster r.group.core.members
+  roster =
+      let b = base_of tells words scenario first journal quiet rows l.front.more l.front.is l.calm l.rests l.seen name there in
+      let v = views as_nodes words scenario journal b.0 b.1 rows l.front.more l.front.is node r (ap (λ n. view_at (births as_nodes scenario) rows n node) b.2 ∙ l.leads.is_there) in
+      let run = logs as_nodes words scenario journal b.0 b.1 rows v.0 v.1 r v.2 in
+      let at_first : IsRoster b.0.core.members = subst IsRoster (slots.first as_nodes words scenario journal b.0 b.1 0 (omega arith)) (slots.rosters as_nodes words scenario journal b.0 b.1 0) in
+      subst (λ (g : Group). IsRoster g.core.members) (sym run.1) (stay (group_of b.0) (take (next r - 1) (decided_log as_nodes b.0 journal)) at_first)
+
+  few : length (applied r.group flight.value).0.core.members ≤ 9
+  few = (stay r.group (flight.value ∷ []) roster).most
+
+  -- ---- kinds
+
+  no_order : (tx : Draw) → IsWorkAt stage name (GivesUp tx) → ⊥
+  no_order tx (OfOrder chief e) = (subst (λ x. IsAt x (scene_at (births as_nodes scenario) rows)) e l.untouched.stands).sound
+  no_order tx (OfQuestion deal host e own is) = cc
+  no_order tx (OfVote deal agreed host e own is) = cc
+  no_order tx (OfOutcome t is ends) = cc
+
+  free_now : (child : Draw) → IsWorkAt stage name (Opens child) → r.group.core.lock ≡ Free
+  free_now child (OfOrder chief e) =
+      over.free (births as_nodes scenario) rows name node r l.leads (ap (λ (h : Here). h.bond) (subst (λ x. IsAt x (scene_at (births as_nodes scenario) rows)) e l.untouched.stands).parties.0.0)
+  free_now child (OfQuestion deal host e own is) = cc
+  free_now child (OfVote deal agreed host e own is) = cc
+  free_now child (OfOutcome t is ends) = cc
+
+  -- a watcher's vote
+  module _ (tx : Draw) (vote : Past) (by : ℕ) (is : flight.value ≡ RecordWatch tx vote by) where
+    record IsWatched : Type 0 where
+      yes : vote ≡ Cast.Yes
+      asked : Draw
+      turn : Turn
+      bond : bond_of r.group.core ≡ Asking tx asked turn
+
+    watched : IsWorkAt stage name (Records tx true (is_cast_yes vote) by) → IsWatched
+    watched (OfOrder chief e) = absurd (subst (λ x. IsAt x (scene_at (births as_nodes scenario) rows)) e l.untouched.stands).sound
+    watched (OfQuestion deal host e own eq) = cc
+    watched (OfOutcome t eq ends) = cc
+    watched (OfVote deal agreed host e own eq) =
+        let now = subst (λ x. IsAt x (scene_at (births as_nodes scenario) rows)) e l.untouched.stands in
+        let same = same_records deal.tx tx (is_watch deal.turn) true agreed (is_cast_yes vote) host by eq in
+        record {
+          yes = cast_yes vote (sym same.2 ∙ watch_agrees deal.turn agreed same.1 now.sound);
+          asked = deal.asked;
+          turn = deal.turn;
+          bond = sym (tell.led (births as_nodes scenario) rows name node r l.leads).1.0
+              ∙ (ap (λ n. ((scene_at (births as_nodes scenario) rows).at n).bond) (sym own) ∙ (ap (λ (h : Here). h.bond) now.parties.0.0 ∙ ap (λ t. Asking t deal.asked deal.turn) same.0));
+        }
+
+    w : IsWatched
+    w = watched (staged (Records tx true (is_cast_yes vote) by) (ap work_by is))
+
+    true_entry : IsTrueEntry r.me r.group (RecordWatch tx vote by)
+    true_entry = subst (IsTrueEntry r.me r.group) is (records words scenario first journal quiet rows name node r stage l flight among (subst IsRecord (sym is) tt))
+
+    kept : (is_member (applied r.group (RecordWatch tx Cast.Yes by)).0.core.members r.me ≡ true) ⊎ ((length (filter (λ who. not (is_member r.group.core.members who)) (applied r.group (RecordWatch tx Cast.Yes by)).0.core.members) ≡ 0) × ((before_of r.group.core).heard ≡ None))
+    kept = recorded_kept r.me r.group tx mine ((before_of r.group.core).heard ≡ None) r.group.core.lock
+        (λ t order at child heard e. (let b = split_bond r.group.core.lock r.group.core t tx w.asked w.turn order at child heard e w.bond in (true_entry.0 b.0 Lone b.1).0 refl))
+
+    watch_entry : IsEntry (RecordWatch tx vote by) r
+    unfolding entered forgotten
+    watch_entry = subst (λ v. IsEntry (RecordWatch tx v by) r) (sym w.yes) (refl, by_kept kept)
+      where
+        by_kept : (is_member (applied r.group (RecordWatch tx Cast.Yes by)).0.core.members r.me ≡ true) ⊎ ((length (filter (λ who. not (is_member r.group.core.members who)) (applied r.group (RecordWatch tx Cast.Yes by)).0.core.members) ≡ 0) × ((before_of r.group.core).heard ≡ None))
+            → (is_member (applied r.group (RecordWatch tx Cast.Yes by)).0.core.members r.me ≡ true) ⊎ (((before_of r.group.core).heard ≡ None) × (length (newcomers (RecordWatch tx Cast.Yes by) r) ≡ 0))
+        by_kept (inl m) = inl m
+        by_kept (inr s) = inr (s.1, s.0)
+
+  entry_of : (command : Command) → flight.value ≡ command → IsEntry command r
+  entry_of Noop e = absurd (none-some work.0 (sym (ap work_by e) ∙ work.1))
+  entry_of (Call client seq op) e = absurd (none-some work.0 (sym (ap work_by e) ∙ work.1))
+  entry_of (Join who order) e = tt
+  entry_of (Leave who order) e = tt
+  entry_of (Split at child order) e = free_now child (staged (Opens child) (ap work_by e))
+  entry_of (Begin tx body order) e = tt
+  entry_of (Prepared tx offer) e = tt
+  entry_of (RecordVote tx vote by) e = tt
+  entry_of (GiveUp tx) e = absurd (no_order tx (staged (GivesUp tx) (ap work_by e)))
+  entry_of (Finish tx outcome) e = tt
+  entry_of (Watched tx watch) e = tt
+  entry_of (RecordWatch tx vote by) e = watch_entry tx vote by e
+
+  pub entries_so : IsEntry flight.value r × (length (applied r.group flight.value).0.core.members ≤ 9)
+  entries_so = (entry_of flight.value refl, few)
+
+pub flights_are_entries : ReplicasTell → RecordsAreTrue → QuietScenesAreOver → MembersStayRosters → SlotsHaveRosters → ReplicasRunLogs → ViewsAreReplicas → FlightsAreEntries
+flights_are_entries tells records over stay slots logs views words scenario first journal quiet rows name node r stage l flight among = entries_so tells records over stay slots logs views words scenario first journal quiet rows name node r stage l flight among

@@ -1,0 +1,31 @@
+-- Mail of a group of a lawful journal of a valid scenario, as what is said of mail of any group that is well led.
+use Rattle.std.proofs.Common.{◌≡◌, true, List}
+use Rattle.sc_mail.specs.declared.bodies.Mail.{Mail}
+use Rattle.sc_actor.specs.declared.actors.Seat.{Seat}
+use Rattle.sc_actor.specs.declared.rows.Event.TheVariants.{Deliver}
+use Rattle.sc_actor.specs.Mail.{mails}
+use Rattle.sc_actor.specs.System.{row_of}
+use Rattle.sc_orderly_law.proofs.InTime.{in_time_before}
+use Rattle.sc_paxos_words.proofs.ListLemmas.{Each-among}
+use Rattle.sc_scenario.specs.Valid.{ValidScenariosAreBounded}
+use Rattle.sc_node_table.specs.Node.{may_come}
+use Rattle.sc_sound.specs.Players.{Player, births, as_nodes, player_table}
+use Rattle.sc_calm_law.specs.Charts.{players}
+use Rattle.sc_calm_mail_law.proofs.Posting.{mail_comes}
+use Rattle.sc_calm_logs_law.specs.Logged.{logged_sets}
+use Rattle.sc_calm_groups_law.proofs.BornWell.{scenarios_well_born}
+use Rattle.sc_calm_led_law.specs.Led.{over_at}
+use Rattle.sc_group_law.proofs.RowSteps.{number_among}
+use Rattle.sc_whole_law.proofs.Seats.{all_apart}
+use Rattle.sc_calm_answers_law.specs.Finding.{GroupMailFinds}
+use Rattle.sc_calm_answers_law.proofs.Meeting.{finds}
+
+module _ (bounded : ValidScenariosAreBounded) where
+  pub group_mail_finds : GroupMailFinds
+  group_mail_finds chart words by scenario journal front rows seat number mail node base course m needs =
+      let fine = bounded scenario m.group.valid in
+      let all : List (Seat Player) = births as_nodes scenario in
+      let comes = Each-among (λ (x : Mail). may_come x.from x.body ≡ true) (mails rows) mail
+      (mail_comes words scenario rows fine (in_time_before (players words all) rows (row_of player_table seat rows (Deliver number)) m.meets.timely))
+      (number_among (mails rows) number mail m.meets.delivers.sent) in
+      finds (logged_sets as_nodes base journal) (over_at as_nodes base journal) by words all front rows seat number mail node base course m.meets (all_apart scenario fine) (scenarios_well_born scenario) comes m.named chart.ways chart.groups m.once needs

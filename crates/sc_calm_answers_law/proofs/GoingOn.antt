@@ -1,0 +1,118 @@
+-- Groups go one after another from one quiet front to a later one.
+use Rattle.std.proofs.Common.{◌≡◌, ℕ, ◌-◌, ◌≤◌, zero, suc, List, [], ◌∷◌, ◌++◌, take, Some, refl, sym, ◌∙◌, ap, arith, append_assoc, append-nil}
+use Rattle.sc_base.specs.Among.{Among}
+use Rattle.sc_base.specs.declared.names.Draw.{Draw}
+use Rattle.sc_cmd.specs.declared.commands.Command.{Command}
+use Rattle.sc_cmd.specs.declared.cores.Base.{Base}
+use Rattle.sc_cmd.specs.declared.links.Route.{Route}
+use Rattle.sc_machine_table.specs.Group.{Group, group_of}
+use Rattle.sc_machine_table.specs.Logs.{state_after}
+use Rattle.sc_machine_table.specs.Machine.{applied}
+use Rattle.sc_scenario.specs.Valid.{ValidScenariosAreBounded}
+use Rattle.sc_scenario.specs.declared.scenarios.Scenario.{Scenario}
+use Rattle.sc_node_table.specs.Replica.{ReplicaState, next}
+use Rattle.sc_sound.specs.GroupsOf.{groups_at}
+use Rattle.sc_sound.specs.Logs.{decided_log}
+use Rattle.sc_sound.specs.Players.{births, as_nodes}
+use Rattle.sc_log_law.specs.Descent.{Rows}
+use Rattle.sc_budget_law.specs.AskingQuiet.{replicas_after}
+use Rattle.sc_calm_rows_law.specs.Groups.{view_at}
+use Rattle.sc_calm_mail_law.specs.Lasting.{ReplicasLast}
+use Rattle.sc_calm_mail_law.specs.Over.{IsOver, EntriesLeaveOver}
+use Rattle.sc_calm_logs_law.specs.Logged.{IsGroupOf, ViewsAreReplicas}
+use Rattle.sc_calm_led_law.specs.States.{state_at, ReplicasRunLogs}
+use Rattle.sc_calm_charts_law.specs.Charting.{all_replicas, names_at, went_in}
+use Rattle.sc_calm_charts_law.specs.Ends.{GoInTurn}
+use Rattle.sc_calm_charts_law.specs.Following.{LedStandOnce}
+use Rattle.sc_calm_charts_law.proofs.Names.{names_grow}
+use Rattle.sc_calm_requests_law.specs.Starts.{LawfulReplicasAreNamedOnce}
+use Rattle.sc_calm_answers_law.specs.SettingCounting.{GoneAgree}
+use Rattle.sc_calm_answers_law.specs.KnownFronts.{IsQuietFront, FrontsAreFound, QuietLogsAreExecuted}
+use Rattle.sc_calm_answers_law.specs.Known.{FrontsGoneAgree}
+use Rattle.sc_calm_answers_law.specs.Links.{AreAllFree}
+use Rattle.sc_calm_answers_law.specs.KnownTurns.{GoesOnce, GoesAlone, TurnsGoOn, FrontsGoInTurn}
+use Rattle.sc_calm_answers_law.proofs.KnownGroups.{front_timely}
+use Rattle.sc_calm_answers_law.proofs.Known.{found, seen, shown, gone_last, last_state}
+use Rattle.sc_calm_answers_law.proofs.KnownGoing.{gone_seen, seen_gone, seen_none, gone_named}
+
+-- the names go on
+names_more : (scenario : Scenario) (rows more : Rows) → (names : List Draw) × (names_at (births as_nodes scenario) (rows ++ more) ≡ names_at (births as_nodes scenario) rows ++ names)
+names_more scenario rows [] = ([], ap (names_at (births as_nodes scenario)) (append-nil rows) ∙ sym (append-nil (names_at (births as_nodes scenario) rows)))
+names_more scenario rows (row ∷ more) =
+    let one = names_grow (births as_nodes scenario) rows row in
+    let later = names_more scenario (rows ++ row ∷ []) more in (
+      one.0 ++ later.0,
+      ap (names_at (births as_nodes scenario)) (sym (append_assoc rows (row ∷ []) more))
+          ∙ (later.1 ∙ (ap (λ names. names ++ later.0) one.1 ∙ append_assoc (names_at (births as_nodes scenario) rows) one.0 later.0)),
+    )
+
+-- a group that is over stays so along a log
+log_over : EntriesLeaveOver → (into : Route) (log : List Command) (group : Group) → IsOver into group.core → IsOver into (state_after group log).core
+log_over over into [] group is = is
+log_over over into (c ∷ log) group is = log_over over into log (applied group c).0 (over into group c is)
+
+later_over : EntriesLeaveOver → (into : Route) (log : List Command) (group : Group) (some more : ℕ) → some ≤ more → IsOver into (state_after group (take some log)).core → IsOver into (state_after group (take more log)).core
+later_over over into log group zero more low is = log_over over into (take more log) group is
+later_over over into log group (suc some) zero low is = absurd (omega (arith, low))
+later_over over into [] group (suc some) (suc more) low is = is
+later_over over into (c ∷ log) group (suc some) (suc more) low is = later_over over into log (applied group c).0 some more (omega (arith, low)) is
+
+module _ (bounded : ValidScenariosAreBounded) (named : LawfulReplicasAreNamedOnce) (led_once : LedStandOnce) (finds : FrontsAreFound) (executed : QuietLogsAreExecuted) (agrees : FrontsGoneAgree) (last : ReplicasLast) (run : ReplicasRunLogs) (see_replicas : ViewsAreReplicas) (over : EntriesLeaveOver) (turns : TurnsGoOn)
+    (words : ℕ → ℕ → ℕ × ℕ) (scenario : Scenario) (journal quiet more : Rows) (group : Draw) (q : IsQuietFront words scenario journal quiet) (free : AreAllFree scenario quiet) (l : IsQuietFront words scenario journal (quiet ++ more)) (alone : GoesAlone scenario quiet (quiet ++ more) group) where
+  -- a replica has the journal's state at its next slot
+  runs : (front : Rows) (f : IsQuietFront words scenario journal front) (base : Base) → Among base (groups_at as_nodes scenario.groups journal) → (node : ℕ) (r : ReplicaState) → view_at (births as_nodes scenario) front base.core.id node ≡ Some r → r.group ≡ state_at as_nodes base journal (next r)
+  runs front f base a node r e =
+      let g : IsGroupOf as_nodes words scenario journal base = record { open_slots = refl; valid = f.calm.valid; lawful = f.calm.lawful; stands = a } in
+      let v = see_replicas as_nodes words scenario journal base g front f.begins.more f.begins.is node r e in
+      (run as_nodes words scenario journal base g front v.0 v.1 r v.2).1
+
+  -- one that was gone is gone still, by the same route
+  still_gone : (name : Draw) (node : ℕ) (r : ReplicaState) (into : Route) → replicas_after scenario quiet name node ≡ Some r → r.group.core.gone ≡ Some into
+      → (later : ReplicaState) × (replicas_after scenario (quiet ++ more) name node ≡ Some later) × (later.group.core.gone ≡ Some into)
+  still_gone name node r into e gone =
+      let f = found executed finds words scenario journal quiet q in
+      let of = f.replicas name node r e in
+      let base = of.base in
+      let own : view_at (births as_nodes scenario) quiet base.core.id node ≡ Some r = ap (λ n. view_at (births as_nodes scenario) quiet n node) of.named ∙ seen executed finds words scenario journal quiet q name node r e in
+      let x = executed words scenario journal quiet base q of.among (node, r, own) in
+      let state = last_state executed finds words scenario journal quiet q base of.among node r own (gone_last executed finds words scenario journal quiet q base of.among _ x.0.course x.0.quiet node r into own gone) in
+      let lock = ap (λ (g : Group). g.core.lock) state ∙ free base of.among in
+      let a = f.later base of.among in
+      let up = last words scenario quiet more base.core.id node r (front_timely words scenario journal (quiet ++ more) l) own in
+      let was = runs quiet q base a node r own in
+      let is = runs (quiet ++ more) l base a node up.0 up.1 in
+      let grown = up.2.1 in
+      let stays = later_over over into (decided_log as_nodes base journal) (group_of base) (next r - 1) (next up.0 - 1) (omega (arith, grown)) (ap (λ (g : Group). g.core.gone) (sym was) ∙ gone, ap (λ (g : Group). g.core.lock) (sym was) ∙ lock) in
+      let there : view_at (births as_nodes scenario) (quiet ++ more) name node ≡ Some up.0 = ap (λ n. view_at (births as_nodes scenario) (quiet ++ more) n node) (sym of.named) ∙ up.1 in
+      (up.0, shown executed finds words scenario journal (quiet ++ more) l name node up.0 there, ap (λ (g : Group). g.core.gone) is ∙ stays.0)
+
+  old_agree : GoneAgree (replicas_after scenario quiet)
+  old_agree = agrees words scenario journal quiet q
+
+  now_agree : GoneAgree (replicas_after scenario (quiet ++ more))
+  now_agree = agrees words scenario journal (quiet ++ more) l
+
+  goes_now : (name : Draw) (node : ℕ) (r : ReplicaState) (into : Route) → replicas_after scenario quiet name node ≡ Some r → r.group.core.gone ≡ Some into → went_in name (all_replicas (births as_nodes scenario) (quiet ++ more)) ≡ Some into
+  goes_now name node r into e gone = (let s = still_gone name node r into e gone in seen_gone bounded named led_once finds words scenario journal (quiet ++ more) l now_agree name node s.0 into s.1 s.2)
+
+  once : GoesOnce (names_at (births as_nodes scenario) quiet) (names_at (births as_nodes scenario) (quiet ++ more)) (all_replicas (births as_nodes scenario) quiet) (all_replicas (births as_nodes scenario) (quiet ++ more)) group
+  once = record {
+    more = (names_more scenario quiet more).0;
+    go_on = (names_more scenario quiet more).1;
+    named = λ name into e. gone_named bounded named led_once finds words scenario journal quiet q name into e;
+    here = λ name into e. gone_named bounded named led_once finds words scenario journal (quiet ++ more) l name into e;
+    stays = λ name into e. (let g = gone_seen bounded named led_once finds words scenario journal quiet q name into e in goes_now name g.0 g.1 into g.2 g.3);
+    others = λ name into ne e. (
+        let g = gone_seen bounded named led_once finds words scenario journal (quiet ++ more) l name into e in
+        let s = alone.others name g.0 g.1 into ne g.2 g.3 in
+        let now_ = goes_now name s.0 s.1 s.2 s.3 s.4 in
+        seen_gone bounded named led_once finds words scenario journal quiet q old_agree name s.0 s.1 s.2 s.3 s.4 ∙ (sym now_ ∙ e));
+    stands = λ into e. (let g = gone_seen bounded named led_once finds words scenario journal (quiet ++ more) l group into e in seen_none bounded named led_once finds words scenario journal (quiet ++ more) l into.group (alone.stands g.0 g.1 into g.2 g.3));
+  }
+
+  fronts_turn : (turn : Draw → ℕ) → GoInTurn (names_at (births as_nodes scenario) quiet) (all_replicas (births as_nodes scenario) quiet) turn → (after : Draw → ℕ) × GoInTurn (names_at (births as_nodes scenario) (quiet ++ more)) (all_replicas (births as_nodes scenario) (quiet ++ more)) after
+  fronts_turn turn goes = turns _ _ _ _ group turn goes once
+
+pub fronts_go_in_turn : ValidScenariosAreBounded → LawfulReplicasAreNamedOnce → LedStandOnce → FrontsAreFound → QuietLogsAreExecuted → FrontsGoneAgree → ReplicasLast → ReplicasRunLogs → ViewsAreReplicas → EntriesLeaveOver → TurnsGoOn → FrontsGoInTurn
+fronts_go_in_turn bounded named led_once finds executed agrees last run see_replicas over turns words scenario journal quiet more turn group q free l alone =
+    fronts_turn bounded named led_once finds executed agrees last run see_replicas over turns words scenario journal quiet more group q free l alone turn

@@ -1,0 +1,6 @@
+-- What a front begins with is a front.
+use Rattle.std.proofs.Common.{◌++◌, ◌∙◌, append_assoc}
+use Rattle.sc_calm_answers_law.specs.Journal.{FrontsOfFronts}
+
+pub fronts_of : FrontsOfFronts
+fronts_of journal rows more front = record { more = more ++ front.more; is = front.is ∙ append_assoc rows more front.more }

@@ -1,0 +1,145 @@
+-- The replicas of all players in a quiet journal are those that are seen at nodes.
+use Rattle.std.proofs.Common.{◌≡◌, ℕ, ◌≤◌, leb, cond, true, true≢false, List, [], ◌∷◌, ◌++◌, ◌⊎◌, map, Option, Some, None, inl, inr, refl, sym, ◌∙◌, ap, subst, arith}
+use Rattle.std.proofs.lemmas.Bool.{cases_Bool, and_from, le-leb}
+use Rattle.std.proofs.lemmas.Option.{none-some}
+use Rattle.sc_base.proofs.NameLemmas.{draw_is, same_name}
+use Rattle.sc_base.specs.Among.{Among}
+use Rattle.sc_base.specs.Limits.{most_nodes}
+use Rattle.sc_base.specs.Same.{same_draw}
+use Rattle.sc_base.specs.declared.names.Draw.{Draw}
+use Rattle.sc_cmd.specs.declared.cores.Base.{Base}
+use Rattle.sc_cmd.specs.declared.orders.OrderLine.{OrderLine}
+use Rattle.sc_mail.specs.declared.bodies.Mail.{Mail}
+use Rattle.sc_mail.specs.declared.roles.Role.TheVariants.{Node, Client}
+use Rattle.sc_actor.specs.declared.actors.Seat.{Seat}
+use Rattle.sc_actor.specs.declared.rows.Row.{Row}
+use Rattle.sc_actor.specs.Replay.{value}
+use Rattle.sc_node_table.specs.Node.{is_node, replica_of}
+use Rattle.sc_node_table.specs.Replica.{ReplicaState, name_of}
+use Rattle.sc_node_table.specs.Slots.{numbers_from}
+use Rattle.sc_paxos_law.proofs.Among.{Among-left}
+use Rattle.sc_paxos_words.proofs.ListLemmas.{Each-among, find_found}
+use Rattle.sc_scenario.specs.declared.scenarios.Asks.{Asks}
+use Rattle.sc_scenario.specs.declared.scenarios.Scenario.{Scenario}
+use Rattle.sc_scenario.specs.Valid.{IsValid, ValidScenariosAreBounded}
+use Rattle.sc_sound.specs.Players.{Player, player_table, node_seat, client_seat, client_seats, route_of, as_nodes, births, Lawful}
+use Rattle.sc_calm_charts_law.specs.Charting.{replicas_of as chart_replicas, all_replicas}
+use Rattle.sc_budget_law.specs.AskingQuiet.{replicas_after, IsQuietJournal}
+use Rattle.sc_budget_law.specs.BetweenJournal.{replicas_of}
+use Rattle.sc_budget_law.proofs.BetweenSteps.{in_numbers, to_numbers}
+use Rattle.sc_budget_law.proofs.Lists.{map_among}
+use Rattle.sc_calm_requests_law.specs.Starts.{AreNamedOnce, LawfulReplicasAreNamedOnce}
+use Rattle.sc_calm_answers_law.specs.Settings.{AreAtNodes}
+
+-- what a mapped list has comes of one of its things
+pub from_map : {X Y : Type 0} (f : X → Y) (xs : List X) (y : Y) → Among y (map f xs) → (x : X) × Among x xs × (f x ≡ y)
+from_map f [] y a = absurd a
+from_map f (x ∷ xs) y (inl e) = (x, inl refl, e)
+from_map f (x ∷ xs) y (inr more) = (let r = from_map f xs y more in (r.0, inr r.1, r.2))
+
+-- one of some that are named once is found by its name
+pub found_once : (rs : List ReplicaState) (r : ReplicaState) → AreNamedOnce rs → Among r rs → replica_of (name_of r) rs ≡ Some r
+found_once [] r once a = absurd a
+found_once (x ∷ rs) r once (inl e) = ap (λ b. cond b (Some x) (replica_of (name_of r) rs)) (same_name (name_of x) (name_of r) (ap name_of e)) ∙ ap Some e
+found_once (x ∷ rs) r once (inr more) = elim (cases_Bool (same_draw (name_of x) (name_of r))) [
+  | inl same ↦ absurd (Each-among (λ (other : ReplicaState). name_of other ≡ name_of x → ⊥) rs r once.0 more (sym (draw_is (name_of x) (name_of r) same)))
+  | inr other ↦ ap (λ b. cond b (Some x) (replica_of (name_of r) rs)) other ∙ found_once rs r once.1 more
+]
+
+module _ (named : LawfulReplicasAreNamedOnce) (words : ℕ → ℕ → ℕ × ℕ) (scenario : Scenario) (first : Base) (rows : List (Row Mail OrderLine)) (nodes_are : (me : ℕ) → 1 ≤ me → me ≤ scenario.nodes → is_node me ≡ true) (valid : IsValid scenario) (lawful : Lawful as_nodes words scenario rows) (quiet : IsQuietJournal words scenario first rows) (homes : AreAtNodes scenario rows) where
+  abbrev at : Draw → ℕ → Option ReplicaState
+  at = replicas_after scenario rows
+
+  abbrev player : ℕ → Player
+  player me = value player_table (node_seat as_nodes scenario.groups scenario.policy me) rows
+
+  -- a replica that is seen is one of its node's
+  pub seen : (group : Draw) (node : ℕ) (r : ReplicaState) → at group node ≡ Some r → Among r (replicas_of (player node))
+  seen group node r e = elim (cases_Bool (is_node node)) [
+    | inl is ↦ (find_found (λ (x : ReplicaState). same_draw (name_of x) group) (replicas_of (player node)) r (sym (ap (λ b. cond b (replica_of group (replicas_of (player node))) None) is) ∙ e)).0
+    | inr none ↦ absurd (none-some r (sym (ap (λ b. cond b (replica_of group (replicas_of (player node))) None) none) ∙ e))
+  ]
+
+  -- a replica of a node is the one that is seen of its group
+  pub view : (me : ℕ) (r : ReplicaState) → 1 ≤ me → me ≤ scenario.nodes → Among r (replicas_of (player me)) → at (name_of r) me ≡ Some r
+  view me r low high a =
+      let n = quiet.nodes me low high in
+      let once = named words scenario rows me n.0 valid lawful low high n.1 in
+      let replicas : replicas_of (player me) ≡ n.0.replicas = ap replicas_of n.1 in
+      ap (λ b. cond b (replica_of (name_of r) (replicas_of (player me))) None) (nodes_are me low high) ∙ (ap (replica_of (name_of r)) replicas ∙ found_once n.0.replicas r once (subst (Among r) replicas a))
+
+-- the nodes of a scenario have numbers of nodes
+pub nodes_numbered : ValidScenariosAreBounded → (scenario : Scenario) → IsValid scenario → (me : ℕ) → 1 ≤ me → me ≤ scenario.nodes → is_node me ≡ true
+nodes_numbered all_bounded scenario valid me low high = (let most = (all_bounded scenario valid).nodes.1 in and_from (leb 1 me) (leb me most_nodes) (le-leb 1 me low) (le-leb me most_nodes (omega (arith, high, most))))
+
+pub split_among : {X : Type 0} (xs ys : List X) (x : X) → Among x (xs ++ ys) → Among x xs ⊎ Among x ys
+split_among [] ys x a = inr a
+split_among (z ∷ xs) ys x (inl e) = inl (inl e)
+split_among (z ∷ xs) ys x (inr a) = elim (split_among xs ys x a) [ inl l ↦ inl (inr l) | inr r ↦ inr r ]
+
+append_among : {X : Type 0} (xs ys : List X) (x : X) → Among x ys → Among x (xs ++ ys)
+append_among [] ys x a = a
+append_among (z ∷ xs) ys x a = inr (append_among xs ys x a)
+
+module _ (all_bounded : ValidScenariosAreBounded) (named : LawfulReplicasAreNamedOnce) (words : ℕ → ℕ → ℕ × ℕ) (scenario : Scenario) (first : Base) (others : List Base) (rows : List (Row Mail OrderLine)) (valid : IsValid scenario) (groups : scenario.groups ≡ first ∷ others)
+    (lawful : Lawful as_nodes words scenario rows) (quiet : IsQuietJournal words scenario first rows) (homes : AreAtNodes scenario rows) where
+  abbrev seen_at : Draw → ℕ → Option ReplicaState
+  seen_at = replicas_after scenario rows
+
+  abbrev seats : List (Seat Player)
+  seats = births as_nodes scenario
+
+  abbrev all : List ReplicaState
+  all = all_replicas seats rows
+
+  abbrev seat_of : ℕ → Seat Player
+  seat_of me = node_seat as_nodes scenario.groups scenario.policy me
+
+  node_there : (me : ℕ) → 1 ≤ me → me ≤ scenario.nodes → Among (seat_of me) seats
+  node_there me low high = Among-left (seat_of me) (map seat_of (numbers_from 1 scenario.nodes)) (client_seats scenario.groups scenario.clients) (map_among seat_of (numbers_from 1 scenario.nodes) me (to_numbers 1 scenario.nodes me low (omega (arith, high))))
+
+  from_seats : (ss : List (Seat Player)) (r : ReplicaState) → Among r (all_replicas ss rows) → (seat : Seat Player) × Among seat ss × Among r (chart_replicas (value player_table seat rows))
+  from_seats [] r a = absurd a
+  from_seats (seat ∷ ss) r a = elim (split_among (chart_replicas (value player_table seat rows)) (all_replicas ss rows) r a) [
+    | inl here ↦ (seat, inl refl, here)
+    | inr more ↦ (let f = from_seats ss r more in (f.0, inr f.1, f.2))
+  ]
+
+  into_seats : (ss : List (Seat Player)) (seat : Seat Player) (r : ReplicaState) → Among seat ss → Among r (chart_replicas (value player_table seat rows)) → Among r (all_replicas ss rows)
+  into_seats [] seat r a here = absurd a
+  into_seats (s ∷ ss) seat r (inl e) here = Among-left r (chart_replicas (value player_table s rows)) (all_replicas ss rows) (subst (λ x. Among r (chart_replicas (value player_table x rows))) (sym e) here)
+  into_seats (s ∷ ss) seat r (inr more) here = append_among (chart_replicas (value player_table s rows)) (all_replicas ss rows) r (into_seats ss seat r more here)
+
+  -- a client has none
+  no_client : (r : ReplicaState) (bases : List Base) → bases ≡ first ∷ others → (seat : Seat Player) → Among seat (client_seats bases scenario.clients) → Among r (chart_replicas (value player_table seat rows)) → ⊥
+  no_client r [] e seat a here = cc
+  no_client r (base ∷ bases) e seat a here =
+      let same : base ≡ first = cc in
+      let f = from_map (client_seat (route_of base)) scenario.clients seat a in
+      let p = quiet.players f.0 f.1 in
+      let is : value player_table seat rows ≡ Client p.0 = ap (λ x. value player_table x rows) (sym f.2) ∙ (ap (λ (x : Base). value player_table (client_seat (route_of x) f.0) rows) same ∙ p.1) in
+      subst (λ player. Among r (chart_replicas player)) is here
+
+  -- each replica is one that is seen of its group
+  pub all_seen : (r : ReplicaState) → Among r all → (me : ℕ) × (seen_at (name_of r) me ≡ Some r)
+  all_seen r a =
+      let f = from_seats seats r a in
+      elim (split_among (map seat_of (numbers_from 1 scenario.nodes)) (client_seats scenario.groups scenario.clients) f.0 f.1) [
+        | inl node ↦ (
+            let m = from_map seat_of (numbers_from 1 scenario.nodes) f.0 node in
+            let within = in_numbers 1 scenario.nodes m.0 m.1 in
+            let low = within.0 in
+            let high = within.1 in
+            let n = quiet.nodes m.0 low (omega (arith, high)) in
+            let here = subst (λ player. Among r (chart_replicas player)) (ap (λ x. value player_table x rows) (sym m.2) ∙ n.1) f.2 in
+            (m.0, view named words scenario first rows (nodes_numbered all_bounded scenario valid) valid lawful quiet homes m.0 r low (omega (arith, high)) (subst (λ player. Among r (replicas_of player)) (sym n.1) here)))
+        | inr client ↦ absurd (no_client r scenario.groups groups f.0 client f.2)
+      ]
+
+  -- .. and the other way round
+  pub seen_all : (group : Draw) (me : ℕ) (r : ReplicaState) → seen_at group me ≡ Some r → Among r all
+  seen_all group me r e =
+      let home = homes group me (r, e) in
+      let n = quiet.nodes me home.0 home.1 in
+      let here = subst (λ player. Among r (replicas_of player)) n.1 (seen named words scenario first rows (nodes_numbered all_bounded scenario valid) valid lawful quiet homes group me r e) in
+      into_seats seats (seat_of me) r (node_there me home.0 home.1) (subst (λ player. Among r (chart_replicas player)) (sym n.1) here)

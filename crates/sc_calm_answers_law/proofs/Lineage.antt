@@ -1,0 +1,85 @@
+-- What children a group knows after some entries.
+use Rattle.std.proofs.Common.{◌≡◌, ◌⊎◌, ℕ, zero, suc, true, cond, List, [], ◌∷◌, ◌++◌, take, Option, Some, None, inl, inr, refl, sym, ◌∙◌, ap, subst}
+use Rattle.std.specs.Option.{option_to_list}
+use Rattle.std.proofs.lemmas.Bool.{cond_both}
+use Rattle.sc_base.specs.Among.{Among}
+use Rattle.sc_base.specs.declared.names.Draw.{Draw}
+use Rattle.sc_cmd.specs.declared.commands.Command.{Command}
+use Rattle.sc_cmd.specs.declared.cores.Base.{Base}
+use Rattle.sc_member.specs.Roster.{is_member}
+use Rattle.sc_log_entries.specs.Births.{birth_of}
+use Rattle.sc_log_entries.proofs.Children.{births_are_children}
+use Rattle.sc_machine_table.specs.Children.{child_by}
+use Rattle.sc_machine_table.specs.Group.{Group}
+use Rattle.sc_machine_table.specs.Logs.{state_after}
+use Rattle.sc_machine_table.specs.Machine.{applied}
+use Rattle.sc_node_table.specs.Execute.{child_at}
+use Rattle.sc_sound.specs.GroupsOf.{children_of}
+use Rattle.sc_calm_orders_law.proofs.Lists.{among-left, among-right}
+use Rattle.sc_calm_answers_law.proofs.WorkBirths.{HasBorn, stays_born, bears_born, new_born}
+use Rattle.sc_calm_answers_law.proofs.Logs.{kids_of}
+
+-- it forgets none
+pub log_stays : (name : Draw) (group : Group) (log : List Command) → HasBorn name group.core.born → HasBorn name (state_after group log).core.born
+log_stays name group [] has = has
+log_stays name group (command ∷ log) has = log_stays name (applied group command).0 log (stays_born group command name has)
+
+-- an element of two lists
+among_parts : {X : Type 0} (x : X) (xs ys : List X) → Among x (xs ++ ys) → Among x xs ⊎ Among x ys
+among_parts x [] ys is = inr is
+among_parts x (y ∷ xs) ys (inl e) = inl (inl e)
+among_parts x (y ∷ xs) ys (inr is) = elim (among_parts x xs ys is) [ inl a ↦ inl (inr a) | inr b ↦ inr b ]
+
+-- a child that is made is the one that is borne
+child_is : (me : ℕ) (o : Option Base) (kid : Base) → Among kid (child_at me o) → o ≡ Some kid
+child_is me None kid is = absurd is
+child_is me (Some child) kid is =
+    cond_both (is_member child.core.members me) (child ∷ []) [] (λ (xs : List Base). Among kid xs → Some child ≡ Some kid) (λ _ a. elim a [ inl e ↦ ap Some e | inr bad ↦ absurd bad ]) (λ _ a. absurd a) is
+
+-- .. and one that is borne with the node for a member is made
+pub child_made : (me : ℕ) (kid : Base) → is_member kid.core.members me ≡ true → child_at me (Some kid) ≡ kid ∷ []
+child_made me kid is = ap (λ b. cond b (kid ∷ []) []) is
+
+-- it knows each that is made
+pub kids_known : (me : ℕ) (group : Group) (log : List Command) (kid : Base) → Among kid (kids_of me group log) → HasBorn kid.core.id (state_after group log).core.born
+kids_known me group [] kid is = absurd is
+kids_known me group (command ∷ log) kid is = elim (among_parts kid (child_at me (child_by group command)) (kids_of me (applied group command).0 log) is) [
+  | inl a ↦ log_stays kid.core.id (applied group command).0 log (bears_born group command kid (child_is me (child_by group command) kid a))
+  | inr b ↦ kids_known me (applied group command).0 log kid b
+]
+
+-- what it knows new is a child of its log
+pub log_gains : (name : Draw) (group : Group) (log : List Command) → HasBorn name (state_after group log).core.born → HasBorn name group.core.born ⊎ ((kid : Base) × Among kid (children_of group log) × (kid.core.id ≡ name))
+log_gains name group [] has = inl has
+log_gains name group (command ∷ log) has = by (log_gains name (applied group command).0 log has)
+  where
+    by : HasBorn name (applied group command).0.core.born ⊎ ((kid : Base) × Among kid (children_of (applied group command).0 log) × (kid.core.id ≡ name)) → HasBorn name group.core.born ⊎ ((kid : Base) × Among kid (children_of group (command ∷ log)) × (kid.core.id ≡ name))
+    by (inr (kid, a, e)) = inr (kid, among-right kid (option_to_list (birth_of group command (applied group command).1)) (children_of (applied group command).0 log) a, e)
+    by (inl k) = elim (new_born group command name k) [
+      | inl b ↦ inl b
+      | inr b ↦ inr (
+        b.0,
+        among-left b.0 (option_to_list (birth_of group command (applied group command).1)) (children_of (applied group command).0 log)
+            (subst (λ (o : Option Base). Among b.0 (option_to_list o)) (sym (sym (births_are_children group command) ∙ b.1)) (inl refl)),
+        b.2,
+      )
+    ]
+
+-- ---- one entry more of a log
+
+-- an entry more, or none is left
+pub take_more : (k : ℕ) (log : List Command) → (take (suc k) log ≡ take k log) ⊎ ((command : Command) × (take (suc k) log ≡ take k log ++ command ∷ []))
+take_more zero [] = inl refl
+take_more zero (c ∷ log) = inr (c, refl)
+take_more (suc k) [] = inl refl
+take_more (suc k) (c ∷ log) = elim (take_more k log) [ inl e ↦ inl (ap (λ l. c ∷ l) e) | inr e ↦ inr (e.0, ap (λ l. c ∷ l) e.1) ]
+
+pub after_more : (group : Group) (log : List Command) (command : Command) → state_after group (log ++ command ∷ []) ≡ (applied (state_after group log) command).0
+after_more group [] command = refl
+after_more group (c ∷ log) command = after_more (applied group c).0 log command
+
+-- the child of the last entry is one of the log's
+pub last_child : (group : Group) (log : List Command) (command : Command) (kid : Base) → child_by (state_after group log) command ≡ Some kid → Among kid (children_of group (log ++ command ∷ []))
+last_child group [] command kid e =
+    among-left kid (option_to_list (birth_of group command (applied group command).1)) [] (subst (λ (o : Option Base). Among kid (option_to_list o)) (sym (sym (births_are_children group command) ∙ e)) (inl refl))
+last_child group (c ∷ log) command kid e = among-right kid (option_to_list (birth_of group c (applied group c).1)) (children_of (applied group c).0 (log ++ command ∷ [])) (last_child (applied group c).0 log command kid e)

@@ -1,0 +1,53 @@
+-- Members of groups are nodes of their scenario.
+use Rattle.std.proofs.Common.{◌≡◌, ℕ, ◌≤◌, true}
+use Rattle.sc_base.specs.Among.{Each}
+use Rattle.sc_cmd.specs.declared.cores.Base.{Base}
+use Rattle.sc_cmd.specs.declared.links.Route.{Route}
+use Rattle.sc_member.specs.Roster.{is_member}
+use Rattle.sc_paxos_words.proofs.ListLemmas.{Each-among}
+use Rattle.sc_paxos_law.proofs.Among.{member-among}
+use Rattle.sc_scenario.specs.Valid.{IsUpTo, ValidScenariosAreBounded}
+use Rattle.sc_scenario.specs.declared.scenarios.Scenario.{Scenario}
+use Rattle.sc_sound.specs.Logs.{decided_log}
+use Rattle.sc_sound.specs.Players.{Ahead, route_of}
+use Rattle.sc_log_law.specs.Descent.{Rows}
+use Rattle.sc_ring_law.specs.Allowed.{Sources}
+use Rattle.sc_names_law.specs.Laws.{OtherNamesAreFree, TakenOrdersAreAllowed, TakenWishesAreAllowed, WishesAreAtPositions}
+use Rattle.sc_names_law.specs.Owners.{owner_in}
+use Rattle.sc_whole_law.specs.Begins.{BeginsWell, section_op}
+use Rattle.sc_whole_law.specs.Orders.{OrdersAreAllowed}
+use Rattle.sc_whole_law.specs.StartLaws.{ValidScenariosBeginWell}
+use Rattle.sc_whole_law.proofs.Scheduled.{orders_allowed}
+use Rattle.sc_calm_logs_law.specs.Logged.{logged_sets, IsGroupOf}
+use Rattle.sc_calm_answers_law.specs.Members.{MembersAreHome}
+use Rattle.sc_calm_answers_law.proofs.HomeNodes.{BringsNodes, HasNodes, slots_have_nodes}
+use Rattle.sc_calm_answers_law.proofs.HomeBringing.{begins_nodes, brings_nodes}
+
+module _ (bounded : ValidScenariosAreBounded) (begin : ValidScenariosBeginWell) (allowed : TakenOrdersAreAllowed) (wishes : TakenWishesAreAllowed) (positions : WishesAreAtPositions) (free : OtherNamesAreFree) where
+  module _ (ahead : Ahead) (words : ℕ → ℕ → ℕ × ℕ) (scenario : Scenario) (journal : Rows) (base : Base) (group : IsGroupOf ahead words scenario journal base) where
+    abbrev sources : Sources
+    sources = record { owner = owner_in ahead scenario journal; request = section_op scenario }
+
+    abbrev route : Route
+    route = route_of (begin (owner_in ahead scenario journal) (free ahead scenario journal) ahead group.open_slots scenario group.valid).first
+
+    well : BeginsWell sources ahead scenario route
+    well = (begin (owner_in ahead scenario journal) (free ahead scenario journal) ahead group.open_slots scenario group.valid).well
+
+    orders : OrdersAreAllowed sources ahead scenario journal
+    orders = orders_allowed ahead words scenario (bounded scenario group.valid) allowed wishes positions journal group.lawful
+
+    begins : HasNodes (IsUpTo scenario.nodes) base.core
+    begins = begins_nodes sources ahead words scenario route well journal orders group.lawful (bounded scenario group.valid) base group.stands
+
+    entries_are : Each (BringsNodes (IsUpTo scenario.nodes)) (decided_log ahead base journal)
+    entries_are = brings_nodes sources ahead words scenario route well journal orders group.lawful (bounded scenario group.valid) base group.stands
+
+    firsts : (node : ℕ) → is_member base.core.members node ≡ true → (1 ≤ node) × (node ≤ scenario.nodes)
+    firsts node m = Each-among (IsUpTo scenario.nodes) base.core.members node begins.0 (member-among base.core.members node m)
+
+    of_slots : (slot node : ℕ) → is_member (logged_sets ahead base journal slot) node ≡ true → (1 ≤ node) × (node ≤ scenario.nodes)
+    of_slots = slots_have_nodes (IsUpTo scenario.nodes) ahead base journal begins entries_are
+
+  pub members_are_home : MembersAreHome
+  members_are_home = record { first = firsts; slots = of_slots }

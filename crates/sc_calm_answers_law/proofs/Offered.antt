@@ -1,0 +1,127 @@
+-- Nothing is asked for beyond the bound of a group's course, row by row.
+use Rattle.std.proofs.Common.{◌≡◌, ℕ, ◌≤◌, eqb, List, [], ◌∷◌, ◌++◌, drop, Option, Some, None, inl, inr, refl, sym, ◌∙◌, ap, subst, append_assoc, append-nil, arith}
+use Rattle.std.proofs.lemmas.Bool.{cond-true, eq-eqb}
+use Rattle.sc_base.specs.Among.{Among}
+use Rattle.sc_base.specs.Same.{same_draw}
+use Rattle.sc_base.specs.declared.names.Draw.{Draw}
+use Rattle.sc_base.proofs.NameLemmas.{same_name}
+use Rattle.sc_cmd.specs.declared.cores.Base.{Base}
+use Rattle.sc_cmd.specs.declared.orders.OrderLine.{OrderLine}
+use Rattle.sc_mail.specs.declared.bodies.Mail.{Mail}
+use Rattle.sc_mail.specs.declared.bodies.MailBody.{MailBody}
+use Rattle.sc_mail.specs.declared.bodies.MailBody.TheVariants.{Request, Answer, Prepare, Promise, Accept, Accepted, Nack, Learn, Ask, Install, TxPrepare, TxVote, TxOutcome, TxElsewhere, TxWatch, TxWatched, Told}
+use Rattle.sc_actor.specs.declared.actors.Seat.{Seat}
+use Rattle.sc_actor.specs.declared.rows.Event.{Event}
+use Rattle.sc_actor.specs.declared.rows.Row.{Row}
+use Rattle.sc_actor.specs.Mail.{mails}
+use Rattle.sc_actor.proofs.ReplayLemmas.{mails-snoc}
+use Rattle.sc_orderly_law.specs.Orderly.{rest, taken, mail_for}
+use Rattle.sc_orderly_law.specs.Timely.{AreInTime}
+use Rattle.sc_orderly_law.proofs.InTime.{by_time, in_time_before, in_time_tidy, last_in_time}
+use Rattle.sc_orderly_law.proofs.Resting.{rest-calm}
+use Rattle.sc_paxos_law.proofs.Among.{Among-left, Among-right}
+use Rattle.sc_paxos_words.proofs.ListLemmas.{Among-filter, Each-among, Each-append, Each-from, Each-weaker}
+use Rattle.sc_node_table.specs.Replica.{listed}
+use Rattle.sc_sound.specs.Players.{Player}
+use Rattle.sc_calm_law.specs.Charts.{players}
+use Rattle.sc_calm_law.specs.Totals.{Rows}
+use Rattle.sc_following_law.specs.Following.{Mark, Asks, mark_of, marks_of, IsKnown, Course, Sets}
+use Rattle.sc_following_law.specs.Hints.{Tellers}
+use Rattle.sc_calm_groups_law.specs.Kinds.{IsGroupRow, RowPasses, RowRests, RowTakes, RowMakes, RowLeads, RowElects}
+use Rattle.sc_calm_groups_law.specs.Led.{Ends, IsWellLed}
+use Rattle.sc_calm_groups_law.specs.Taught.{RowsKeepTaught}
+use Rattle.sc_calm_groups_law.specs.Through.{AreWellBorn, HasOneLog, IsSentSo, EventsGoOn}
+use Rattle.sc_calm_answers_law.specs.Offered.{AsksBelow, AreAskedBelow, IsAskedOn, GroupsAreAskedThrough}
+
+-- a mail's mark is among those of the mails
+mark_among : (name : Draw) (sent : List Mail) (mail : Mail) (mark : Mark) → Among mail sent → mark_of name mail.from mail.body ≡ Some mark → Among mark (marks_of name sent)
+mark_among name [] mail mark a e = absurd a
+mark_among name (x ∷ sent) mail mark (inl same) e =
+    Among-left mark (listed (mark_of name x.from x.body)) (marks_of name sent) (subst (λ (o : Option Mark). Among mark (listed o)) (sym (ap (λ (m : Mail). mark_of name m.from m.body) same ∙ e)) (inl refl))
+mark_among name (x ∷ sent) mail mark (inr a) e = Among-right mark (listed (mark_of name x.from x.body)) (marks_of name sent) (mark_among name sent mail mark a e)
+
+-- what asks below a slot does below a later one
+below_later : (name : Draw) (low high : ℕ) → low ≤ high → (body : MailBody) → AsksBelow name low body → AsksBelow name high body
+below_later name low high up (Accept group ballot slot command) k = λ is. (let lt = k is in omega (arith, lt, up))
+below_later name low high up (Request group client seq op) k = tt
+below_later name low high up (Answer group seq answer) k = tt
+below_later name low high up (Prepare group ballot from_slot) k = tt
+below_later name low high up (Promise group ballot reports) k = tt
+below_later name low high up (Accepted group ballot slot) k = tt
+below_later name low high up (Nack group promised) k = tt
+below_later name low high up (Learn group slot command) k = tt
+below_later name low high up (Ask group from_slot) k = tt
+below_later name low high up (Install group slot base sets) k = tt
+below_later name low high up (TxPrepare tx offer) k = tt
+below_later name low high up (TxVote tx coord part vote) k = tt
+below_later name low high up (TxOutcome tx part outcome) k = tt
+below_later name low high up (TxElsewhere tx coord hint) k = tt
+below_later name low high up (TxWatch tx watch) k = tt
+below_later name low high up (TxWatched tx coord part vote) k = tt
+below_later name low high up (Told order result) k = tt
+
+-- what is known of a mail's mark says so
+known_below : (name : Draw) (course : Course) (from : ℕ) (body : MailBody) → ((mark : Mark) → mark_of name from body ≡ Some mark → IsKnown course mark) → AsksBelow name course.bound body
+known_below name course from (Accept group ballot slot command) k = λ is. k (Asks ballot slot) (cond-true (same_draw group name) (Some (Asks ballot slot)) None (same_name group name is))
+known_below name course from (Request group client seq op) k = tt
+known_below name course from (Answer group seq answer) k = tt
+known_below name course from (Prepare group ballot from_slot) k = tt
+known_below name course from (Promise group ballot reports) k = tt
+known_below name course from (Accepted group ballot slot) k = tt
+known_below name course from (Nack group promised) k = tt
+known_below name course from (Learn group slot command) k = tt
+known_below name course from (Ask group from_slot) k = tt
+known_below name course from (Install group slot base sets) k = tt
+known_below name course from (TxPrepare tx offer) k = tt
+known_below name course from (TxVote tx coord part vote) k = tt
+known_below name course from (TxOutcome tx part outcome) k = tt
+known_below name course from (TxElsewhere tx coord hint) k = tt
+known_below name course from (TxWatch tx watch) k = tt
+known_below name course from (TxWatched tx coord part vote) k = tt
+known_below name course from (Told order result) k = tt
+
+module _ (go_on : EventsGoOn) (keep : RowsKeepTaught) (at : Sets) (over : Ends) (by : Tellers) (words : ℕ → ℕ → ℕ × ℕ) (births : List (Seat Player)) (journal : Rows) (base : Base) (wb : AreWellBorn births) (one : HasOneLog at over by births journal base) (so : IsSentSo births journal base) where
+  -- the bound never falls
+  rises : (rows : Rows) (seat : Seat Player) (event : Event OrderLine) (course later : Course) → IsGroupRow at over by births rows seat event base course later → course.bound ≤ later.bound
+  rises rows seat event course later (RowPasses same leaves) = (let e = ap (λ (c : Course). c.bound) same in omega (arith, e))
+  rises rows seat event course later (RowRests same r after row_ off still kind) = (let e = ap (λ (c : Course). c.bound) same in omega (arith, e))
+  rises rows seat event course later (RowTakes same r after mark row_ taken_ steps kind) = (let e = ap (λ (c : Course). c.bound) same in omega (arith, e))
+  rises rows seat event course later (RowMakes same from slot state sets row_ taken_ logs kind) = (let e = ap (λ (c : Course). c.bound) same in omega (arith, e))
+  rises rows seat event course later (RowLeads r after row_ runs counts l same) = (let e = ap (λ (c : Course). c.bound) same in let up = l.led.leads.bound in omega (arith, e, up))
+  rises rows seat event course later (RowElects r after ballot row_ off e same) = (let k = ap (λ (c : Course). c.bound) same in omega (arith, k))
+
+  -- what a row sends is known after it
+  sent_known : (rows : Rows) (row : Row Mail OrderLine) (later : Course) → AreInTime (players words births) (rows ++ row ∷ []) → IsWellLed at over by words births (rows ++ row ∷ []) base later → AreAskedBelow base.core.id later.bound row.sent
+  sent_known rows row later timely led = Each-from (λ (mail : Mail). AsksBelow base.core.id later.bound mail.body) row.sent (λ mail a. known_below base.core.id later mail.from mail.body (λ mark e. (
+      let s = players words births in
+      let left = rest-calm s rows row mail.to (in_time_tidy s rows (in_time_before s rows row timely)) (last_in_time s rows row timely).0 in
+      let there : Among mail (rest s (rows ++ row ∷ []) mail.to) =
+      subst (Among mail) (sym left) (Among-right mail (drop (taken mail.to row) (rest s rows mail.to)) (mail_for s mail.to row.sent) (Among-filter (λ (m : Mail). eqb m.to mail.to) row.sent mail a (eq-eqb mail.to mail.to refl))) in
+      Each-among (IsKnown later) (marks_of base.core.id (rest s (rows ++ row ∷ []) mail.to)) mark (led.followed.follows.known mail.to) (mark_among base.core.id (rest s (rows ++ row ∷ []) mail.to) mail mark there e))))
+
+  -- after these rows, if they begin the journal
+  abbrev Begin : Rows → Type 0
+  Begin rows = (more : Rows) → journal ≡ rows ++ more → IsAskedOn at over by words births rows base
+
+  after_row : (rows : Rows) (row : Row Mail OrderLine) → AreInTime (players words births) (rows ++ row ∷ []) → Begin rows → Begin (rows ++ row ∷ [])
+  after_row rows row timely was more is =
+      let calm = (last_in_time (players words births) rows row timely).0 in
+      let old = was (row ∷ more) (is ∙ append_assoc rows (row ∷ []) more) in
+      let timely_too = subst (λ (r : Row Mail OrderLine). AreInTime (players words births) (rows ++ r ∷ [])) calm.row_is timely in
+      let step = go_on at over by words births journal base wb one so rows calm.seat calm.event old.course (record { more = more; is = is ∙ ap (λ (r : Row Mail OrderLine). (rows ++ r ∷ []) ++ more) calm.row_is }) calm.born calm.calm timely_too old.led in
+      let up = rises rows calm.seat calm.event old.course step.later step.row in
+      subst (λ (r : Row Mail OrderLine). IsAskedOn at over by words births (rows ++ r ∷ []) base) (sym calm.row_is)
+      (record {
+        course = step.later;
+        led = step.led;
+        taught = keep at over by words births rows calm.seat calm.event base old.course step.later (record { rosters = one.log.rosters; timely = timely_too; was = old.led }) step.row old.taught;
+        asked = subst (AreAskedBelow base.core.id step.later.bound) (sym (mails-snoc rows _))
+            (Each-append (λ (mail : Mail). AsksBelow base.core.id step.later.bound mail.body) (mails rows) _
+            (Each-weaker (λ (mail : Mail). AsksBelow base.core.id old.course.bound mail.body) (λ (mail : Mail). AsksBelow base.core.id step.later.bound mail.body) (λ mail k. below_later base.core.id old.course.bound step.later.bound up mail.body k) (mails rows) old.asked)
+            (sent_known rows _ step.later timely_too step.led));
+      })
+
+pub asked_through : EventsGoOn → RowsKeepTaught → GroupsAreAskedThrough
+asked_through go_on keep at over by words births journal base wb one so timely first =
+    by_time (players words births) (Begin go_on keep at over by words births journal base wb one so) (λ all e. record { course = first.course; led = first.led; taught = first.taught; asked = tt })
+    (after_row go_on keep at over by words births journal base wb one so) journal timely [] (sym (append-nil journal))

@@ -1,0 +1,182 @@
+-- An order that is told in a quiet front begins all that holds while it is under way.
+use Rattle.std.proofs.Common.{◌≡◌, ◌⊎◌, ◌≤◌, ℕ, Bool, true, false, List, [], ◌∷◌, ◌++◌, Option, Some, None, inl, inr, refl, sym, ◌∙◌, ap, subst}
+use Rattle.std.proofs.lemmas.Bool.{cases_Bool}
+use Rattle.sc_base.specs.Among.{Among, Each}
+use Rattle.sc_base.specs.declared.names.Draw.{Draw}
+use Rattle.sc_cmd.specs.declared.cores.Base.{Base}
+use Rattle.sc_cmd.specs.declared.orders.OrderLine.{OrderLine}
+use Rattle.sc_mail.specs.declared.bodies.Mail.{Mail}
+use Rattle.sc_actor.specs.declared.actors.Seat.{Seat}
+use Rattle.sc_actor.specs.declared.rows.Event.TheVariants.{Told}
+use Rattle.sc_actor.specs.declared.rows.Row.{Row}
+use Rattle.sc_actor.specs.System.{System, row_of}
+use Rattle.sc_orderly_law.specs.Orderly.{is_born}
+use Rattle.sc_orderly_law.specs.Timely.{AreInTime}
+use Rattle.sc_orderly_law.proofs.InTime.{in_time_before, in_time_tidy}
+use Rattle.sc_orderly_law.proofs.Resting.{quiet-empty}
+use Rattle.sc_scenario.specs.Valid.{ValidScenariosAreBounded}
+use Rattle.sc_scenario.specs.declared.scenarios.Scenario.{Scenario}
+use Rattle.sc_node_table.specs.Replica.{ReplicaState, next, last_slot}
+use Rattle.sc_sound.specs.GroupsOf.{groups_at}
+use Rattle.sc_sound.specs.Players.{Player, player_table, births, as_nodes}
+use Rattle.sc_following_law.specs.Following.{marks_of}
+use Rattle.sc_calm_law.specs.Charts.{players}
+use Rattle.sc_calm_law.specs.Keeping.{FindsCalm}
+use Rattle.sc_calm_law.specs.Quiet.{IsAtRest}
+use Rattle.sc_calm_law.specs.Totals.{Rows}
+use Rattle.sc_calm_orders_law.specs.Stages.{Stage, Still}
+use Rattle.sc_calm_rows_law.specs.Groups.{view_at, marks_at}
+use Rattle.sc_calm_rows_law.specs.Turns.{IsSeat, with_event}
+use Rattle.sc_calm_mail_law.specs.Few.{SlotsAreLeft}
+use Rattle.sc_calm_logs_law.specs.Logged.{IsGroupOf, ViewsAreReplicas, SlotsHaveRosters}
+use Rattle.sc_calm_led_law.specs.States.{ReplicasRunLogs}
+use Rattle.sc_calm_scenes_law.specs.Fresh.{IsThere, IsNowhere, AreUntouched, IsToldInQuiet, FreshGroupsStay}
+use Rattle.sc_calm_scenes_law.specs.Found.{FindsOrder}
+use Rattle.sc_calm_answers_law.specs.Guided.{IsNamedGuide, IsReachedSo, NewestStay}
+use Rattle.sc_calm_answers_law.specs.FoundRows.{IsOrdersRow, OrdersRowsFind}
+use Rattle.sc_calm_answers_law.specs.SentJournals.{IsQuietWhileYoung, NextRowsAreSent, SentReplicas}
+use Rattle.sc_calm_charts_law.specs.Charting.{chart_at}
+use Rattle.sc_calm_answers_law.specs.KnownFronts.{FrontsAreFound, IsFoundFront}
+use Rattle.sc_calm_answers_law.specs.Journal.{IsCalmJournal, IsFront, AreSent}
+use Rattle.sc_calm_answers_law.specs.Resting.{RestsAt}
+use Rattle.sc_calm_answers_law.specs.JournalUnder.{IsUnder, IsYoungAt}
+use Rattle.sc_calm_answers_law.specs.Telling.{ToldOrdersFindCalm}
+use Rattle.sc_calm_answers_law.specs.Viewing.{ViewsAgree}
+use Rattle.sc_calm_answers_law.specs.Young.{YoungGroupsStay}
+use Rattle.sc_calm_answers_law.specs.TrueBeginning.{TrueOrdersBegin}
+use Rattle.sc_calm_answers_law.specs.TrueUnder.{AreSeen}
+use Rattle.sc_calm_answers_law.specs.Works.{OrdersBeginWork, WorkStandsAlone}
+use Rattle.sc_calm_answers_law.specs.Ordered.{IsHomelyJournal, IsNamedGroup, IsOrderedSince, OrdersBeginOrdered}
+use Rattle.sc_calm_answers_law.proofs.OrderedKnown as at_row
+use Rattle.sc_calm_answers_law.proofs.OrderedKnown.{named_there, reached_even}
+use Rattle.sc_calm_answers_law.proofs.Sending.{known_told}
+
+module _ (all_bounded : ValidScenariosAreBounded) (few_law : SlotsAreLeft) (logs_law : ReplicasRunLogs) (views_law : ViewsAreReplicas) (rosters_law : SlotsHaveRosters) (next_law : NextRowsAreSent) (newest_law : NewestStay) (found_law : FrontsAreFound)
+    (agree_law : ViewsAgree) (plain_law : SentReplicas) (finds_law : OrdersRowsFind) (fresh_law : FreshGroupsStay) (young_law : YoungGroupsStay) (true_law : TrueOrdersBegin) (work_law : OrdersBeginWork) (stands_law : WorkStandsAlone) (calm_law : ToldOrdersFindCalm)
+    (words : ℕ → ℕ → ℕ × ℕ) (scenario : Scenario) (first : Base) (journal quiet : Rows) (seat : Seat Player) (line : OrderLine) (calm : IsCalmJournal words scenario journal) (home : IsHomelyJournal words scenario journal) (rests : RestsAt words scenario first journal quiet)
+    (seated : IsSeat (births as_nodes scenario) seat) (front : IsFront journal (with_event quiet seat (Told line))) (timely : AreInTime (players words (births as_nodes scenario)) (with_event quiet seat (Told line))) where
+  abbrev all : List (Seat Player)
+  all = births as_nodes scenario
+
+  abbrev s : System Player Mail OrderLine
+  s = players words (births as_nodes scenario)
+
+  abbrev row : Row Mail OrderLine
+  row = row_of player_table seat quiet (Told line)
+
+  abbrev then : Rows
+  then = with_event quiet seat (Told line)
+
+  before : AreInTime s quiet
+  before = in_time_before s quiet row timely
+
+  -- nothing is under way
+  none : (name : Draw) (who : ℕ) → marks_at s quiet name who ≡ []
+  none name who = elim (cases_Bool (is_born s who)) [
+    | inl t ↦ ap (marks_of name) (quiet-empty s quiet who (in_time_tidy s quiet before) t rests.calm)
+    | inr f ↦ home.strangers quiet rests.front name who f
+  ]
+
+  young : (base : Base) → Among base (groups_at as_nodes scenario.groups journal) → IsQuietWhileYoung words all quiet base
+  young base among who member absent = none base.core.id who
+
+  group : (base : Base) → Among base (groups_at as_nodes scenario.groups journal) → IsGroupOf as_nodes words scenario journal base
+  group base among = record { open_slots = refl; valid = calm.valid; lawful = calm.lawful; stands = among }
+
+  abbrev reached : (base : Base) (among : Among base (groups_at as_nodes scenario.groups journal)) → IsReachedSo all quiet base (rests.sent base among).course
+  reached base among = reached_even rosters_law logs_law views_law words scenario journal quiet rests.front.more base (group base among) rests.front.is (rests.sent base among) (none base.core.id)
+
+  guide_of : (name : Draw) → IsNamedGroup scenario journal name → IsNamedGuide words all quiet seat (Told line) name
+  guide_of = at_row.guide_of few_law logs_law views_law rosters_law next_law newest_law found_law words scenario journal quiet seat (Told line) calm home front seated timely rests.sent reached young
+
+  abbrev sent_after : AreSent words scenario journal then
+  sent_after = at_row.sent_after few_law logs_law views_law rosters_law next_law newest_law found_law words scenario journal quiet seat (Told line) calm home front seated timely rests.sent reached young
+
+  named : (name : Draw) → IsThere all quiet name → IsNamedGroup scenario journal name
+  named = named_there found_law words scenario journal quiet calm home rests.front
+
+  seen : AreSeen scenario quiet
+  seen name node = agree_law.nodes scenario quiet name node (all_bounded scenario calm.valid) (found_law words scenario journal quiet calm rests.front).homes
+
+  -- each replica rests
+  at_rest : (name : Draw) (who : ℕ) (r : ReplicaState) → view_at all quiet name who ≡ Some r → IsAtRest r
+  at_rest name who r e = rests.is.quiet.at_rest name who r (sym (seen name who) ∙ e)
+
+  room : (name : Draw) (who : ℕ) (r : ReplicaState) → view_at all quiet name who ≡ Some r → next r ≤ last_slot
+  room name who r e = (at_row.few few_law logs_law views_law rosters_law next_law newest_law found_law words scenario journal quiet seat (Told line) calm home front seated timely rests.sent reached young (named name (who, r, e)).0 quiet rests.front.more who r rests.front.is
+      (ap (λ n. view_at all quiet n who) (named name (who, r, e)).2 ∙ e)).0
+
+  plain : (name : Draw) (who : ℕ) (r : ReplicaState) → view_at all quiet name who ≡ Some r → r.leader.reports ≡ []
+  plain name who r e = (let g = named name (who, r, e) in plain_law.plain _ _ _ words all quiet g.0 (rests.sent g.0 g.1) who r (ap (λ n. view_at all quiet n who) g.2 ∙ e))
+
+  orders_row : IsOrdersRow words scenario quiet seat (Told line)
+  orders_row = record {
+    bounded = all_bounded scenario calm.valid;
+    seated = seated;
+    timely = timely;
+    under = (Still, rests.still);
+    groups = λ name node r e. guide_of name (named name (node, r, e));
+    states = λ n mail group_ slot state sets e at body. cc;
+    unsettled = λ n mail group_ node r e taking here. cc;
+    requests = λ n mail group_ client seq op e at body. cc;
+    votes = λ n mail group_ node r named_ ballot slot e taking here runs body. cc;
+    told = λ other e. record {
+      quiet = rests.calm;
+      errands = home.errands quiet rests.front;
+      strangers = home.strangers quiet rests.front;
+      room = λ name node r view runs. (room name node r view, stands_law.rests r (at_rest name node r view));
+    };
+    clients = λ client is. refl;
+  }
+
+  finds : FindsOrder words all quiet seat (Told line)
+  finds = finds_law words scenario quiet seat (Told line) orders_row (λ n mail group_ node r e taking here. cc)
+
+  told_so : IsToldInQuiet words all quiet seat line
+  told_so = record { seated = seated; timely = timely; still = rests.still; calm = rests.calm; finds = finds }
+
+  begun : (stage : Stage) × AreUntouched words all quiet then stage
+  begun = fresh_law.begins words all quiet seat line told_so
+
+  young_after : (base : Base) → Among base (groups_at as_nodes scenario.groups journal) → IsNowhere all quiet base.core.id → IsYoungAt words all then base
+  young_after base among nowhere = young_law.begins words scenario quiet seat line begun.0 seated timely rests.calm begun.1 base nowhere
+
+  under_after : IsUnder words scenario first journal quiet then
+  under_after = record {
+    rests = rests;
+    front = front;
+    sent = sent_after;
+    reached = λ base among. at_row.reached_after few_law logs_law views_law rosters_law next_law newest_law found_law words scenario journal quiet seat (Told line) calm home front seated timely rests.sent reached young base among (young_after base among);
+    stage = begun.0;
+    untouched = begun.1;
+    young = young_after;
+  }
+
+  found : IsFoundFront words scenario journal quiet
+  found = found_law words scenario journal quiet calm rests.front
+
+  begins : IsOrderedSince words scenario first journal quiet then
+  unfolding under_after
+  begins =
+      let work = work_law words scenario quiet seat line calm.valid found.lawful seated timely rests.calm (λ name who r e. (at_rest name who r e, λ runs. plain name who r e, room name who r e)) in
+      record {
+        behind = row ∷ [];
+        rows_are = refl;
+        under = under_after;
+        true_since = true_law words scenario first journal quiet seat line begun.0 calm rests seen told_so begun.1.stands;
+        line = line;
+        task = work.0;
+        is_task = work.1;
+        work = work.2;
+        known = known_told words scenario journal quiet seat line begun.0 seated timely rests.calm named begun.1;
+      }
+
+  finds_calm : (far sent : ℕ) → FindsCalm (chart_at far sent s quiet) all quiet seat (Told line)
+  finds_calm far sent = calm_law words scenario first journal quiet far sent seat line calm rests (found_law words scenario journal quiet calm rests.front).homes seated
+
+pub orders_begin : ValidScenariosAreBounded → SlotsAreLeft → ReplicasRunLogs → ViewsAreReplicas → SlotsHaveRosters → NextRowsAreSent → NewestStay → FrontsAreFound → ViewsAgree → SentReplicas → OrdersRowsFind → FreshGroupsStay → YoungGroupsStay → TrueOrdersBegin → OrdersBeginWork → WorkStandsAlone
+    → ToldOrdersFindCalm → OrdersBeginOrdered
+orders_begin all_bounded few_law logs_law views_law rosters_law next_law newest_law found_law agree_law plain_law finds_law fresh_law young_law true_law work_law stands_law calm_law words scenario first journal quiet seat line calm home rests seated front timely = (
+  begins all_bounded few_law logs_law views_law rosters_law next_law newest_law found_law agree_law plain_law finds_law fresh_law young_law true_law work_law stands_law calm_law words scenario first journal quiet seat line calm home rests seated front timely,
+  finds_calm all_bounded few_law logs_law views_law rosters_law next_law newest_law found_law agree_law plain_law finds_law fresh_law young_law true_law work_law stands_law calm_law words scenario first journal quiet seat line calm home rests seated front timely,
+)

@@ -1,0 +1,336 @@
+-- Each delivery while an order is under way keeps all that holds then, and finds what keeps the journal calm.
+use Rattle.std.proofs.Common.{◌≡◌, ◌⊎◌, ◌≤◌, ℕ, Bool, true, false, eqb, length, List, [], ◌∷◌, ◌++◌, Option, Some, None, inl, inr, refl, sym, ◌∙◌, ap, subst, append_assoc}
+use Rattle.std.proofs.lemmas.Option.{none-some}
+use Rattle.sc_base.specs.Among.{Among, Each}
+use Rattle.sc_base.specs.declared.names.Draw.{Draw}
+use Rattle.sc_cmd.specs.declared.commands.Command.{Command}
+use Rattle.sc_cmd.specs.declared.cores.Base.{Base}
+use Rattle.sc_cmd.specs.declared.orders.OrderLine.{OrderLine}
+use Rattle.sc_mail.specs.declared.bodies.Mail.{Mail}
+use Rattle.sc_mail.specs.declared.bodies.MailBody.{MailBody}
+use Rattle.sc_mail.specs.declared.bodies.MailBody.TheVariants.{Request, Answer, Prepare, Promise, Accept, Accepted, Nack, Learn, Ask, Install, TxPrepare, TxVote, TxOutcome, TxElsewhere, TxWatch, TxWatched, Told}
+use Rattle.sc_mail.specs.declared.roles.Role.TheVariants.{Node, Client}
+use Rattle.sc_actor.specs.declared.actors.Seat.{Seat}
+use Rattle.sc_actor.specs.declared.rows.Event.{Event}
+use Rattle.sc_actor.specs.declared.rows.Event.TheVariants.{Deliver}
+use Rattle.sc_actor.specs.declared.rows.Row.{Row}
+use Rattle.sc_actor.specs.Mail.{mails, numbered}
+use Rattle.sc_actor.specs.Replay.{value}
+use Rattle.sc_actor.specs.System.{System, row_of}
+use Rattle.sc_orderly_law.specs.Orderly.{is_born, rest}
+use Rattle.sc_orderly_law.proofs.Resting.{is_born-from}
+use Rattle.sc_scenario.specs.Valid.{ValidScenariosAreBounded}
+use Rattle.sc_scenario.specs.declared.scenarios.Scenario.{Scenario}
+use Rattle.sc_machine_table.specs.Machine.{applied}
+use Rattle.sc_paxos_words.specs.declared.flights.Flight.{Flight}
+use Rattle.sc_node_table.specs.Node.{NodeState, replica_of, group_of_mail, may_come}
+use Rattle.sc_node_table.specs.Replica.{ReplicaState, name_of}
+use Rattle.sc_sound.specs.GroupsOf.{groups_at}
+use Rattle.sc_sound.specs.Players.{Player, player_table, births, as_nodes}
+use Rattle.sc_calm_law.specs.Charts.{players}
+use Rattle.sc_calm_law.specs.Keeping.{FindsCalm}
+use Rattle.sc_calm_law.specs.Totals.{Rows}
+use Rattle.sc_paxos_words.proofs.ListLemmas.{Each-from}
+use Rattle.sc_calm_orders_law.specs.Stages.{Deal, Stage, Asks, IsAt}
+use Rattle.sc_calm_rows_law.specs.Groups.{view_at}
+use Rattle.sc_calm_rows_law.specs.Turns.{IsSeat, with_event}
+use Rattle.sc_calm_rows_law.proofs.Viewing.{view_was}
+use Rattle.sc_calm_mail_law.specs.Few.{SlotsAreLeft}
+use Rattle.sc_calm_mail_law.specs.Lasting.{ReplicasLast}
+use Rattle.sc_calm_logs_law.specs.Logged.{ViewsAreReplicas, SlotsHaveRosters}
+use Rattle.sc_calm_led_law.specs.States.{ReplicasRunLogs}
+use Rattle.sc_calm_scenes_law.specs.Fresh.{IsThere, IsNowhere, AreUntouched, IsDelivered, FreshGroupsStay}
+use Rattle.sc_calm_scenes_law.specs.Found.{FindsOrder}
+use Rattle.sc_calm_scenes_law.specs.Kept.{GoesBy}
+use Rattle.sc_calm_scenes_law.specs.Scenes.{scene_at}
+use Rattle.sc_calm_scenes_law.specs.Taken.{IsTaking}
+use Rattle.sc_calm_entries_law.specs.Paid.{IsEntry}
+use Rattle.sc_calm_answers_law.specs.Beside.{IsUnsettled}
+use Rattle.sc_calm_answers_law.specs.Guided.{IsGuided, IsNamedGuide, NewestStay, WellLedLeadAlone}
+use Rattle.sc_calm_answers_law.specs.FoundRows.{IsOrdersRow, OrdersRowsFind, OrdersRowsMeet}
+use Rattle.sc_calm_answers_law.specs.SentJournals.{IsQuietWhileYoung, NextRowsAreSent, SentReplicas}
+use Rattle.sc_calm_answers_law.specs.Meeting.{IsNoRequest, IsPlainAt}
+use Rattle.sc_calm_charts_law.specs.Charting.{chart_at, all_replicas}
+use Rattle.sc_calm_charts_law.specs.Fronts.{quiet_front}
+use Rattle.sc_budget_law.specs.AskingQuiet.{replicas_after, DoHintsRise}
+use Rattle.sc_budget_law.proofs.BetweenSteps.{each_numbered}
+use Rattle.sc_calm_answers_law.specs.KnownFronts.{FrontsAreFound}
+use Rattle.sc_calm_answers_law.specs.Journal.{IsCalmJournal, IsFront, AreSent, GoesOnBy}
+use Rattle.sc_calm_answers_law.specs.JournalUnder.{IsUnder, IsYoungAt}
+use Rattle.sc_calm_answers_law.specs.Asking.{AllLeadAlone}
+use Rattle.sc_calm_answers_law.specs.KeptFinding.{CountsEntries, IsKnownMail, IsKnownDelivery, OrderRowsFindCalm}
+use Rattle.sc_calm_answers_law.specs.Viewing.{ViewsAgree}
+use Rattle.sc_calm_answers_law.specs.Children.{ChildrenWereNowhere}
+use Rattle.sc_calm_answers_law.specs.Young.{IsUnanswered, YoungGroupsStay}
+use Rattle.sc_calm_answers_law.specs.TrueUnder.{AreSeen, IsTrueSince}
+use Rattle.sc_calm_answers_law.specs.TrueEntries.{LeadsSince}
+use Rattle.sc_calm_answers_law.specs.Finished.{EntriesAreTrue}
+use Rattle.sc_calm_answers_law.specs.Unsettled.{MailComesUnsettled}
+use Rattle.sc_calm_answers_law.specs.TrueGoing.{AskedGroupsStood, GoesOnSince, TrueOrdersGoOn}
+use Rattle.sc_calm_answers_law.specs.Works.{IsGuidedRow, DeliveriesKeepWork, WorkStandsAlone}
+use Rattle.sc_calm_answers_law.specs.OrderedEntries.{FlightsAreEntries}
+use Rattle.sc_calm_answers_law.specs.Ordered.{IsHomelyJournal, IsNamedGroup, IsOfJournal, IsOrderedSince, IsGivenBesides, DeliveriesKeepOrdered}
+use Rattle.sc_calm_answers_law.proofs.OrderedKnown as at_row
+use Rattle.sc_calm_answers_law.proofs.OrderedKnown.{named_there}
+use Rattle.sc_calm_answers_law.proofs.Placing.{place_of}
+use Rattle.sc_calm_answers_law.proofs.Sending.{known_after}
+use Rattle.sc_calm_requests_law.specs.Starts.{LawfulReplicasAreNamedOnce}
+use Rattle.sc_calm_mail_law.specs.Posted.{MailMayCome}
+use Rattle.sc_orderly_law.specs.Timely.{AreInTime}
+use Rattle.sc_calm_scenes_law.specs.Turns.{LeadsAlone}
+use Rattle.sc_base.specs.declared.ops.Op.{Op}
+
+-- mail that asks elsewhere, or any other
+elsewhere_or : (body : MailBody) → ((tx coord : Draw) × (hint : Option ℕ) × (body ≡ TxElsewhere tx coord hint)) ⊎ ((tx coord : Draw) (hint : Option ℕ) → body ≡ TxElsewhere tx coord hint → ⊥)
+elsewhere_or (TxElsewhere tx coord hint) = inl (tx, coord, hint, refl)
+elsewhere_or (Request group client seq op) = inr (λ tx coord hint e. cc)
+elsewhere_or (Answer group seq answer) = inr (λ tx coord hint e. cc)
+elsewhere_or (Prepare group ballot from_slot) = inr (λ tx coord hint e. cc)
+elsewhere_or (Promise group ballot reports) = inr (λ tx coord hint e. cc)
+elsewhere_or (Accept group ballot slot command) = inr (λ tx coord hint e. cc)
+elsewhere_or (Accepted group ballot slot) = inr (λ tx coord hint e. cc)
+elsewhere_or (Nack group promised) = inr (λ tx coord hint e. cc)
+elsewhere_or (Learn group slot command) = inr (λ tx coord hint e. cc)
+elsewhere_or (Ask group from_slot) = inr (λ tx coord hint e. cc)
+elsewhere_or (Install group slot base sets) = inr (λ tx coord hint e. cc)
+elsewhere_or (TxPrepare tx offer) = inr (λ tx_ coord hint e. cc)
+elsewhere_or (TxVote tx coord part vote) = inr (λ tx_ coord_ hint e. cc)
+elsewhere_or (TxOutcome tx part outcome) = inr (λ tx_ coord hint e. cc)
+elsewhere_or (TxWatch tx watch) = inr (λ tx_ coord hint e. cc)
+elsewhere_or (TxWatched tx coord part vote) = inr (λ tx_ coord_ hint e. cc)
+elsewhere_or (Told order result) = inr (λ tx coord hint e. cc)
+
+-- a body that is no request
+no_request : (body : MailBody) → ((group : Draw) (client seq : ℕ) (op : Op) → body ≡ Request group client seq op → ⊥) → IsNoRequest body
+no_request (Request group client seq op) none = none group client seq op refl
+no_request (Answer group seq answer) none = tt
+no_request (Prepare group ballot from_slot) none = tt
+no_request (Promise group ballot reports) none = tt
+no_request (Accept group ballot slot command) none = tt
+no_request (Accepted group ballot slot) none = tt
+no_request (Nack group promised) none = tt
+no_request (Learn group slot command) none = tt
+no_request (Ask group from_slot) none = tt
+no_request (Install group slot base sets) none = tt
+no_request (TxPrepare tx offer) none = tt
+no_request (TxVote tx coord part vote) none = tt
+no_request (TxOutcome tx part outcome) none = tt
+no_request (TxElsewhere tx coord hint) none = tt
+no_request (TxWatch tx watch) none = tt
+no_request (TxWatched tx coord part vote) none = tt
+no_request (Told order result) none = tt
+
+module _ (all_bounded : ValidScenariosAreBounded) (few_law : SlotsAreLeft) (logs_law : ReplicasRunLogs) (views_law : ViewsAreReplicas) (rosters_law : SlotsHaveRosters) (last_law : ReplicasLast) (next_law : NextRowsAreSent) (newest_law : NewestStay) (found_law : FrontsAreFound)
+    (agree_law : ViewsAgree) (alone_law : WellLedLeadAlone) (plain_law : SentReplicas) (meets_law : OrdersRowsMeet) (finds_law : OrdersRowsFind) (nowhere_law : ChildrenWereNowhere) (fresh_law : FreshGroupsStay) (young_law : YoungGroupsStay) (unsettled_law : MailComesUnsettled) (asked_law : AskedGroupsStood) (true_law : TrueOrdersGoOn)
+    (work_law : DeliveriesKeepWork) (stands_law : WorkStandsAlone) (calm_law : OrderRowsFindCalm) (entries_law : EntriesAreTrue) (flights_law : FlightsAreEntries) (come_law : MailMayCome) (once_law : LawfulReplicasAreNamedOnce) (words : ℕ → ℕ → ℕ × ℕ) (scenario : Scenario) (first : Base) (journal quiet rows : Rows) (seat : Seat Player) (number : ℕ) (calm : IsCalmJournal words scenario journal)
+    (home : IsHomelyJournal words scenario journal) (o : IsOrderedSince words scenario first journal quiet rows) (on : GoesOnBy words scenario journal rows seat number) (given : IsGivenBesides words scenario rows seat number) where
+  abbrev all : List (Seat Player)
+  all = births as_nodes scenario
+
+  abbrev s : System Player Mail OrderLine
+  s = players words (births as_nodes scenario)
+
+  abbrev row : Row Mail OrderLine
+  row = row_of player_table seat rows (Deliver number)
+
+  abbrev then : Rows
+  then = with_event rows seat (Deliver number)
+
+  abbrev under : IsUnder words scenario first journal quiet rows
+  under = o.under
+
+  young : (base : Base) → Among base (groups_at as_nodes scenario.groups journal) → IsQuietWhileYoung words all rows base
+  young = at_row.young_quiet last_law words scenario first journal quiet rows o.behind seat number home o.rows_are under on
+
+  guide_of : (name : Draw) → IsNamedGroup scenario journal name → IsNamedGuide words all rows seat (Deliver number) name
+  guide_of = at_row.guide_of few_law logs_law views_law rosters_law next_law newest_law found_law words scenario journal rows seat (Deliver number) calm home on.front on.seated on.timely under.sent under.reached young
+
+  before : AreInTime s rows
+  before = at_row.before few_law logs_law views_law rosters_law next_law newest_law found_law words scenario journal rows seat (Deliver number) calm home on.front on.seated on.timely under.sent under.reached young
+
+  named : (name : Draw) → IsThere all rows name → IsNamedGroup scenario journal name
+  named = at_row.named few_law logs_law views_law rosters_law next_law newest_law found_law words scenario journal rows seat (Deliver number) calm home on.front on.seated on.timely under.sent under.reached young
+
+  named_quiet : (name : Draw) → IsThere all quiet name → IsNamedGroup scenario journal name
+  named_quiet = named_there found_law words scenario journal quiet calm home under.rests.front
+
+  abbrev sent_after : AreSent words scenario journal then
+  sent_after = at_row.sent_after few_law logs_law views_law rosters_law next_law newest_law found_law words scenario journal rows seat (Deliver number) calm home on.front on.seated on.timely under.sent under.reached young
+
+  seen : AreSeen scenario quiet
+  seen name node = agree_law.nodes scenario quiet name node (all_bounded scenario calm.valid) (found_law words scenario journal quiet calm under.rests.front).homes
+
+  -- a mail that is delivered is of a group of the journal, which has a replica
+  mail_known : (mail : Mail) → numbered (mails rows) number ≡ Some mail → IsOfJournal scenario journal mail × ((name : Draw) → group_of_mail mail.body ≡ Some name → IsThere all rows name)
+  mail_known mail at =
+      let d = at_row.delivered last_law words scenario first journal quiet rows o.behind seat number home o.rows_are under on in
+      let both : Some d.mail ≡ Some mail = sym d.sent ∙ at in
+      let same : d.mail ≡ mail = cc in
+      let is = is_born-from s seat.who seat on.seated in
+      let first_known = (subst (Each (IsOfJournal scenario journal)) d.first (o.known seat.who is)).0 in
+      let known = subst (IsOfJournal scenario journal) same first_known in (
+        known,
+        λ name of. elim (at_row.there_now last_law words scenario first journal quiet rows o.behind seat number home o.rows_are under on name (known name of)) [
+          | inl there ↦ there
+          | inr none ↦ absurd (subst (λ (m : Mail). group_of_mail m.body ≡ Some name → ⊥) same (subst (Each (λ (m : Mail). group_of_mail m.body ≡ Some name → ⊥)) d.first (none seat.who is)).0 of)
+        ],
+      )
+
+  unsettled : (mail : Mail) (group : Draw) (node : NodeState) (r : ReplicaState) → IsTaking words all rows seat number mail group node → replica_of group node.replicas ≡ Some r → IsUnsettled r mail.body
+  unsettled mail group node r taking here = elim (elsewhere_or mail.body) [
+    | inl e ↦ subst (IsUnsettled r) (sym e.3) (given.elsewhere mail group node r e.0 e.1 e.2 taking here e.3)
+    | inr other ↦ unsettled_law words scenario first journal quiet rows seat number mail group node r under.stage
+        (record { calm = calm; rests = under.rests; seen = seen; untouched = under.untouched; true_since = o.true_since; taking = taking; here = here }) other
+  ]
+
+  viewed : (group : Draw) (node : NodeState) (r : ReplicaState) → value player_table seat rows ≡ Node node → replica_of group node.replicas ≡ Some r → view_at all rows group seat.who ≡ Some r
+  viewed group node r is here = view_was all rows seat (Deliver number) group on.seated (Node node) is ∙ here
+
+  -- one that runs leads its group alone, with only work in flight
+  lead_at : (name : Draw) (node : ℕ) (r : ReplicaState) → view_at all rows name node ≡ Some r → r.running ≡ true → LeadsAlone all rows name node r
+  lead_at name node r e runs =
+      let g = named name (node, r, e) in
+      let t = under.sent g.0 g.1 in
+      subst (λ n. LeadsAlone all rows n node r) g.2 (alone_law.alone _ _ _ words all rows g.0 t.course node r t.led (ap (λ n. view_at all rows n node) g.2 ∙ e) runs).0
+
+  leads_since : (name : Draw) (node : ℕ) (r : ReplicaState) → view_at all rows name node ≡ Some r → r.running ≡ true → LeadsSince words scenario first journal quiet rows name node r under.stage
+  leads_since name node r e runs = record {
+    calm = calm;
+    rests = under.rests;
+    seen = seen;
+    front = under.front;
+    sent = under.sent;
+    untouched = under.untouched;
+    true_since = o.true_since;
+    leads = lead_at name node r e runs;
+    alone = stands_law.alone o.task name r (o.work.replicas name node r e);
+  }
+
+  orders_row : IsOrdersRow words scenario rows seat (Deliver number)
+  orders_row = record {
+    bounded = all_bounded scenario calm.valid;
+    seated = on.seated;
+    timely = on.timely;
+    under = (under.stage, under.untouched.stands);
+    groups = λ name node r e. guide_of name (named name (node, r, e));
+    states = λ n mail group slot state sets e at body.
+        (let same : n ≡ number = cc in
+        let of : group_of_mail mail.body ≡ Some group = ap group_of_mail body in
+        let k = mail_known mail (subst (λ m. numbered (mails rows) m ≡ Some mail) same at) in
+        (guide_of group (k.0 group of), k.1 group of));
+    unsettled = λ n mail group node r e taking here. (let same : n ≡ number = cc in unsettled mail group node r (subst (λ m. IsTaking words all rows seat m mail group node) same taking) here);
+    requests = λ n mail group client seq op e at body.
+        (let same : n ≡ number = cc in
+        work_law.unasked words all rows seat number o.task on.seated on.timely o.work mail group client seq op (subst (λ m. numbered (mails rows) m ≡ Some mail) same at) body);
+    votes = λ n mail group node r group_ ballot slot e taking here runs body.
+        (let view = viewed group node r taking.is_node here in
+        (stands_law.alone o.task group r (o.work.replicas group seat.who r view), entries_law words scenario first journal quiet rows group seat.who r under.stage (leads_since group seat.who r view runs)));
+    told = λ line e. cc;
+    clients = λ client is. absurd (given.nodes client is);
+  }
+
+  -- what is delivered meets what an order needs; and children were nowhere
+  guided_row : IsGuidedRow words scenario rows seat number
+  guided_row = record { seated = on.seated; timely = on.timely; meets = meets_law words scenario rows seat number orders_row; groups = λ name node r e. guide_of name (named name (node, r, e)) }
+
+  finds : FindsOrder words all rows seat (Deliver number)
+  finds =
+      finds_law words scenario rows seat (Deliver number) orders_row
+      (λ n mail group node r e taking here. (let same : n ≡ number = cc in given.children mail group node r (subst (λ m. IsTaking words all rows seat m mail group node) same taking) here))
+
+  unanswered : IsUnanswered rows number
+  unanswered = work_law.unanswered words all rows seat number o.task on.seated on.timely o.work
+
+  goes_since : GoesOnSince words scenario first journal quiet rows seat number under.stage
+  goes_since = record { calm = calm; rests = under.rests; seen = seen; untouched = under.untouched; true_since = o.true_since; goes = on; finds = finds }
+
+  delivered_so : IsDelivered words all quiet rows seat number
+  delivered_so = record {
+    seated = on.seated;
+    timely = on.timely;
+    finds = finds;
+    unanswered = unanswered;
+    children = λ mail group node r taking here. nowhere_law words scenario quiet rows seat number o.line o.task o.is_task guided_row o.work mail group node r taking here;
+    asked = λ deal to at. (asked_law words scenario first journal quiet rows seat number under.stage goes_since deal to at).1;
+  }
+
+  next_stage : (later : Stage) × AreUntouched words all quiet then later × ((later ≡ under.stage) ⊎ GoesBy rows (Deliver number) under.stage later)
+  next_stage = fresh_law.goes_on words all quiet rows seat number under.stage under.untouched delivered_so
+
+  young_after : (base : Base) → Among base (groups_at as_nodes scenario.groups journal) → IsNowhere all quiet base.core.id → IsYoungAt words all then base
+  young_after base among nowhere = young_law.stays words scenario journal quiet rows seat number next_stage.0 calm on unanswered next_stage.1 base among nowhere (under.young base among nowhere)
+
+  under_after : IsUnder words scenario first journal quiet then
+  under_after = record {
+    rests = under.rests;
+    front = on.front;
+    sent = sent_after;
+    reached = λ base among. at_row.reached_after few_law logs_law views_law rosters_law next_law newest_law found_law words scenario journal rows seat (Deliver number) calm home on.front on.seated on.timely under.sent under.reached young base among (λ nowhere. young_after base among (at_row.never_there last_law words scenario first journal quiet rows o.behind seat number home o.rows_are under on base.core.id nowhere));
+    stage = next_stage.0;
+    untouched = next_stage.1;
+    young = young_after;
+  }
+
+  true_after : IsTrueSince scenario quiet then next_stage.0
+  true_after =
+      true_law words scenario first journal quiet rows seat number under.stage next_stage.0 goes_since delivered_so next_stage.1 next_stage.2
+
+  keeps : IsOrderedSince words scenario first journal quiet then
+  unfolding under_after
+  keeps = record {
+    behind = o.behind ++ row ∷ [];
+    rows_are = ap (λ l. l ++ row ∷ []) o.rows_are ∙ append_assoc quiet o.behind (row ∷ []);
+    under = under_after;
+    true_since = true_after;
+    line = o.line;
+    task = o.task;
+    is_task = o.is_task;
+    work = work_law.keeps words scenario rows seat number o.task guided_row o.work;
+    known = known_after words scenario journal quiet rows seat number next_stage.0 on.seated on.timely unanswered named_quiet next_stage.1 o.known;
+  }
+
+  -- ---- what it finds
+
+  -- a replica that a player has is one of a group of the journal
+  alone : AllLeadAlone all rows
+  alone r a runs =
+      let front = at_row.here few_law logs_law views_law rosters_law next_law newest_law found_law words scenario journal rows seat (Deliver number) calm home on.front on.seated on.timely under.sent under.reached young in
+      let f = found_law words scenario journal rows calm front in
+      let p = place_of all_bounded once_law agree_law words scenario rows calm.valid f.lawful f.homes r a in
+      (p.0, lead_at (name_of r) p.0 r p.1 runs)
+
+  mail_so : (mail : Mail) (node : NodeState) (name : Draw) → numbered (mails rows) number ≡ Some mail → value player_table seat rows ≡ Node node → group_of_mail mail.body ≡ Some name → IsKnownMail scenario journal mail node name
+  mail_so mail node name at is of = record {
+    base = g.0;
+    among = g.1;
+    named = g.2;
+    plain = plain_at (replica_of name node.replicas) refl;
+    unsettled = λ r here. unsettled mail name node r taking here;
+    unasked = no_request mail.body (λ group client seq op body. work_law.unasked words all rows seat number o.task on.seated on.timely o.work mail group client seq op at body);
+    counts = λ r here runs.
+        (let view = viewed name node r is here in
+        let w = o.work.replicas name seat.who r view in
+        record { alone = stands_law.alone o.task name r w; calls = λ some. w.calls; entries = Each-from (λ (flight : Flight Command). IsEntry flight.value r × (length (applied r.group flight.value).0.core.members ≤ 9)) r.leader.flights (flights_law words scenario first journal quiet rows name seat.who r under.stage (leads_since name seat.who r view runs)) });
+  }
+    where
+      g : IsNamedGroup scenario journal name
+      g = (mail_known mail at).0 name of
+
+      taking : IsTaking words all rows seat number mail name node
+      taking = record { seated = on.seated; timely = on.timely; is_node = is; me_is = finds.me_is node is; sent = at; comes = each_numbered (λ (m : Mail). may_come m.from m.body ≡ true) (mails rows) number mail (come_law words scenario rows (all_bounded scenario calm.valid) before) at; named = of }
+
+      plain_at : (x : Option ReplicaState) → replica_of name node.replicas ≡ x → IsPlainAt x
+      plain_at None here = tt
+      plain_at (Some r) here = λ off. plain_law.plain _ _ _ words all rows g.0 (under.sent g.0 g.1) seat.who r (ap (λ n. view_at all rows n seat.who) g.2 ∙ viewed name node r is here)
+
+  found : (far sent : ℕ) → quiet_front s rows ≡ quiet → DoHintsRise (replicas_after scenario quiet) (chart_at far sent s rows).ways → FindsCalm (chart_at far sent s rows) all rows seat (Deliver number)
+  found far sent front rise =
+      calm_law words scenario first journal quiet rows far sent seat number calm under on sent_after
+      (record { alone = alone; homes = (found_law words scenario journal quiet calm under.rests.front).homes; front = front; rise = rise; nodes = given.nodes; mail = mail_so })
+
+pub deliveries_keep : ValidScenariosAreBounded → SlotsAreLeft → ReplicasRunLogs → ViewsAreReplicas → SlotsHaveRosters → ReplicasLast → NextRowsAreSent → NewestStay → FrontsAreFound → ViewsAgree → WellLedLeadAlone → SentReplicas → OrdersRowsMeet → OrdersRowsFind → ChildrenWereNowhere → FreshGroupsStay → YoungGroupsStay
+    → MailComesUnsettled → AskedGroupsStood → TrueOrdersGoOn → DeliveriesKeepWork → WorkStandsAlone → OrderRowsFindCalm → EntriesAreTrue → FlightsAreEntries → MailMayCome → LawfulReplicasAreNamedOnce → DeliveriesKeepOrdered
+deliveries_keep all_bounded few_law logs_law views_law rosters_law last_law next_law newest_law found_law agree_law alone_law plain_law meets_law finds_law nowhere_law fresh_law young_law unsettled_law asked_law true_law work_law stands_law calm_law entries_law flights_law come_law once_law words scenario first journal quiet rows seat number calm home o on given = (
+  keeps all_bounded few_law logs_law views_law rosters_law last_law next_law newest_law found_law agree_law alone_law plain_law meets_law finds_law nowhere_law fresh_law young_law unsettled_law asked_law true_law work_law stands_law calm_law entries_law flights_law come_law once_law words scenario first journal quiet rows seat number calm home o on given,
+  found all_bounded few_law logs_law views_law rosters_law last_law next_law newest_law found_law agree_law alone_law plain_law meets_law finds_law nowhere_law fresh_law young_law unsettled_law asked_law true_law work_law stands_law calm_law entries_law flights_law come_law once_law words scenario first journal quiet rows seat number calm home o on given,
+)

@@ -1,0 +1,210 @@
+-- A quiet front of a calm journal rests.
+use Rattle.std.proofs.Common.{◌≡◌, ℕ, ◌+◌, ◌<◌, ◌≤◌, cond, true, false, true≢false, Bool, List, [], ◌∷◌, ◌++◌, length, Option, Some, None, ◌⊎◌, inl, inr, refl, sym, ◌∙◌, ap, subst, arith, append-nil}
+use Rattle.std.specs.Prelude.{is_some}
+use Rattle.std.proofs.lemmas.Bool.{cases_Bool, cases_lt}
+use Rattle.std.proofs.lemmas.Option.{none-some}
+use Rattle.sc_base.specs.Among.{Among, Each}
+use Rattle.sc_base.specs.declared.names.Ballot.{Ballot}
+use Rattle.sc_base.specs.declared.names.Draw.{Draw}
+use Rattle.sc_cmd.specs.declared.commands.Command.{Command}
+use Rattle.sc_cmd.specs.declared.cores.Base.{Base}
+use Rattle.sc_cmd.specs.declared.cores.Lock.TheVariants.{Free}
+use Rattle.sc_cmd.specs.declared.links.Route.{Route}
+use Rattle.sc_cmd.specs.declared.orders.OrderLine.{OrderLine}
+use Rattle.sc_mail.specs.declared.bodies.Mail.{Mail}
+use Rattle.sc_mail.specs.declared.bodies.MailBody.{MailBody}
+use Rattle.sc_mail.specs.declared.bodies.MailBody.TheVariants.{Request, Answer, Prepare, Promise, Accept, Accepted, Nack, Learn, Ask, Install, TxPrepare, TxVote, TxOutcome, TxElsewhere, TxWatch, TxWatched, Told}
+use Rattle.sc_mail.specs.declared.roles.Role.TheVariants.{Node, Client}
+use Rattle.sc_machine_table.specs.Group.{Group}
+use Rattle.sc_paxos_words.specs.Ballots.{IsAtLeast}
+use Rattle.sc_paxos_words.specs.declared.reports.Report.{Report}
+use Rattle.sc_paxos_words.proofs.ListLemmas.{Each-weaker, Each-from}
+use Rattle.sc_actor.specs.declared.actors.Seat.{Seat}
+use Rattle.sc_actor.specs.Replay.{value}
+use Rattle.sc_actor.specs.System.{System}
+use Rattle.sc_orderly_law.specs.Orderly.{is_born, rest}
+use Rattle.sc_orderly_law.proofs.InTime.{in_time_tidy}
+use Rattle.sc_orderly_law.proofs.Resting.{quiet-empty}
+use Rattle.sc_node_table.specs.Replica.{ReplicaState, next, taken_at}
+use Rattle.sc_scenario.specs.declared.scenarios.Scenario.{Scenario}
+use Rattle.sc_scenario.specs.Valid.{ValidScenariosAreBounded}
+use Rattle.sc_sound.specs.GroupsOf.{groups_at}
+use Rattle.sc_sound.specs.Players.{Player, player_table, births, node_seat, as_nodes}
+use Rattle.sc_calm_law.specs.Charts.{players}
+use Rattle.sc_calm_law.specs.Laws.{MayPump}
+use Rattle.sc_calm_law.specs.Quiet.{HasReplica, StandsQuiet, IsGoneQuiet, IsAtRest}
+use Rattle.sc_calm_law.specs.Totals.{Rows}
+use Rattle.sc_following_law.specs.Following.{Course, marks_of, mark_of, named_mark}
+use Rattle.sc_following_law.specs.Leading.{IsLeadOf}
+use Rattle.sc_calm_rows_law.specs.Groups.{view_at, progress_at}
+use Rattle.sc_calm_groups_law.specs.Tops.{NodesKeepTops, NodesAreBornTopped}
+use Rattle.sc_calm_groups_law.specs.Rests.{QuietGroupsAreLed, IsLedQuietly}
+use Rattle.sc_calm_logs_law.specs.Logged.{logged_sets}
+use Rattle.sc_calm_led_law.specs.Led.{over_at}
+use Rattle.sc_calm_led_law.specs.States.{state_at}
+use Rattle.sc_calm_led_law.specs.Tellers.{tellers_at}
+use Rattle.sc_calm_answers_law.specs.Rests.{replicas_at, IsQuietGroup, SawNoMore, QuietGroupsStand, QuietGroupsAreGone, IsDone, QuietReplicasRest, QuietReplicasAreKept}
+use Rattle.sc_calm_answers_law.proofs.Facts.{even, has_one}
+use Rattle.sc_calm_answers_law.specs.SentJournals.{IsSentThrough, SentReplicas}
+use Rattle.sc_budget_law.specs.AskingQuiet.{replicas_after, IsQuietJournal}
+use Rattle.sc_budget_law.specs.AtRest.{IsKept, frame_at_rest}
+use Rattle.sc_budget_law.specs.Between.{Other, mark}
+use Rattle.sc_calm_answers_law.specs.KnownFronts.{IsQuietFront, IsKnownGroup, IsFoundFront, FrontsAreFound, QuietFrontsHaveGroups, QuietLogsAreExecuted}
+use Rattle.sc_calm_answers_law.specs.Known.{FrontsAreKnown, FrontsAreReachable, FrontsAreTakenIn, FrontsAreLinked, StillFrontsAreFree}
+use Rattle.sc_calm_answers_law.specs.Links.{AreAllFree}
+use Rattle.sc_calm_answers_law.specs.Noted.{FrontsAreNoted}
+use Rattle.sc_calm_answers_law.specs.There.{FrontsAreThere, FrontsHaveMembers}
+use Rattle.sc_calm_answers_law.proofs.Known.{newest_state}
+use Rattle.sc_calm_scenes_law.specs.Fresh.{IsThere}
+use Rattle.sc_calm_answers_law.specs.Resting.{RestsAt}
+use Rattle.sc_calm_answers_law.proofs.BetweenRequests.{front_timely}
+use Rattle.sc_calm_answers_law.specs.OverEnding.{EndsQuietly, QuietFrontsRest}
+use Rattle.sc_calm_answers_law.proofs.Viewing.{stands_as, gone_as}
+use Rattle.sc_calm_answers_law.proofs.Desk.{desk_marks}
+use Rattle.sc_calm_answers_law.proofs.Nodes.{node_value}
+
+module _ (all_bounded : ValidScenariosAreBounded) (found_law : FrontsAreFound) (groups_law : QuietFrontsHaveGroups) (executed_law : QuietLogsAreExecuted) (known_law : FrontsAreKnown) (reach_law : FrontsAreReachable) (taken_law : FrontsAreTakenIn) (linked_law : FrontsAreLinked) (free_law : StillFrontsAreFree)
+    (stand_law : QuietGroupsStand) (gone_law : QuietGroupsAreGone) (rest_law : QuietReplicasRest) (kept_law : QuietReplicasAreKept) (led_law : QuietGroupsAreLed) (keep_law : NodesKeepTops) (topped_law : NodesAreBornTopped) (sent_law : SentReplicas) (there_law : FrontsAreThere) (members_law : FrontsHaveMembers) (noted_law : FrontsAreNoted) (words : ℕ → ℕ → ℕ × ℕ) (scenario : Scenario) (first : Base) (journal front : Rows)
+    (q : IsQuietFront words scenario journal front) (ends : EndsQuietly words scenario first front) where
+  abbrev at : Draw → ℕ → Option ReplicaState
+  at = replicas_after scenario front
+
+  abbrev s : System Player Mail OrderLine
+  s = players words (births as_nodes scenario)
+
+  found : IsFoundFront words scenario journal front
+  found = found_law words scenario journal front q.calm q.begins
+
+  free : AreAllFree scenario front
+  free = free_law words scenario journal front q ends.still
+
+  module _ (base : Base) (a : Among base (groups_at as_nodes scenario.groups front)) where
+    t : IsSentThrough (logged_sets as_nodes base journal) (over_at as_nodes base journal) (tellers_at as_nodes scenario base journal) words (births as_nodes scenario) front base
+    t = q.sent base (found.later base a)
+
+    known : IsKnownGroup words scenario journal front base
+    known = groups_law words scenario journal front base q (found.later base a) (there_law words scenario journal front q base a)
+
+    abbrev course : Course
+    course = known.course
+
+    newest_free : (state_at as_nodes base journal course.newest).core.lock ≡ Free
+    newest_free = ap (λ (g : Group). g.core.lock) (newest_state executed_law found_law words scenario journal front q base a (tellers_at as_nodes scenario base journal) course known.quiet) ∙ free base a
+
+    -- ---- one that stands
+
+    module _ (stands : course.gone ≡ false) where
+      lead : HasReplica (replicas_at scenario front) base.core.id course.ballot.node
+      lead =
+          let e = (even (tellers_at as_nodes scenario base journal) words scenario journal front base course known.quiet).led stands in
+          let executed = e.leads.executed in
+          let some = known.quiet.led.followed.follows.some in
+          has_one (tellers_at as_nodes scenario base journal) words scenario journal front base course known.quiet course.ballot.node (omega (arith, executed, some))
+
+      led : IsLedQuietly (logged_sets as_nodes base journal) (births as_nodes scenario) front base course lead.0
+      led =
+          led_law.stands (logged_sets as_nodes base journal) (over_at as_nodes base journal) (tellers_at as_nodes scenario base journal) words (births as_nodes scenario) front base course lead.0 known.quiet.one.log.rosters known.quiet.timely known.quiet.quiet known.quiet.strangers
+          known.quiet.led stands lead.1
+
+      sent_lead : IsLeadOf (logged_sets as_nodes base journal) (progress_at (births as_nodes scenario) front base t.course) lead.0
+      sent_lead = (t.led.followed.given.gives course.ballot.node lead.0 lead.1 led.runs).0
+
+      ballots : t.course.ballot ≡ course.ballot
+      ballots = sym sent_lead.led.may.ballot ∙ led.leads.led.may.ballot
+
+      bounds : t.course.bound ≤ course.bound
+      bounds = elim (cases_lt course.bound t.course.bound) [
+        | inl lt ↦ (
+            let low = led.leads.led.may.low in
+            let taken = sent_lead.led.may.taken course.bound low lt in
+            let none = led.leads.led.may.free course.bound (omega arith) in
+            absurd (true≢false (sym taken ∙ ap is_some none)))
+        | inr ge ↦ ge
+      ]
+
+      saw : SawNoMore (replicas_at scenario front) base course
+      saw node r e =
+          let is = sent_law.saw (logged_sets as_nodes base journal) (over_at as_nodes base journal) (tellers_at as_nodes scenario base journal) words (births as_nodes scenario) front base t node r e in
+          let high = bounds in (
+            subst (λ (b : Ballot). IsAtLeast b r.top) ballots is.0,
+            Each-weaker (λ (report : Report Command). report.slot < t.course.bound) (λ (report : Report Command). report.slot < course.bound) (λ report lt. omega (arith, lt, high)) r.acceptor.accepted is.1,
+          )
+
+      quiet_stands : StandsQuiet at base.core.id
+      quiet_stands =
+          stands_as (replicas_at scenario front) at (λ name node. found.views name node) base.core.id
+          (stand_law (tellers_at as_nodes scenario base journal) words scenario journal front base course known.quiet stands saw
+          (λ r e. linked_law words scenario journal front (tellers_at as_nodes scenario base journal) base course r q free a known.quiet stands e)).0
+
+    quiet_gone : course.gone ≡ true → IsGoneQuiet at base.core.id
+    quiet_gone gone =
+        gone_as (replicas_at scenario front) at (λ name node. found.views name node) base.core.id
+        (gone_law (tellers_at as_nodes scenario base journal) words scenario journal front base course known.quiet gone
+        (λ into e. taken_law words scenario journal front (tellers_at as_nodes scenario base journal) base course into q free a known.quiet e))
+
+    group_quiet : StandsQuiet at base.core.id ⊎ IsGoneQuiet at base.core.id
+    group_quiet = elim (cases_Bool course.gone) [ inl gone ↦ inr (quiet_gone gone) | inr stands ↦ inl (quiet_stands stands) ]
+
+    seen : (node : ℕ) (r : ReplicaState) → at base.core.id node ≡ Some r → replicas_at scenario front base.core.id node ≡ Some r
+    seen node r e = sym (found.views base.core.id node) ∙ e
+
+    rest_here : (node : ℕ) (r : ReplicaState) → at base.core.id node ≡ Some r → IsAtRest r
+    rest_here node r e =
+        rest_law (tellers_at as_nodes scenario base journal) words scenario journal front base course known.quiet newest_free (λ n x f runs. ends.done base.core.id n x f runs) node r (seen node r e)
+
+    kept_here : (node : ℕ) (r : ReplicaState) → at base.core.id node ≡ Some r → IsKept base.core.id node r
+    kept_here node r e = kept_law.kept (tellers_at as_nodes scenario base journal) words scenario journal front base course known.quiet node r (seen node r e)
+
+    pump_here : (node : ℕ) (r : ReplicaState) → at base.core.id node ≡ Some r → MayPump r
+    pump_here node r e =
+        kept_law.pumps (tellers_at as_nodes scenario base journal) words scenario journal front base course known.quiet node r (seen node r e)
+        (λ off. sent_law.plain (logged_sets as_nodes base journal) (over_at as_nodes base journal) (tellers_at as_nodes scenario base journal) words (births as_nodes scenario) front base t node r (seen node r e))
+
+  -- ---- of each name
+
+  module _ (P : Draw → ℕ → ReplicaState → Type 0) (each : (base : Base) → Among base (groups_at as_nodes scenario.groups front) → (node : ℕ) (r : ReplicaState) → at base.core.id node ≡ Some r → P base.core.id node r) where
+    by_name : (name : Draw) (node : ℕ) (r : ReplicaState) → at name node ≡ Some r → P name node r
+    by_name name node r e =
+        let of = found.replicas name node r e in
+        subst (λ n. P n node r) of.named (each of.base of.among node r (subst (λ n. at n node ≡ Some r) (sym of.named) e))
+
+  empty : (who : ℕ) → is_born s who ≡ true → rest s front who ≡ []
+  empty who born = quiet-empty s front who (in_time_tidy s front (front_timely words scenario journal front q.calm q.begins)) born q.quiet
+
+  journal_is : IsQuietJournal words scenario first front
+  journal_is = record {
+    clients = ends.clients;
+    quiet = record {
+      groups = λ name node has. by_name (λ n w r. StandsQuiet at n ⊎ IsGoneQuiet at n) (λ base a w r e. group_quiet base a) name node has.0 has.1;
+      at_rest = by_name (λ n w r. IsAtRest r) rest_here;
+      rises = ends.rises;
+      answered = ends.answered;
+    };
+    kept = by_name (λ n w r. IsKept n w r) kept_here;
+    noted = noted_law words scenario journal front q free;
+    nodes = λ me one most. node_value keep_law topped_law scenario front me;
+    players = ends.players;
+    reached = ends.reached;
+    none = empty;
+    desk = λ who none. desk_marks (rest s front who) (λ name. ends.strangers name who none);
+  }
+
+  rests : RestsAt words scenario first journal front
+  rests = record {
+    front = q.begins;
+    calm = q.quiet;
+    is = journal_is;
+    sent = q.sent;
+    members = λ base among there. members_law words scenario journal front base q among there;
+    still = ends.still;
+    known = known_law words scenario journal front q free;
+    reach = reach_law words scenario journal front q free;
+    pumps = by_name (λ n w r. MayPump r) pump_here;
+    rounds = ends.rounds;
+    turn = ends.turn;
+    turns = ends.turns;
+  }
+
+pub quiet_fronts_rest : ValidScenariosAreBounded → FrontsAreFound → QuietFrontsHaveGroups → QuietLogsAreExecuted → FrontsAreKnown → FrontsAreReachable → FrontsAreTakenIn → FrontsAreLinked → StillFrontsAreFree → QuietGroupsStand → QuietGroupsAreGone → QuietReplicasRest → QuietReplicasAreKept
+    → QuietGroupsAreLed → NodesKeepTops → NodesAreBornTopped → SentReplicas → FrontsAreThere → FrontsHaveMembers → FrontsAreNoted → QuietFrontsRest
+quiet_fronts_rest = rests

@@ -1,0 +1,37 @@
+-- A quiet front of a calm journal rests, since whose last quiet front clients asked alone.
+use Rattle.std.proofs.Common.{◌≡◌, ℕ, List, ◌∷◌, ◌++◌}
+use Rattle.sc_cmd.specs.declared.cores.Base.{Base}
+use Rattle.sc_orderly_law.proofs.InTime.{in_time_tidy}
+use Rattle.sc_orderly_law.proofs.Resting.{quiet-empty}
+use Rattle.sc_scenario.specs.Valid.{ValidScenariosAreBounded}
+use Rattle.sc_scenario.specs.declared.scenarios.Scenario.{Scenario}
+use Rattle.sc_sound.specs.Players.{births, as_nodes}
+use Rattle.sc_calm_law.specs.Charts.{players}
+use Rattle.sc_calm_law.specs.Totals.{Rows}
+use Rattle.sc_calm_charts_law.specs.Charting.{chart_at}
+use Rattle.sc_budget_law.specs.AskingQuiet.{QuietJournalsAsk}
+use Rattle.sc_calm_requests_law.specs.OneLog.{LawfulLinesLeaveQuiet}
+use Rattle.sc_calm_ring_law.specs.Cuts.{QuietGroupsHaveCuts}
+use Rattle.sc_calm_ring_law.specs.Round.{StandingGroupsAreRound}
+use Rattle.sc_calm_answers_law.specs.Settings.{frames_after, QuietJournalsHaveFrames, QuietSettingsAreLinked}
+use Rattle.sc_calm_answers_law.specs.KnownFronts.{IsQuietFront, FrontsAreFound}
+use Rattle.sc_calm_answers_law.specs.KeptRising.{ChartHintsRise}
+use Rattle.sc_calm_answers_law.specs.Resting.{RestsAt}
+use Rattle.sc_calm_answers_law.specs.Requested.{IsKnownFront, IsRequested}
+use Rattle.sc_calm_answers_law.proofs.BetweenRequests.{front_timely}
+use Rattle.sc_calm_answers_law.proofs.Setting as quiet_of
+use Rattle.sc_calm_answers_law.specs.OverJournals.{RestsBesides, QuietJournalsRest, RequestsLeaveResting}
+
+pub requests_leave_resting : ValidScenariosAreBounded → QuietJournalsHaveFrames → ChartHintsRise → QuietJournalsAsk → QuietGroupsHaveCuts → StandingGroupsAreRound → QuietSettingsAreLinked → LawfulLinesLeaveQuiet → FrontsAreFound → QuietJournalsRest → RequestsLeaveResting
+requests_leave_resting all_bounded frames_law rise_law ask_law cuts_law round_law linked_law leave_law found_law rest_law words scenario first others far sent journal quiet after groups rests known asked q besides =
+    let s = players words (births as_nodes scenario) in
+    let whole = quiet ++ after in
+    let left =
+    leave_law words scenario first others quiet after (frames_after scenario quiet) (chart_at far sent s quiet).ways q.calm.valid groups rests.is
+    (quiet_of.frames all_bounded frames_law rise_law ask_law cuts_law round_law linked_law words scenario first others far sent journal quiet q.calm groups rests known)
+    (quiet_of.rise all_bounded frames_law rise_law ask_law cuts_law round_law linked_law words scenario first others far sent journal quiet q.calm groups rests known)
+    (quiet_of.linked all_bounded frames_law rise_law ask_law cuts_law round_law linked_law words scenario first others far sent journal quiet q.calm groups rests known)
+    (quiet_of.seated all_bounded frames_law rise_law ask_law cuts_law round_law linked_law words scenario first others far sent journal quiet q.calm groups rests known)
+    asked.requests (λ who born. quiet-empty s whole who (in_time_tidy s whole (front_timely words scenario journal whole q.calm q.begins)) born q.quiet)
+    (found_law words scenario journal whole q.calm q.begins).lawful in
+    rest_law words scenario first journal whole q left.0 besides

@@ -1,0 +1,181 @@
+-- Each group begins one round more at most while an order is under way.
+use Rattle.std.proofs.Common.{◌≡◌, ℕ, ◌+◌, ◌≤◌, true, false, true≢false, List, Option, Some, None, ◌⊎◌, inl, inr, refl, sym, ◌∙◌, ap, subst, arith}
+use Rattle.std.proofs.lemmas.Bool.{cases_Bool}
+use Rattle.sc_base.specs.Among.{Among}
+use Rattle.sc_base.specs.declared.names.Ballot.{Ballot}
+use Rattle.sc_base.specs.declared.names.Draw.{Draw}
+use Rattle.sc_cmd.specs.declared.cores.Base.{Base}
+use Rattle.sc_cmd.specs.declared.orders.OrderLine.{OrderLine}
+use Rattle.sc_actor.specs.declared.actors.Seat.{Seat}
+use Rattle.sc_actor.specs.declared.rows.Event.{Event}
+use Rattle.sc_actor.specs.declared.rows.Event.TheVariants.{Deliver, Tick, Go, Told, Crash, Drop, Again}
+use Rattle.sc_actor.specs.Mail.{mails}
+use Rattle.sc_actor.specs.System.{numbers_of}
+use Rattle.sc_orderly_law.specs.Orderly.{IsCalmEvent}
+use Rattle.sc_orderly_law.specs.Timely.{AreInTime}
+use Rattle.sc_scenario.specs.declared.scenarios.Scenario.{Scenario}
+use Rattle.sc_node_table.specs.Replica.{ReplicaState, Place}
+use Rattle.sc_sound.specs.Players.{Player, births, as_nodes}
+use Rattle.sc_calm_law.specs.Charts.{players}
+use Rattle.sc_calm_law.specs.Totals.{Rows}
+use Rattle.sc_following_law.specs.Following.{Course, Sets}
+use Rattle.sc_following_law.specs.Hints.{Tellers}
+use Rattle.sc_calm_orders_law.specs.Stages.{Deal, Stage, Still, Asks, IsAt}
+use Rattle.sc_calm_rows_law.specs.Groups.{view_at, taken_mark}
+use Rattle.sc_calm_rows_law.specs.Steps.{led_course, elected_course}
+use Rattle.sc_calm_rows_law.specs.Turns.{IsSeat, with_event, IsReplicasRow}
+use Rattle.sc_calm_groups_law.specs.Kinds.{IsGroupRow, RowPasses, RowRests, RowTakes, RowMakes, RowLeads, RowElects}
+use Rattle.sc_calm_groups_law.specs.Led.{Ends}
+use Rattle.sc_calm_groups_law.specs.Rows.{LeadsWell, ElectsWell}
+use Rattle.sc_calm_groups_law.specs.Through.{AreWellBorn, ScenariosAreWellBorn}
+use Rattle.sc_calm_mail_law.specs.Idle.{JournalsKeepIdle}
+use Rattle.sc_calm_scenes_law.specs.Kept.{IsTelling, GoesBy}
+use Rattle.sc_calm_scenes_law.specs.Scenes.{is_running, lead_of, works_of, work_at, scene_at}
+use Rattle.sc_calm_scenes_law.proofs.Newest.{lead_found, lead_runs}
+use Rattle.sc_calm_scenes_law.proofs.Viewing.{seat_among}
+use Rattle.sc_calm_answers_law.specs.SentJournals.{IsSentThrough, IsSentStep}
+use Rattle.sc_calm_answers_law.proofs.Asked.{leader_moves}
+use Rattle.sc_calm_answers_law.proofs.Comers.{HasAct}
+use Rattle.sc_calm_answers_law.specs.RiseRounds.{MustLead, HasOneRound, StaysGone, KeepsRound, RowsKeepRound}
+use Rattle.sc_calm_answers_law.proofs.Acts.{has_work}
+use Rattle.sc_calm_answers_law.proofs.RiseJournals.{calm_of}
+use Rattle.sc_calm_answers_law.proofs.Lists.{round_most}
+use Rattle.sc_calm_answers_law.proofs.RiseRising.{next_round}
+use Rattle.sc_calm_answers_law.proofs.Stages.{Before, work_leads, must_lead, step_back}
+
+-- nothing is taken where an order is told
+told_none : (event : Event OrderLine) (name : Draw) (rows : Rows) → IsTelling event → taken_mark name (mails rows) event ≡ None
+told_none (Told line) name rows t = refl
+told_none (Deliver number) name rows t = absurd t
+told_none Tick name rows t = absurd t
+told_none Go name rows t = absurd t
+told_none Crash name rows t = absurd t
+told_none (Drop mail) name rows t = absurd t
+told_none (Again mail) name rows t = absurd t
+
+module _ (words : ℕ → ℕ → ℕ × ℕ) (at : Sets) (over : Ends) (by : Tellers) (scenario : Scenario) (rows : Rows) (seat : Seat Player) (event : Event OrderLine) (base : Base) (idle : JournalsKeepIdle) (wb : AreWellBorn (births as_nodes scenario))
+    (timely : AreInTime (players words (births as_nodes scenario)) (with_event rows seat event)) (born : IsSeat (births as_nodes scenario) seat) (calm : IsCalmEvent (players words (births as_nodes scenario)) rows seat.who event)
+    (t : IsSentThrough at over by words (births as_nodes scenario) rows base) (s : IsSentStep at over by words (births as_nodes scenario) rows seat event base t.course) (stage : Stage) (a : IsAt stage (scene_at (births as_nodes scenario) rows)) where
+  abbrev all : List (Seat Player)
+  all = births as_nodes scenario
+
+  abbrev name : Draw
+  name = base.core.id
+
+  abbrev now : Course
+  now = t.course
+
+  -- ---- where one runs, it leads in the scene
+
+  one_runs : (node : ℕ) (o : Option ReplicaState) → view_at all rows base.core.id node ≡ o → is_running o ≡ true → (node ≡ now.ballot.node) × (now.runs ≡ true)
+  one_runs node None e runs = absurd (true≢false (sym runs))
+  one_runs node (Some r) e runs = (let given = t.led.followed.given.gives node r e runs in (given.1, given.0.runs))
+
+  led_runs : MustLead stage base.core.id → now.runs ≡ true
+  led_runs m =
+      let lead = must_lead (scene_at all rows) stage base.core.id a m in
+      (one_runs lead.0 (view_at all rows base.core.id lead.0) refl (lead_runs (view_at all rows base.core.id) (numbers_of all) lead.0 lead.1)).1
+
+  module _ (r : ReplicaState) (view : view_at (births as_nodes scenario) rows base.core.id seat.who ≡ Some r) (runs : r.running ≡ true) where
+    lead_is : lead_of (view_at all rows base.core.id) (numbers_of all) ≡ Some seat.who
+    lead_is = lead_found (view_at all rows base.core.id) (numbers_of all) seat.who (seat_among all seat born) (ap is_running view ∙ runs)
+        (λ other on. (one_runs other (view_at all rows base.core.id other) refl on).0 ∙ sym (t.led.followed.given.gives seat.who r view runs).1)
+
+    work_is : work_at (view_at all rows base.core.id) (lead_of (view_at all rows base.core.id) (numbers_of all)) ≡ works_of (Some r)
+    work_is = ap (work_at (view_at all rows base.core.id)) lead_is ∙ ap works_of view
+
+    -- an act at the one that leads is of the order
+    pub act_leads : HasAct r → MustLead stage base.core.id
+    act_leads has = (let w = has_work r has in work_leads (scene_at all rows) stage base.core.id w.0 a (subst (Among w.0) (sym work_is) w.1))
+
+  -- ---- the round
+
+  module _ (first : Ballot) where
+    abbrev IsOne : Course → Type 0
+    IsOne c = (c.ballot ≡ first) ⊎ ((c.ballot.round ≤ first.round + 1) × (c.runs ≡ true))
+
+    module _ (was : HasOneRound first stage base.core.id t.course) where
+      led_one : (r : ReplicaState) (after : Place) → IsReplicasRow all rows seat event base.core.id (Some r) after → r.running ≡ true → (l : LeadsWell at over by all rows seat event base now after) → IsOne (led_course l.led.bound now after.0)
+      led_one r after row_ runs l = elim (cases_Bool after.0.running) [
+        | inl on ↦ elim (was.one) [ inl same ↦ inl same | inr low ↦ inr (low.0, on) ]
+        | inr off ↦ inl (was.leads (act_leads r row_.was runs (has_act off)))
+      ]
+        where
+          has_act : after.0.running ≡ false → HasAct r
+          has_act off = elim (leader_moves words at over by scenario rows seat event base now idle wb s.through.one s.through.so timely born calm t.led r after row_ runs l.led.leads.takes) [
+            | inr goes ↦ goes.2 off
+            | inl same ↦ (let newest = (t.led.followed.given.gives seat.who r row_.was runs).0.newest in let some = (l.led.leads.stops off).0 in let up = l.led.leads.newest in absurd (omega (arith, same, newest, some, up)))
+          ]
+
+      elected_one : (r : ReplicaState) (after : Place) (ballot : Ballot) → IsReplicasRow all rows seat event base.core.id (Some r) after → r.running ≡ false → ElectsWell at all rows seat event base now ballot after → IsOne (elected_course now ballot)
+      elected_one r after ballot row_ off e = elim (was.one) [
+        | inr low ↦ absurd (true≢false (sym low.1 ∙ e.elects.idle))
+        | inl same ↦ (let up = next_round words at over by scenario rows seat event base now idle wb s.through.one s.through.so timely born calm t.led r after ballot row_ off e in
+            let most = round_most now.ballot r.top (t.asked.seen seat.who r row_.was) in
+            let old = ap (λ (b : Ballot). b.round) same in
+            inr (omega (arith, up, most, old), refl))
+      ]
+
+      one_then : (later : Course) → IsGroupRow at over by all rows seat event base t.course later → IsOne later
+      one_then later (RowPasses same leaves) = subst IsOne (sym same) (was.one)
+      one_then later (RowRests same r after row_ off still i) = subst IsOne (sym same) (was.one)
+      one_then later (RowTakes same r after mark row_ took steps i) = subst IsOne (sym same) (was.one)
+      one_then later (RowMakes same from slot state sets row_ took logs i) = subst IsOne (sym same) (was.one)
+      one_then later (RowLeads r after row_ runs counts l same) = subst IsOne (sym same) (led_one r after row_ runs l)
+      one_then later (RowElects r after ballot row_ off e same) = subst IsOne (sym same) (elected_one r after ballot row_ off e)
+
+      module _ (telling : IsTelling event → t.course.ballot ≡ first) (asked : (deal : Deal) (to : ℕ) → stage ≡ Asks deal to → deal.asked ≡ base.core.id → (t.course.ballot ≡ first) × (t.course.runs ≡ true)) (before : Before base.core.id stage) (begins : stage ≡ Still → IsTelling event) where
+        ballot_is : now.ballot ≡ first
+        ballot_is = elim (before) [
+          | inl m ↦ was.leads m
+          | inr new ↦ elim new [ inl still ↦ telling (begins still) | inr asks ↦ (asked asks.0 asks.1 asks.2 asks.3).0 ]
+        ]
+
+        -- none elects itself then
+        none_elects : (ballot : Ballot) (after : Place) → ElectsWell at all rows seat event base now ballot after → ⊥
+        none_elects ballot after e = elim (before) [
+          | inl m ↦ true≢false (sym (led_runs m) ∙ e.elects.idle)
+          | inr new ↦ elim new [
+            | inl still ↦ (let bad : None ≡ Some _ = sym (told_none event base.core.id rows (begins still)) ∙ e.told.2 in cc)
+            | inr asks ↦ true≢false (sym (asked asks.0 asks.1 asks.2 asks.3).1 ∙ e.elects.idle)
+          ]
+        ]
+
+        leads_then : (later : Course) → IsGroupRow at over by all rows seat event base t.course later → later.ballot ≡ first
+        leads_then later (RowPasses same leaves) = ap (λ (c : Course). c.ballot) same ∙ ballot_is
+        leads_then later (RowRests same r after row_ off still i) = ap (λ (c : Course). c.ballot) same ∙ ballot_is
+        leads_then later (RowTakes same r after mark row_ took steps i) = ap (λ (c : Course). c.ballot) same ∙ ballot_is
+        leads_then later (RowMakes same from slot state sets row_ took logs i) = ap (λ (c : Course). c.ballot) same ∙ ballot_is
+        leads_then later (RowLeads r after row_ runs counts l same) = ap (λ (c : Course). c.ballot) same ∙ ballot_is
+        leads_then later (RowElects r after ballot row_ off e same) = absurd (none_elects ballot after e)
+
+    -- ---- a group that is gone
+
+    gone_then : StaysGone first t.course → (later : Course) → IsGroupRow at over by all rows seat event base t.course later → StaysGone first later
+    gone_then g later (RowPasses same leaves) = subst (StaysGone first) (sym same) g
+    gone_then g later (RowRests same r after row_ off still i) = subst (StaysGone first) (sym same) g
+    gone_then g later (RowTakes same r after mark row_ took steps i) = subst (StaysGone first) (sym same) g
+    gone_then g later (RowMakes same from slot state sets row_ took logs i) = subst (StaysGone first) (sym same) g
+    gone_then g later (RowLeads r after row_ runs counts l same) = absurd (true≢false (sym (t.led.followed.given.gives seat.who r row_.was runs).0.runs ∙ g.off))
+    gone_then g later (RowElects r after ballot row_ off e same) = absurd (true≢false (sym g.gone ∙ e.elects.stands))
+
+    module _ (later : Stage) (goes : (later ≡ stage) ⊎ GoesBy rows event stage later) (telling : IsTelling event → t.course.ballot ≡ first) (asked : (deal : Deal) (to : ℕ) → stage ≡ Asks deal to → deal.asked ≡ base.core.id → (t.course.ballot ≡ first) × (t.course.runs ≡ true)) where
+      from_before : MustLead later base.core.id → Before base.core.id stage
+      from_before m = elim (goes) [ inl same ↦ inl (subst (λ x. MustLead x base.core.id) same m) | inr g ↦ step_back base.core.id g.group stage later g.step m ]
+
+      keeps_then : HasOneRound first stage base.core.id t.course → HasOneRound first later base.core.id s.step.later
+      keeps_then was = record {
+        one = one_then was s.step.later s.step.row;
+        leads = λ m. elim (goes) [
+          | inl same ↦ (let n : MustLead stage base.core.id = subst (λ x. MustLead x base.core.id) same m in
+              leads_then was telling asked (inl n) (λ still. absurd (subst (λ x. MustLead x base.core.id) still n).1) s.step.later s.step.row)
+          | inr g ↦ leads_then was telling asked (from_before m) g.begins s.step.later s.step.row
+        ];
+      }
+
+      pub round_then : KeepsRound first stage base.core.id t.course → KeepsRound first later base.core.id s.through.course
+      round_then k = subst (KeepsRound first later base.core.id) (sym s.same) (elim k [ inl gone ↦ inl (gone_then gone s.step.later s.step.row) | inr was ↦ inr (keeps_then was) ])
+
+pub rows_keep_round : JournalsKeepIdle → ScenariosAreWellBorn → RowsKeepRound
+rows_keep_round idle wb words at over by scenario rows seat event base first stage later timely born t s a goes telling asked k =
+    round_then words at over by scenario rows seat event base idle (wb scenario) timely born (calm_of words scenario rows seat event timely) t s stage a first later goes telling asked k

@@ -1,0 +1,5 @@
+use Rattle.sc_calm_answers_law.proofs.Asking.{stages_ask}
+use Rattle.sc_calm_answers_law.proofs.kept_laws.stages_ask.Goals as goal
+
+pub returns : goal.returns
+returns c = stages_ask c.scenes_tell.ensures

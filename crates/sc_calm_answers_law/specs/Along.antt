@@ -1,0 +1,30 @@
+-- That the rows of a journal guide its groups.
+use Rattle.std.specs.Prelude.{ℕ, ◌++◌, ◌≡◌}
+use Rattle.sc_actor.specs.declared.actors.Seat.{Seat}
+use Rattle.sc_actor.specs.declared.rows.Event.{Event}
+use Rattle.sc_calm_answers_law.specs.Guided.{AreBoundBy, IsGuided, IsReachedSo}
+use Rattle.sc_calm_groups_law.specs.Led.{IsWellLed}
+use Rattle.sc_calm_groups_law.specs.Through.{IsSentSo}
+use Rattle.sc_calm_law.specs.Charts.{players}
+use Rattle.sc_calm_law.specs.Totals.{Rows}
+use Rattle.sc_calm_led_law.specs.Led.{over_at}
+use Rattle.sc_calm_led_law.specs.Tellers.{AreFew, tellers_at}
+use Rattle.sc_calm_logs_law.specs.Logged.{IsGroupOf, logged_sets}
+use Rattle.sc_calm_orders_law.specs.Scenes.{Bond}
+use Rattle.sc_calm_rows_law.specs.Turns.{IsSeat, with_event}
+use Rattle.sc_cmd.specs.declared.cores.Base.{Base}
+use Rattle.sc_cmd.specs.declared.orders.OrderLine.{OrderLine}
+use Rattle.sc_following_law.specs.Following.{Course}
+use Rattle.sc_orderly_law.specs.Orderly.{IsCalmEvent}
+use Rattle.sc_orderly_law.specs.Timely.{AreInTime}
+use Rattle.sc_scenario.specs.declared.scenarios.Scenario.{Scenario}
+use Rattle.sc_sound.specs.Players.{Player, as_nodes, births}
+
+-- A group of a journal whose rows come in time is guided at a row, where its mail up to the row is sent so, no replica of it uses up its slots or its rounds, it is well led before the row, some replica of it is at its newest state, and its replicas are bound by what they have executed.
+abbrev pub RowsAreGuided : Type 0
+RowsAreGuided =
+    (words : ℕ → ℕ → ℕ × ℕ) (scenario : Scenario) (journal rows more : Rows) (seat : Seat Player) (event : Event OrderLine) (base : Base) (course : Course) (bonds : ℕ → Bond) → IsGroupOf as_nodes words scenario journal base
+    → AreInTime (players words (births as_nodes scenario)) journal → AreFew as_nodes scenario journal base → journal ≡ with_event rows seat event ++ more → IsSentSo (births as_nodes scenario) (with_event rows seat event) base
+    → IsSeat (births as_nodes scenario) seat → IsCalmEvent (players words (births as_nodes scenario)) rows seat.who event
+    → IsWellLed (logged_sets as_nodes base journal) (over_at as_nodes base journal) (tellers_at as_nodes scenario base journal) words (births as_nodes scenario) rows base course → IsReachedSo (births as_nodes scenario) rows base course
+    → AreBoundBy bonds (births as_nodes scenario) rows base.core.id → AreBoundBy bonds (births as_nodes scenario) (with_event rows seat event) base.core.id → IsGuided words (births as_nodes scenario) rows seat event base

@@ -1,0 +1,64 @@
+-- What a mail finds at a replica beside the leader.
+use Rattle.std.specs.Prelude.{List, None, Some, [], false, true, ℕ, ◌≡◌}
+use Rattle.sc_actor.specs.declared.actors.Seat.{Seat}
+use Rattle.sc_actor.specs.declared.rows.Event.TheVariants.{Deliver, Told}
+use Rattle.sc_calm_answers_law.specs.Guided.{IsGuided}
+use Rattle.sc_calm_law.specs.Totals.{Rows}
+use Rattle.sc_calm_mail_law.specs.Posted.{IsPosted}
+use Rattle.sc_calm_orders_law.specs.Running.{IsIdle}
+use Rattle.sc_calm_scenes_law.specs.Counted.{IsOrdered}
+use Rattle.sc_calm_scenes_law.specs.Found.{BesideFinds}
+use Rattle.sc_calm_scenes_law.specs.Kept.{IsBeside}
+use Rattle.sc_calm_scenes_law.specs.Taken.{IsTaking}
+use Rattle.sc_cmd.specs.declared.cores.Base.{Base}
+use Rattle.sc_cmd.specs.declared.orders.OrderLine.{OrderLine}
+use Rattle.sc_cmd.specs.declared.orders.OrderRefusal.{OrderRefusal}
+use Rattle.sc_mail.specs.declared.bodies.Mail.{Mail}
+use Rattle.sc_mail.specs.declared.bodies.MailBody.{MailBody}
+use Rattle.sc_mail.specs.declared.bodies.MailBody.TheVariants.{Accept, Accepted, Answer, Ask, Install, Learn, Nack, Prepare, Promise, Request, TxElsewhere, TxOutcome, TxPrepare, TxVote, TxWatch, TxWatched}
+use Rattle.sc_node_table.specs.Node.{NodeState, group_of_order, replica_of}
+use Rattle.sc_node_table.specs.Ordering.{ordered_row, untaken}
+use Rattle.sc_node_table.specs.Replica.{ReplicaState, settled}
+use Rattle.sc_node_table.specs.Rows.{mailed}
+use Rattle.sc_node_table.specs.Transactions.{noted_outcome, standing_vote}
+use Rattle.sc_sound.specs.Players.{Player}
+use Rattle.sc_mail.specs.declared.bodies.MailBody.TheVariants.{Told as ToldMail}
+
+-- A node takes a mail of a group of which it has a replica: the group is guided at this row, the replica is its node's, and where it does not run it has nothing to do.
+pub record IsHere (words : ℕ → ℕ → ℕ × ℕ) (births : List (Seat Player)) (rows : Rows) (seat : Seat Player) (number : ℕ) (mail : Mail) (base : Base) (node : NodeState) (r : ReplicaState) : Type 0 where
+  pub guided : IsGuided words births rows seat (Deliver number) base
+  pub taking : IsTaking words births rows seat number mail base.core.id node
+  pub here : replica_of base.core.id node.replicas ≡ Some r
+  pub me_is : r.me ≡ seat.who
+  pub idle : r.running ≡ false → IsIdle r
+
+-- What is settled of a transaction whose mail comes to a replica: no vote stands there on a question, no outcome is noted there on a vote; and a leader that is to ask elsewhere is told whom, and has its promises.
+abbrev pub IsUnsettled : ReplicaState → MailBody → Type 0
+IsUnsettled r (TxPrepare tx offer) = standing_vote r.group.core tx ≡ None
+IsUnsettled r (TxWatch tx watch) = standing_vote r.group.core tx ≡ None
+IsUnsettled r (TxVote tx coord part vote) = noted_outcome r.group.core tx ≡ None
+IsUnsettled r (TxWatched tx coord part vote) = noted_outcome r.group.core tx ≡ None
+IsUnsettled r (TxElsewhere tx coord hint) = r.running ≡ true → (to : ℕ) × (hint ≡ Some to) × (settled r ≡ true)
+IsUnsettled r (TxOutcome tx part outcome) = Unit {0}
+IsUnsettled r (Accept named ballot slot command) = Unit {0}
+IsUnsettled r (Prepare named ballot from_slot) = Unit {0}
+IsUnsettled r (Nack named ballot) = Unit {0}
+IsUnsettled r (Promise named ballot reports) = Unit {0}
+IsUnsettled r (Accepted named ballot slot) = Unit {0}
+IsUnsettled r (Learn named slot command) = Unit {0}
+IsUnsettled r (Install named slot base sets) = Unit {0}
+IsUnsettled r (Ask named slot) = Unit {0}
+IsUnsettled r (Request named client seq op) = Unit {0}
+IsUnsettled r (Answer named seq answer) = Unit {0}
+IsUnsettled r (ToldMail order result) = Unit {0}
+
+-- A mail to a replica that does not run comes beside the leader: another leads alone, and this one does not run by it; or none runs, the newest states stay bound, and one that elects itself has no work and is bound so. And it finds what an order needs.
+pub record BesidesAreFound : Type 0 where
+  pub beside : (words : ℕ → ℕ → ℕ × ℕ) (births : List (Seat Player)) (rows : Rows) (seat : Seat Player) (number : ℕ) (mail : Mail) (base : Base) (node : NodeState) (r : ReplicaState) → IsHere words births rows seat number mail base node r
+      → r.running ≡ false → IsBeside births rows seat (Deliver number) base.core.id (mailed mail.from mail.body (r, [])).0
+  pub finds : (words : ℕ → ℕ → ℕ × ℕ) (births : List (Seat Player)) (rows : Rows) (seat : Seat Player) (number : ℕ) (mail : Mail) (base : Base) (node : NodeState) (r : ReplicaState) → IsHere words births rows seat number mail base node r
+      → r.running ≡ false → IsPosted births mail → IsUnsettled r mail.body → BesideFinds mail r mail.body
+  -- .. and so it is where such a one is told an order, which it refuses
+  pub told : (words : ℕ → ℕ → ℕ × ℕ) (births : List (Seat Player)) (rows : Rows) (seat : Seat Player) (line : OrderLine) (node : NodeState) (base : Base) (r : ReplicaState) → IsGuided words births rows seat (Told line) base
+      → IsOrdered words births rows seat line node r → base.core.id ≡ group_of_order line.order → r.running ≡ false
+      → IsBeside births rows seat (Told line) (group_of_order line.order) (ordered_row node.draws line (r, [])) × ((why : OrderRefusal) × (untaken node.draws line r ≡ Some why))

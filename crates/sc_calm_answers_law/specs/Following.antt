@@ -1,0 +1,30 @@
+-- That charts follow one another while an order is under way.
+use Rattle.std.specs.Prelude.{◌≡◌, ℕ, true}
+use Rattle.sc_base.specs.Among.{Each}
+use Rattle.sc_cmd.specs.declared.cores.Base.{Base}
+use Rattle.sc_actor.specs.declared.actors.Seat.{Seat}
+use Rattle.sc_actor.specs.declared.rows.Event.{Event}
+use Rattle.sc_actor.specs.Walk.{is_quiet}
+use Rattle.sc_actor.specs.Replay.{value}
+use Rattle.sc_actor.specs.System.{row_of}
+use Rattle.sc_cmd.specs.declared.orders.OrderLine.{OrderLine}
+use Rattle.sc_orderly_law.specs.Timely.{AreInTime}
+use Rattle.sc_scenario.specs.declared.scenarios.Scenario.{Scenario}
+use Rattle.sc_sound.specs.Players.{Player, player_table, births, as_nodes}
+use Rattle.sc_calm_law.specs.Charts.{players, MayFollow}
+use Rattle.sc_calm_law.specs.Totals.{Rows}
+use Rattle.sc_calm_rows_law.specs.Turns.{with_event}
+use Rattle.sc_calm_charts_law.specs.Charting.{chart_at}
+use Rattle.sc_calm_charts_law.specs.Following.{WaitsForNone}
+use Rattle.sc_calm_orders_law.specs.Stages.{Stage, IsAt}
+use Rattle.sc_calm_scenes_law.specs.Kept.{StageAfter}
+use Rattle.sc_calm_scenes_law.specs.Scenes.{scene_at}
+use Rattle.sc_calm_answers_law.specs.Asking.{AllLeadAlone}
+
+-- The chart after a row of an order follows that before it, where the stage after the row is that before it or one to which the row leads, each replica that runs leads alone, before it and after it, and no client waits once it is quiet.
+abbrev pub OrderChartsFollow : Type 0
+OrderChartsFollow =
+    (words : ℕ → ℕ → ℕ × ℕ) (scenario : Scenario) (rows : Rows) (far sent : ℕ) (seat : Seat Player) (event : Event OrderLine) (stage : Stage) → AreInTime (players words (births as_nodes scenario)) (with_event rows seat event)
+    → IsAt stage (scene_at (births as_nodes scenario) rows) → StageAfter (births as_nodes scenario) rows seat event stage → AllLeadAlone (births as_nodes scenario) rows → AllLeadAlone (births as_nodes scenario) (with_event rows seat event)
+    → (is_quiet (players words (births as_nodes scenario)) (with_event rows seat event) ≡ true → Each (λ other. WaitsForNone (value player_table other (with_event rows seat event))) (births as_nodes scenario))
+    → MayFollow (players words (births as_nodes scenario)) (with_event rows seat event) (chart_at far sent (players words (births as_nodes scenario)) rows) (chart_at far sent (players words (births as_nodes scenario)) (with_event rows seat event))

@@ -1,0 +1,85 @@
+-- What is known of a row of a calm journal, so that it finds what an order needs.
+use Rattle.std.specs.Prelude.{List, None, Some, [], false, true, ℕ, ◌≡◌, ◌≤◌}
+use Rattle.sc_actor.specs.Mail.{mails, numbered}
+use Rattle.sc_actor.specs.Replay.{value}
+use Rattle.sc_actor.specs.Walk.{is_quiet}
+use Rattle.sc_actor.specs.declared.actors.Seat.{Seat}
+use Rattle.sc_actor.specs.declared.rows.Event.{Event}
+use Rattle.sc_actor.specs.declared.rows.Event.TheVariants.{Deliver, Told}
+use Rattle.sc_base.specs.Among.{Each}
+use Rattle.sc_base.specs.declared.names.Ballot.{Ballot}
+use Rattle.sc_base.specs.declared.names.Draw.{Draw}
+use Rattle.sc_base.specs.declared.ops.Op.{Op}
+use Rattle.sc_calm_answers_law.specs.Beside.{IsUnsettled}
+use Rattle.sc_calm_answers_law.specs.Guided.{IsNamedGuide, WaitsForFlights}
+use Rattle.sc_calm_answers_law.specs.Missed.{IsYoung}
+use Rattle.sc_calm_answers_law.specs.Votes.{IsOrdersAlone, IsTrueEntry}
+use Rattle.sc_calm_law.specs.Charts.{players}
+use Rattle.sc_calm_law.specs.Totals.{Rows}
+use Rattle.sc_calm_orders_law.specs.Stages.{IsUnderWay}
+use Rattle.sc_calm_rows_law.specs.Groups.{marks_at, view_at}
+use Rattle.sc_calm_rows_law.specs.Turns.{IsSeat, with_event}
+use Rattle.sc_calm_scenes_law.specs.Found.{FindsOrder, FindsReplica, NodeFinds}
+use Rattle.sc_calm_scenes_law.specs.Fresh.{IsThere}
+use Rattle.sc_calm_scenes_law.specs.Quiet.{GoesToActor}
+use Rattle.sc_calm_scenes_law.specs.Scenes.{errand_taken, scene_at}
+use Rattle.sc_calm_scenes_law.specs.Taken.{IsTaking}
+use Rattle.sc_cmd.specs.declared.cores.Base.{Base}
+use Rattle.sc_cmd.specs.declared.orders.OrderLine.{OrderLine}
+use Rattle.sc_mail.specs.declared.bodies.Mail.{Mail}
+use Rattle.sc_mail.specs.declared.bodies.MailBody.TheVariants.{Accepted, Install, Request}
+use Rattle.sc_node_table.specs.Node.{NodeState, replica_of}
+use Rattle.sc_node_table.specs.Replica.{ReplicaState, last_slot, next}
+use Rattle.sc_node_table.specs.Rows.{mailed}
+use Rattle.sc_orderly_law.specs.Orderly.{is_born}
+use Rattle.sc_orderly_law.specs.Timely.{AreInTime}
+use Rattle.sc_scenario.specs.Valid.{IsBounded}
+use Rattle.sc_scenario.specs.declared.scenarios.Scenario.{Scenario}
+use Rattle.sc_sound.specs.Players.{Player, as_nodes, player_table}
+use Rattle.sc_sound.specs.Players.{births}
+use Rattle.sc_mail.specs.declared.roles.Role.TheVariants.{Client}
+use Rattle.sc_client_table.specs.Client.{Client as ClientState}
+
+-- What is known where an order is told: the journal is quiet, errands and the mail of groups go to actors, and each leader has slots left and has nothing waiting but what waits for its flights.
+pub record IsToldCalmly (words : ℕ → ℕ → ℕ × ℕ) (births : List (Seat Player)) (rows : Rows) : Type 0 where
+  pub quiet : is_quiet (players words births) rows ≡ true
+  pub errands : Each (GoesToActor words births) (mails rows)
+  pub strangers : (name : Draw) (who : ℕ) → is_born (players words births) who ≡ false → marks_at (players words births) rows name who ≡ []
+  pub room : (name : Draw) (node : ℕ) (r : ReplicaState) → view_at births rows name node ≡ Some r → r.running ≡ true → (next r ≤ last_slot) × WaitsForFlights r
+
+-- A row of a bounded scenario that comes in time while an order is under way: each group that has a replica is guided at it, and so is one of which a state comes; mail of transactions comes unsettled, and no request comes; a leader that takes a vote has only work in flight, and true entries; an order is told calmly; and no client takes an errand.
+pub record IsOrdersRow (words : ℕ → ℕ → ℕ × ℕ) (scenario : Scenario) (rows : Rows) (seat : Seat Player) (event : Event OrderLine) : Type 0 where
+  pub bounded : IsBounded scenario
+  pub seated : IsSeat (births as_nodes scenario) seat
+  pub timely : AreInTime (players words (births as_nodes scenario)) (with_event rows seat event)
+  pub under : IsUnderWay (scene_at (births as_nodes scenario) rows)
+  pub groups : (name : Draw) (node : ℕ) (r : ReplicaState) → view_at (births as_nodes scenario) rows name node ≡ Some r → IsNamedGuide words (births as_nodes scenario) rows seat event name
+  pub states : (number : ℕ) (mail : Mail) (group : Draw) (slot : ℕ) (state : Base) (sets : List (List ℕ)) → event ≡ Deliver number → numbered (mails rows) number ≡ Some mail → mail.body ≡ Install group slot state sets
+      → IsNamedGuide words (births as_nodes scenario) rows seat event group × IsThere (births as_nodes scenario) rows group
+  pub unsettled : (number : ℕ) (mail : Mail) (group : Draw) (node : NodeState) (r : ReplicaState) → event ≡ Deliver number → IsTaking words (births as_nodes scenario) rows seat number mail group node → replica_of group node.replicas ≡ Some r
+      → IsUnsettled r mail.body
+  pub requests : (number : ℕ) (mail : Mail) (named : Draw) (client seq : ℕ) (op : Op) → event ≡ Deliver number → numbered (mails rows) number ≡ Some mail → mail.body ≡ Request named client seq op → ⊥
+  pub votes : (number : ℕ) (mail : Mail) (group : Draw) (node : NodeState) (r : ReplicaState) (named : Draw) (ballot : Ballot) (slot : ℕ) → event ≡ Deliver number → IsTaking words (births as_nodes scenario) rows seat number mail group node
+      → replica_of group node.replicas ≡ Some r → r.running ≡ true → mail.body ≡ Accepted named ballot slot
+      → IsOrdersAlone r × Each (λ flight. IsTrueEntry r.me r.group flight.value) r.leader.flights
+  pub told : (line : OrderLine) → event ≡ Told line → IsToldCalmly words (births as_nodes scenario) rows
+  pub clients : (client : ClientState) → value player_table seat rows ≡ Client client → errand_taken (mails rows) event ≡ None
+
+-- the children that it makes are young
+abbrev pub MakesYoung : (ℕ → ℕ → ℕ × ℕ) → Scenario → Rows → Seat Player → Event OrderLine → Type 0
+MakesYoung words scenario rows seat event =
+    (number : ℕ) (mail : Mail) (group : Draw) (node : NodeState) (r : ReplicaState) → event ≡ Deliver number → IsTaking words (births as_nodes scenario) rows seat number mail group node → replica_of group node.replicas ≡ Some r
+    → Each (IsYoung words (births as_nodes scenario) rows seat) (mailed mail.from mail.body (r, [])).1
+
+-- A mail that is delivered meets a replica of its group, or a node without one, as an order needs it.
+pub record MeetsOrder (words : ℕ → ℕ → ℕ × ℕ) (births : List (Seat Player)) (rows : Rows) (seat : Seat Player) (number : ℕ) : Type 0 where
+  pub here : (mail : Mail) (group : Draw) (node : NodeState) (r : ReplicaState) → IsTaking words births rows seat number mail group node → replica_of group node.replicas ≡ Some r → FindsReplica births rows seat number mail group r
+  pub missed : (mail : Mail) (group : Draw) (node : NodeState) → IsTaking words births rows seat number mail group node → replica_of group node.replicas ≡ None → NodeFinds births rows seat number mail group mail.body
+
+-- So it does at such a row ..
+abbrev pub OrdersRowsMeet : Type 0
+OrdersRowsMeet = (words : ℕ → ℕ → ℕ × ℕ) (scenario : Scenario) (rows : Rows) (seat : Seat Player) (number : ℕ) → IsOrdersRow words scenario rows seat (Deliver number) → MeetsOrder words (births as_nodes scenario) rows seat number
+
+-- .. and the row finds what an order needs, where the children that it makes are young.
+abbrev pub OrdersRowsFind : Type 0
+OrdersRowsFind = (words : ℕ → ℕ → ℕ × ℕ) (scenario : Scenario) (rows : Rows) (seat : Seat Player) (event : Event OrderLine) → IsOrdersRow words scenario rows seat event → MakesYoung words scenario rows seat event → FindsOrder words (births as_nodes scenario) rows seat event

@@ -1,0 +1,45 @@
+-- That hints rise in quiet fronts of a calm journal: what is kept of each group row by row, and what follows of it in quiet.
+use Rattle.std.specs.Prelude.{◌≡◌, ℕ, true, false, [], Some, None}
+use Rattle.sc_cmd.specs.declared.cores.Base.{Base}
+use Rattle.sc_cmd.specs.declared.orders.OrderLine.{OrderLine}
+use Rattle.sc_member.specs.Roster.{is_member}
+use Rattle.sc_actor.specs.declared.actors.Seat.{Seat}
+use Rattle.sc_actor.specs.declared.rows.Event.{Event}
+use Rattle.sc_orderly_law.specs.Timely.{AreInTime}
+use Rattle.sc_scenario.specs.declared.scenarios.Scenario.{Scenario}
+use Rattle.sc_node_table.specs.Replica.{ReplicaState}
+use Rattle.sc_sound.specs.Players.{Player, births, as_nodes}
+use Rattle.sc_calm_law.specs.Charts.{players}
+use Rattle.sc_calm_law.specs.Quiet.{HasReplica, RisesAt}
+use Rattle.sc_calm_law.specs.Totals.{Rows}
+use Rattle.sc_following_law.specs.Following.{Sets}
+use Rattle.sc_following_law.specs.Hints.{Tellers}
+use Rattle.sc_calm_rows_law.specs.Groups.{view_at, marks_at}
+use Rattle.sc_calm_rows_law.specs.Turns.{IsSeat, with_event}
+use Rattle.sc_calm_groups_law.specs.Led.{Ends}
+use Rattle.sc_calm_logs_law.specs.Logged.{logged_sets, IsGroupOf}
+use Rattle.sc_calm_led_law.specs.Led.{over_at}
+use Rattle.sc_calm_led_law.specs.Tellers.{tellers_at}
+use Rattle.sc_calm_answers_law.specs.SentJournals.{IsSentThrough, IsSentStep}
+use Rattle.sc_calm_answers_law.specs.RiseRising.{IsRisingOn}
+
+-- Each group of a lawful journal of a valid scenario is so at the births ..
+abbrev pub GroupsBeginRising : Type 0
+GroupsBeginRising =
+    (words : ℕ → ℕ → ℕ × ℕ) (scenario : Scenario) (journal : Rows) (base : Base) → IsGroupOf as_nodes words scenario journal base
+    → (t : IsSentThrough (logged_sets as_nodes base journal) (over_at as_nodes base journal) (tellers_at as_nodes scenario base journal) words (births as_nodes scenario) [] base)
+    → IsRisingOn (logged_sets as_nodes base journal) (tellers_at as_nodes scenario base journal) words (births as_nodes scenario) [] base t.course
+
+-- .. and after one row more, in the course that comes of it
+abbrev pub NextRowsRise : Type 0
+NextRowsRise =
+    (words : ℕ → ℕ → ℕ × ℕ) (at : Sets) (over : Ends) (by : Tellers) (scenario : Scenario) (rows : Rows) (seat : Seat Player) (event : Event OrderLine) (base : Base) → AreInTime (players words (births as_nodes scenario)) (with_event rows seat event) → IsSeat (births as_nodes scenario) seat
+    → (t : IsSentThrough at over by words (births as_nodes scenario) rows base) → (s : IsSentStep at over by words (births as_nodes scenario) rows seat event base t.course)
+    → IsRisingOn at by words (births as_nodes scenario) rows base t.course → IsRisingOn at by words (births as_nodes scenario) (with_event rows seat event) base s.through.course
+
+-- So where none of the group's mail is under way, and its first members have made their replicas, hints rise.
+abbrev pub QuietHintsRise : Type 0
+QuietHintsRise =
+    (words : ℕ → ℕ → ℕ × ℕ) (at : Sets) (over : Ends) (by : Tellers) (scenario : Scenario) (front : Rows) (base : Base) (t : IsSentThrough at over by words (births as_nodes scenario) front base) → IsRisingOn at by words (births as_nodes scenario) front base t.course
+    → ((who : ℕ) → marks_at (players words (births as_nodes scenario)) front base.core.id who ≡ []) → ((node : ℕ) → is_member base.core.members node ≡ true → HasReplica (view_at (births as_nodes scenario) front) base.core.id node)
+    → (node : ℕ) (r : ReplicaState) → view_at (births as_nodes scenario) front base.core.id node ≡ Some r → r.running ≡ false → r.group.core.gone ≡ None → RisesAt (view_at (births as_nodes scenario) front) base.core.id r

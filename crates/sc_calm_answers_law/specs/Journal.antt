@@ -1,0 +1,48 @@
+-- A calm journal and its fronts, and that all its groups are well led.
+use Rattle.std.specs.Prelude.{◌≡◌, ℕ, ◌≤◌, ◌^◌, ◌++◌, length}
+use Rattle.sc_base.specs.Among.{Among}
+use Rattle.sc_cmd.specs.declared.cores.Base.{Base}
+use Rattle.sc_actor.specs.declared.actors.Seat.{Seat}
+use Rattle.sc_actor.specs.declared.rows.Event.TheVariants.{Deliver}
+use Rattle.sc_orderly_law.specs.Timely.{AreInTime, AreToldSo}
+use Rattle.sc_scenario.specs.Valid.{IsValid}
+use Rattle.sc_scenario.specs.declared.scenarios.Scenario.{Scenario}
+use Rattle.sc_sound.specs.GroupsOf.{groups_at}
+use Rattle.sc_sound.specs.Players.{Player, births, as_nodes, Lawful}
+use Rattle.sc_calm_law.specs.Charts.{players}
+use Rattle.sc_calm_law.specs.Totals.{Rows}
+use Rattle.sc_calm_rows_law.specs.Turns.{IsSeat, with_event}
+use Rattle.sc_calm_logs_law.specs.Logged.{logged_sets}
+use Rattle.sc_calm_led_law.specs.Led.{over_at}
+use Rattle.sc_calm_led_law.specs.Tellers.{tellers_at}
+use Rattle.sc_calm_answers_law.specs.SentJournals.{IsSentThrough}
+use Rattle.sc_calm_answers_law.specs.Given.{may_be_given}
+
+-- A lawful journal of a valid scenario whose rows come in time, that is not too long for slots and rounds, and in which orders are told as lines may give them.
+pub record IsCalmJournal (words : ℕ → ℕ → ℕ × ℕ) (scenario : Scenario) (journal : Rows) : Type 0 where
+  pub valid : IsValid scenario
+  pub lawful : Lawful as_nodes words scenario journal
+  pub timely : AreInTime (players words (births as_nodes scenario)) journal
+  pub short : length journal ≤ 2 ^ 28
+  pub given : AreToldSo (may_be_given scenario) journal
+
+-- a journal begins with these rows
+pub record IsFront (journal rows : Rows) : Type 0 where
+  pub more : Rows
+  pub is : journal ≡ rows ++ more
+
+-- each group of the journal is well led after first rows of it, with one log, and its mail is sent so
+abbrev pub AreSent : (ℕ → ℕ → ℕ × ℕ) → Scenario → Rows → Rows → Type 0
+AreSent words scenario journal rows =
+    (base : Base) → Among base (groups_at as_nodes scenario.groups journal)
+    → IsSentThrough (logged_sets as_nodes base journal) (over_at as_nodes base journal) (tellers_at as_nodes scenario base journal) words (births as_nodes scenario) rows base
+
+-- a front of the journal goes on by one more delivery
+pub record GoesOnBy (words : ℕ → ℕ → ℕ × ℕ) (scenario : Scenario) (journal rows : Rows) (seat : Seat Player) (number : ℕ) : Type 0 where
+  pub front : IsFront journal (with_event rows seat (Deliver number))
+  pub seated : IsSeat (births as_nodes scenario) seat
+  pub timely : AreInTime (players words (births as_nodes scenario)) (with_event rows seat (Deliver number))
+
+-- what a front begins with is a front
+abbrev pub FrontsOfFronts : Type 0
+FrontsOfFronts = (journal rows more : Rows) → IsFront journal (rows ++ more) → IsFront journal rows

@@ -1,0 +1,35 @@
+-- What holds while an order is under way since a quiet front of a calm journal.
+use Rattle.std.specs.Prelude.{◌≡◌, ℕ, true, List, Some, None, ◌⊎◌}
+use Rattle.sc_base.specs.Among.{Among, Each}
+use Rattle.sc_cmd.specs.declared.cores.Base.{Base}
+use Rattle.sc_actor.specs.declared.actors.Seat.{Seat}
+use Rattle.sc_orderly_law.specs.Orderly.{is_born, rest}
+use Rattle.sc_scenario.specs.declared.scenarios.Scenario.{Scenario}
+use Rattle.sc_node_table.specs.Node.{group_of_mail}
+use Rattle.sc_node_table.specs.Replica.{born_replica}
+use Rattle.sc_node_table.specs.Slots.{slots_ahead}
+use Rattle.sc_sound.specs.GroupsOf.{groups_at}
+use Rattle.sc_sound.specs.Players.{Player, births, as_nodes}
+use Rattle.sc_calm_law.specs.Charts.{players}
+use Rattle.sc_calm_law.specs.Totals.{Rows}
+use Rattle.sc_calm_rows_law.specs.Groups.{view_at}
+use Rattle.sc_calm_orders_law.specs.Stages.{Stage}
+use Rattle.sc_calm_scenes_law.specs.Fresh.{IsNowhere, AreUntouched}
+use Rattle.sc_calm_answers_law.specs.Guided.{IsReachedSo}
+use Rattle.sc_calm_answers_law.specs.Journal.{IsFront, AreSent}
+use Rattle.sc_calm_answers_law.specs.Resting.{RestsAt}
+
+-- a group is as it began wherever it has a replica, and no mail of it is under way
+pub record IsYoungAt (words : ℕ → ℕ → ℕ × ℕ) (births : List (Seat Player)) (rows : Rows) (base : Base) : Type 0 where
+  pub born : (who : ℕ) → (view_at births rows base.core.id who ≡ None) ⊎ (view_at births rows base.core.id who ≡ Some (born_replica slots_ahead who base))
+  pub unsent : (who : ℕ) → is_born (players words births) who ≡ true → Each (λ mail. group_of_mail mail.body ≡ Some base.core.id → ⊥) (rest (players words births) rows who)
+
+-- Since a quiet front that rests the order is at a stage, and groups that have no part in it are as they were; all groups are well led, each that has a replica has one that has executed all; and those that were nowhere in the quiet are as they began.
+pub record IsUnder (words : ℕ → ℕ → ℕ × ℕ) (scenario : Scenario) (first : Base) (journal quiet rows : Rows) : Type 0 where
+  pub rests : RestsAt words scenario first journal quiet
+  pub front : IsFront journal rows
+  pub sent : AreSent words scenario journal rows
+  pub reached : (base : Base) (is : Among base (groups_at as_nodes scenario.groups journal)) → IsReachedSo (births as_nodes scenario) rows base (sent base is).course
+  pub stage : Stage
+  pub untouched : AreUntouched words (births as_nodes scenario) quiet rows stage
+  pub young : (base : Base) → Among base (groups_at as_nodes scenario.groups journal) → IsNowhere (births as_nodes scenario) quiet base.core.id → IsYoungAt words (births as_nodes scenario) rows base

@@ -1,0 +1,65 @@
+-- That each delivery finds what keeps a calm journal calm while an order is under way.
+use Rattle.std.specs.Prelude.{◌≡◌, ℕ, ◌≤◌, true, List, [], Some, length}
+use Rattle.sc_base.specs.Among.{Among, Each}
+use Rattle.sc_base.specs.declared.names.Draw.{Draw}
+use Rattle.sc_cmd.specs.declared.cores.Base.{Base}
+use Rattle.sc_mail.specs.declared.bodies.Mail.{Mail}
+use Rattle.sc_mail.specs.declared.roles.Role.TheVariants.{Node, Client}
+use Rattle.sc_actor.specs.declared.actors.Seat.{Seat}
+use Rattle.sc_actor.specs.declared.rows.Event.TheVariants.{Deliver}
+use Rattle.sc_actor.specs.Mail.{mails, numbered}
+use Rattle.sc_actor.specs.Replay.{value}
+use Rattle.sc_client_table.specs.Client.{Client as ClientState}
+use Rattle.sc_machine_table.specs.Machine.{applied}
+use Rattle.sc_node_table.specs.Node.{NodeState, replica_of, group_of_mail}
+use Rattle.sc_node_table.specs.Replica.{ReplicaState}
+use Rattle.sc_scenario.specs.declared.scenarios.Scenario.{Scenario}
+use Rattle.sc_sound.specs.GroupsOf.{groups_at}
+use Rattle.sc_sound.specs.Players.{Player, player_table, births, as_nodes}
+use Rattle.sc_calm_law.specs.Charts.{players}
+use Rattle.sc_calm_law.specs.Keeping.{FindsCalm}
+use Rattle.sc_calm_law.specs.Totals.{Rows}
+use Rattle.sc_calm_rows_law.specs.Turns.{with_event}
+use Rattle.sc_calm_charts_law.specs.Charting.{chart_at}
+use Rattle.sc_calm_charts_law.specs.Fronts.{quiet_front}
+use Rattle.sc_budget_law.specs.AskingQuiet.{replicas_after, DoHintsRise}
+use Rattle.sc_calm_answers_law.specs.Settings.{AreAtNodes}
+use Rattle.sc_calm_entries_law.specs.Paid.{IsEntry}
+use Rattle.sc_calm_answers_law.specs.Meeting.{IsPlainAt, IsNoRequest}
+use Rattle.sc_calm_answers_law.specs.Beside.{IsUnsettled}
+use Rattle.sc_calm_answers_law.specs.Votes.{IsOrdersAlone}
+use Rattle.sc_calm_answers_law.specs.Journal.{IsCalmJournal, AreSent, GoesOnBy}
+use Rattle.sc_calm_answers_law.specs.JournalUnder.{IsUnder}
+use Rattle.sc_calm_answers_law.specs.Asking.{AllLeadAlone}
+
+-- what is in flight or ready at a leader is work alone; each command in flight is an entry of an order that leaves at most nine members; and no call waits while one is in flight
+pub record CountsEntries (r : ReplicaState) : Type 0 where
+  pub alone : IsOrdersAlone r
+  pub calls : (r.leader.flights ≡ [] → ⊥) → r.calls ≡ []
+  pub entries : Each (λ flight. IsEntry flight.value r × (length (applied r.group flight.value).0.core.members ≤ 9)) r.leader.flights
+
+-- What else is known of a mail that comes to a node while an order is under way: its group is one of the journal; a replica that does not run keeps no reports; what is settled of its transaction; that it is no request; and what a leader counts.
+pub record IsKnownMail (scenario : Scenario) (journal : Rows) (mail : Mail) (node : NodeState) (name : Draw) : Type 0 where
+  pub base : Base
+  pub among : Among base (groups_at as_nodes scenario.groups journal)
+  pub named : base.core.id ≡ name
+  pub plain : IsPlainAt (replica_of name node.replicas)
+  pub unsettled : (r : ReplicaState) → replica_of name node.replicas ≡ Some r → IsUnsettled r mail.body
+  pub unasked : IsNoRequest mail.body
+  pub counts : (r : ReplicaState) → replica_of name node.replicas ≡ Some r → r.running ≡ true → CountsEntries r
+
+-- A delivery while an order is under way: nobody but a node takes it, each replica that runs leads alone, hints rise by the chart, and its mail is known.
+pub record IsKnownDelivery (words : ℕ → ℕ → ℕ × ℕ) (scenario : Scenario) (journal quiet rows : Rows) (far sent : ℕ) (seat : Seat Player) (number : ℕ) : Type 0 where
+  pub alone : AllLeadAlone (births as_nodes scenario) rows
+  pub homes : AreAtNodes scenario quiet
+  pub front : quiet_front (players words (births as_nodes scenario)) rows ≡ quiet
+  pub rise : DoHintsRise (replicas_after scenario quiet) (chart_at far sent (players words (births as_nodes scenario)) rows).ways
+  pub nodes : (client : ClientState) → value player_table seat rows ≡ Client client → ⊥
+  pub mail : (mail : Mail) (node : NodeState) (name : Draw) → numbered (mails rows) number ≡ Some mail → value player_table seat rows ≡ Node node → group_of_mail mail.body ≡ Some name → IsKnownMail scenario journal mail node name
+
+-- So it finds what keeps the journal calm.
+abbrev pub OrderRowsFindCalm : Type 0
+OrderRowsFindCalm =
+    (words : ℕ → ℕ → ℕ × ℕ) (scenario : Scenario) (first : Base) (journal quiet rows : Rows) (far sent : ℕ) (seat : Seat Player) (number : ℕ) → IsCalmJournal words scenario journal → IsUnder words scenario first journal quiet rows
+    → GoesOnBy words scenario journal rows seat number → AreSent words scenario journal (with_event rows seat (Deliver number)) → IsKnownDelivery words scenario journal quiet rows far sent seat number
+    → FindsCalm (chart_at far sent (players words (births as_nodes scenario)) rows) (births as_nodes scenario) rows seat (Deliver number)

@@ -1,0 +1,24 @@
+-- That by the chart of a calm journal hints rise in the last quiet front.
+use Rattle.std.specs.Prelude.{◌≡◌, ℕ, ◌+◌, ◌≤◌, List, ◌∷◌}
+use Rattle.sc_cmd.specs.declared.cores.Base.{Base}
+use Rattle.sc_orderly_law.specs.Orderly.{orders}
+use Rattle.sc_scenario.specs.Valid.{IsValid}
+use Rattle.sc_scenario.specs.declared.scenarios.Scenario.{Scenario}
+use Rattle.sc_sound.specs.Players.{births, as_nodes, Lawful}
+use Rattle.sc_calm_law.specs.Charts.{players}
+use Rattle.sc_calm_law.specs.Totals.{Rows}
+use Rattle.sc_calm_charts_law.specs.Charting.{chart_at}
+use Rattle.sc_calm_charts_law.specs.Fronts.{quiet_front}
+use Rattle.sc_budget_law.specs.AskingQuiet.{replicas_after, setting_at, DoHintsRise, AreFramesOf}
+use Rattle.sc_budget_law.specs.Frames.{Frame}
+use Rattle.sc_calm_requests_law.specs.Hearing.{AreReached}
+use Rattle.sc_calm_answers_law.specs.Settings.{AreAtNodes}
+use Rattle.sc_calm_answers_law.specs.Resting.{RestsAt}
+
+-- Where a way may be longer by one than orders were told, each hint of a quiet front that rests leads nearer by the chart of the rows behind it, and each node that leads is reached.
+abbrev pub ChartHintsRise : Type 0
+ChartHintsRise =
+    (words : ℕ → ℕ → ℕ × ℕ) (scenario : Scenario) (first : Base) (others : List Base) (journal quiet later : Rows) (far sent : ℕ) (frames : List Frame) → IsValid scenario → scenario.groups ≡ first ∷ others → Lawful as_nodes words scenario quiet → RestsAt words scenario first journal quiet → AreAtNodes scenario quiet
+    → quiet_front (players words (births as_nodes scenario)) later ≡ quiet → orders quiet + 1 ≤ far → AreFramesOf (replicas_after scenario quiet) frames
+    → DoHintsRise (replicas_after scenario quiet) (chart_at far sent (players words (births as_nodes scenario)) later).ways
+    × AreReached (setting_at (replicas_after scenario quiet) frames (chart_at far sent (players words (births as_nodes scenario)) later).ways)

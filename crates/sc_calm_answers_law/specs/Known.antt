@@ -1,0 +1,64 @@
+-- What is known of groups, links and routes in a quiet front of a calm journal.
+use Rattle.std.specs.Prelude.{◌≡◌, ℕ, ◌+◌, false, length, Some}
+use Rattle.sc_base.specs.Among.{Among}
+use Rattle.sc_cmd.specs.declared.cores.Base.{Base}
+use Rattle.sc_cmd.specs.declared.links.Route.{Route}
+use Rattle.sc_scenario.specs.declared.scenarios.Scenario.{Scenario}
+use Rattle.sc_node_table.specs.Replica.{ReplicaState}
+use Rattle.sc_sound.specs.GroupsOf.{groups_at}
+use Rattle.sc_sound.specs.Logs.{decided_log}
+use Rattle.sc_sound.specs.Players.{births, as_nodes}
+use Rattle.sc_calm_law.specs.Quiet.{IsLinked}
+use Rattle.sc_calm_law.specs.Totals.{Rows}
+use Rattle.sc_following_law.specs.Following.{Course}
+use Rattle.sc_following_law.specs.Hints.{Tellers}
+use Rattle.sc_calm_orders_law.specs.Stages.{Still, IsAt}
+use Rattle.sc_calm_led_law.specs.States.{state_at}
+use Rattle.sc_calm_scenes_law.specs.Fresh.{IsThere}
+use Rattle.sc_calm_scenes_law.specs.Scenes.{scene_at}
+use Rattle.sc_calm_answers_law.specs.Rests.{replicas_at, IsQuietGroup, IsTakenIn}
+use Rattle.sc_budget_law.specs.AskingQuiet.{replicas_after}
+use Rattle.sc_calm_ring_law.specs.Cuts.{AreKnown}
+use Rattle.sc_calm_answers_law.specs.SettingCounting.{GoneAgree}
+use Rattle.sc_calm_answers_law.specs.Settings.{AreReachable}
+use Rattle.sc_calm_answers_law.specs.KnownFronts.{IsQuietFront}
+use Rattle.sc_calm_answers_law.specs.Links.{AreAllFree}
+
+-- each group of some rows has a replica then
+abbrev pub AreAllThere : Scenario → Rows → Type 0
+AreAllThere scenario rows = (base : Base) → Among base (groups_at as_nodes scenario.groups rows) → IsThere (births as_nodes scenario) rows base.core.id
+
+-- In a quiet front replicas of one group that are gone know the same route.
+abbrev pub FrontsGoneAgree : Type 0
+FrontsGoneAgree = (words : ℕ → ℕ → ℕ × ℕ) (scenario : Scenario) (journal front : Rows) → IsQuietFront words scenario journal front → GoneAgree (replicas_after scenario front)
+
+-- The course of a group of a quiet front ends with its log, whatever course that is.
+abbrev pub QuietCoursesEnd : Type 0
+QuietCoursesEnd =
+    (words : ℕ → ℕ → ℕ × ℕ) (scenario : Scenario) (journal front : Rows) (by : Tellers) (base : Base) (course : Course) → IsQuietFront words scenario journal front → Among base (groups_at as_nodes scenario.groups front)
+    → IsQuietGroup by words scenario journal front base course → length (decided_log as_nodes base front) + 1 ≡ course.newest
+
+-- Where nothing of an order is left, no group is bound by its log.
+abbrev pub StillFrontsAreFree : Type 0
+StillFrontsAreFree =
+    (words : ℕ → ℕ → ℕ × ℕ) (scenario : Scenario) (journal front : Rows) → IsQuietFront words scenario journal front → IsAt Still (scene_at (births as_nodes scenario) front) → AreAllFree scenario front
+
+-- Then the groups of the front are known ..
+abbrev pub FrontsAreKnown : Type 0
+FrontsAreKnown = (words : ℕ → ℕ → ℕ × ℕ) (scenario : Scenario) (journal front : Rows) → IsQuietFront words scenario journal front → AreAllFree scenario front → AreKnown scenario front
+
+-- .. links and routes name nodes that have replicas ..
+abbrev pub FrontsAreReachable : Type 0
+FrontsAreReachable = (words : ℕ → ℕ → ℕ × ℕ) (scenario : Scenario) (journal front : Rows) → IsQuietFront words scenario journal front → AreAllFree scenario front → AreReachable (replicas_after scenario front)
+
+-- .. also those of the route by which a group went, whatever its course ..
+abbrev pub FrontsAreTakenIn : Type 0
+FrontsAreTakenIn =
+    (words : ℕ → ℕ → ℕ × ℕ) (scenario : Scenario) (journal front : Rows) (by : Tellers) (base : Base) (course : Course) (into : Route) → IsQuietFront words scenario journal front → AreAllFree scenario front
+    → Among base (groups_at as_nodes scenario.groups front) → IsQuietGroup by words scenario journal front base course → (state_at as_nodes base journal course.newest).core.gone ≡ Some into → IsTakenIn (replicas_at scenario front) into
+
+-- .. and of a group that stands the link is as a quiet journal asks it.
+abbrev pub FrontsAreLinked : Type 0
+FrontsAreLinked =
+    (words : ℕ → ℕ → ℕ × ℕ) (scenario : Scenario) (journal front : Rows) (by : Tellers) (base : Base) (course : Course) (lead : ReplicaState) → IsQuietFront words scenario journal front → AreAllFree scenario front
+    → Among base (groups_at as_nodes scenario.groups front) → IsQuietGroup by words scenario journal front base course → course.gone ≡ false → replicas_at scenario front base.core.id course.ballot.node ≡ Some lead → IsLinked (replicas_at scenario front) lead

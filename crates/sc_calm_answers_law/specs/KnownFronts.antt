@@ -1,0 +1,76 @@
+-- A quiet front of a calm journal, and what is known of its groups.
+use Rattle.std.specs.Prelude.{◌≡◌, ℕ, ◌+◌, true, false, [], length, Some}
+use Rattle.sc_base.specs.Among.{Among}
+use Rattle.sc_base.specs.declared.names.Draw.{Draw}
+use Rattle.sc_cmd.specs.declared.cores.Base.{Base}
+use Rattle.sc_actor.specs.Mail.{mails}
+use Rattle.sc_actor.specs.Walk.{is_quiet}
+use Rattle.sc_orderly_law.specs.Orderly.{is_born}
+use Rattle.sc_paxos_law.specs.Chosen.{IsLog}
+use Rattle.sc_scenario.specs.declared.scenarios.Scenario.{Scenario}
+use Rattle.sc_node_table.specs.Replica.{ReplicaState}
+use Rattle.sc_sound.specs.GroupsOf.{groups_at}
+use Rattle.sc_sound.specs.Accepts.{accepts}
+use Rattle.sc_sound.specs.Logs.{rule_of, decided_log}
+use Rattle.sc_sound.specs.Players.{Lawful, births, as_nodes}
+use Rattle.sc_sound.specs.Soundness.{Continues, HasRun}
+use Rattle.sc_calm_law.specs.Charts.{players}
+use Rattle.sc_calm_law.specs.Totals.{Rows}
+use Rattle.sc_following_law.specs.Following.{Course}
+use Rattle.sc_calm_rows_law.specs.Groups.{view_at, marks_at}
+use Rattle.sc_calm_led_law.specs.Tellers.{tellers_at}
+use Rattle.sc_calm_scenes_law.specs.Fresh.{IsThere}
+use Rattle.sc_calm_answers_law.specs.Rests.{IsQuietGroup}
+use Rattle.sc_budget_law.specs.AskingQuiet.{replicas_after}
+use Rattle.sc_calm_answers_law.specs.Settings.{AreAtNodes}
+use Rattle.sc_calm_answers_law.specs.Journal.{IsCalmJournal, IsFront, AreSent}
+use Rattle.sc_calm_answers_law.specs.Offered.{AreAskedBelow}
+
+-- a replica is of a group of some rows, and has executed first entries of its log
+pub record IsOfGroup (scenario : Scenario) (rows : Rows) (name : Draw) (r : ReplicaState) : Type 0 where
+  pub base : Base
+  pub among : Among base (groups_at as_nodes scenario.groups rows)
+  pub named : base.core.id ≡ name
+  pub run : HasRun as_nodes base rows r
+
+-- The groups of a front are groups of the journal, in which no two have one name, and their logs are logs and go on; each replica is of one of them; replicas are at nodes of the scenario, and a player of it has those that its node has.
+pub record IsFoundFront (words : ℕ → ℕ → ℕ × ℕ) (scenario : Scenario) (journal front : Rows) : Type 0 where
+  pub lawful : Lawful as_nodes words scenario front
+  pub apart : (one other : Base) → Among one (groups_at as_nodes scenario.groups journal) → Among other (groups_at as_nodes scenario.groups journal) → one.core.id ≡ other.core.id → one ≡ other
+  pub later : (base : Base) → Among base (groups_at as_nodes scenario.groups front) → Among base (groups_at as_nodes scenario.groups journal)
+  pub goes_on : (base : Base) → Among base (groups_at as_nodes scenario.groups front) → Continues (decided_log as_nodes base front) (decided_log as_nodes base journal)
+  pub is_log : (base : Base) → Among base (groups_at as_nodes scenario.groups front) → IsLog (rule_of as_nodes base) (accepts base.core.id front) (decided_log as_nodes base front)
+  pub replicas : (name : Draw) (node : ℕ) (r : ReplicaState) → replicas_after scenario front name node ≡ Some r → IsOfGroup scenario front name r
+  pub homes : AreAtNodes scenario front
+  pub views : (name : Draw) (node : ℕ) → replicas_after scenario front name node ≡ view_at (births as_nodes scenario) front name node
+
+-- So it is of each front of a calm journal.
+abbrev pub FrontsAreFound : Type 0
+FrontsAreFound =
+    (words : ℕ → ℕ → ℕ × ℕ) (scenario : Scenario) (journal front : Rows) → IsCalmJournal words scenario journal → IsFront journal front → IsFoundFront words scenario journal front
+
+-- A quiet front of a calm journal, whose groups are well led; no mail of a group is for who is no actor.
+pub record IsQuietFront (words : ℕ → ℕ → ℕ × ℕ) (scenario : Scenario) (journal front : Rows) : Type 0 where
+  pub calm : IsCalmJournal words scenario journal
+  pub begins : IsFront journal front
+  pub quiet : is_quiet (players words (births as_nodes scenario)) front ≡ true
+  pub sent : AreSent words scenario journal front
+  pub strangers : (base : Base) → Among base (groups_at as_nodes scenario.groups journal) → (who : ℕ) → is_born (players words (births as_nodes scenario)) who ≡ false → marks_at (players words (births as_nodes scenario)) front base.core.id who ≡ []
+
+-- a group of the journal is a quiet group after the front, asked for nothing beyond its course; and its log after the front is executed
+pub record IsKnownGroup (words : ℕ → ℕ → ℕ × ℕ) (scenario : Scenario) (journal front : Rows) (base : Base) : Type 0 where
+  pub course : Course
+  pub quiet : IsQuietGroup (tellers_at as_nodes scenario base journal) words scenario journal front base course
+  pub asked : AreAskedBelow base.core.id course.bound (mails front)
+
+-- So it is of each group that has a replica then ..
+abbrev pub QuietFrontsHaveGroups : Type 0
+QuietFrontsHaveGroups =
+    (words : ℕ → ℕ → ℕ × ℕ) (scenario : Scenario) (journal front : Rows) (base : Base) → IsQuietFront words scenario journal front → Among base (groups_at as_nodes scenario.groups journal) → IsThere (births as_nodes scenario) front base.core.id
+    → IsKnownGroup words scenario journal front base
+
+-- .. and one that is a group after the front has executed its log then, at its newest replicas.
+abbrev pub QuietLogsAreExecuted : Type 0
+QuietLogsAreExecuted =
+    (words : ℕ → ℕ → ℕ × ℕ) (scenario : Scenario) (journal front : Rows) (base : Base) → IsQuietFront words scenario journal front → Among base (groups_at as_nodes scenario.groups front) → IsThere (births as_nodes scenario) front base.core.id
+    → (known : IsKnownGroup words scenario journal front base) × (length (decided_log as_nodes base front) + 1 ≡ known.course.newest)

@@ -1,0 +1,41 @@
+-- That groups go one after another, where at most one more is gone.
+use Rattle.std.specs.Prelude.{◌≡◌, ℕ, List, ◌++◌, None, Some}
+use Rattle.sc_base.specs.Among.{Among}
+use Rattle.sc_base.specs.declared.names.Draw.{Draw}
+use Rattle.sc_cmd.specs.declared.links.Route.{Route}
+use Rattle.sc_scenario.specs.declared.scenarios.Scenario.{Scenario}
+use Rattle.sc_node_table.specs.Replica.{ReplicaState}
+use Rattle.sc_sound.specs.Players.{births, as_nodes}
+use Rattle.sc_calm_law.specs.Totals.{Rows}
+use Rattle.sc_budget_law.specs.AskingQuiet.{replicas_after}
+use Rattle.sc_calm_charts_law.specs.Charting.{all_replicas, names_at, went_in}
+use Rattle.sc_calm_charts_law.specs.Ends.{GoInTurn}
+use Rattle.sc_calm_answers_law.specs.KnownFronts.{IsQuietFront}
+use Rattle.sc_calm_answers_law.specs.Links.{AreAllFree}
+
+-- All groups that went are gone still, where they were; at most this one more is, and it went into one that stands; and each that is gone has one of the names, which go on.
+pub record GoesOnce (names later_names : List Draw) (replicas later : List ReplicaState) (group : Draw) : Type 0 where
+  pub more : List Draw
+  pub go_on : later_names ≡ names ++ more
+  pub named : (other : Draw) (into : Route) → went_in other replicas ≡ Some into → Among other names
+  pub here : (other : Draw) (into : Route) → went_in other later ≡ Some into → Among other later_names
+  pub stays : (other : Draw) (into : Route) → went_in other replicas ≡ Some into → went_in other later ≡ Some into
+  pub others : (other : Draw) (into : Route) → (other ≡ group → ⊥) → went_in other later ≡ Some into → went_in other replicas ≡ Some into
+  pub stands : (into : Route) → went_in group later ≡ Some into → went_in into.group later ≡ None
+
+-- So they go one after another then, by some numbers.
+abbrev pub TurnsGoOn : Type 0
+TurnsGoOn =
+    (names later_names : List Draw) (replicas later : List ReplicaState) (group : Draw) (turn : Draw → ℕ) → GoInTurn names replicas turn → GoesOnce names later_names replicas later group → (after : Draw → ℕ) × GoInTurn later_names later after
+
+-- Between two fronts at most this group went, and into one that stands.
+pub record GoesAlone (scenario : Scenario) (quiet front : Rows) (group : Draw) : Type 0 where
+  pub others : (name : Draw) (node : ℕ) (r : ReplicaState) (into : Route) → (name ≡ group → ⊥) → replicas_after scenario front name node ≡ Some r → r.group.core.gone ≡ Some into
+      → (who : ℕ) × (s : ReplicaState) × (old : Route) × (replicas_after scenario quiet name who ≡ Some s) × (s.group.core.gone ≡ Some old)
+  pub stands : (node : ℕ) (r : ReplicaState) (into : Route) → replicas_after scenario front group node ≡ Some r → r.group.core.gone ≡ Some into → (who : ℕ) (s : ReplicaState) → replicas_after scenario front into.group who ≡ Some s → s.group.core.gone ≡ None
+
+-- So groups go one after another in a quiet front, where they did in an earlier one in which none was bound.
+abbrev pub FrontsGoInTurn : Type 0
+FrontsGoInTurn =
+    (words : ℕ → ℕ → ℕ × ℕ) (scenario : Scenario) (journal quiet more : Rows) (turn : Draw → ℕ) (group : Draw) → IsQuietFront words scenario journal quiet → AreAllFree scenario quiet → IsQuietFront words scenario journal (quiet ++ more) → GoesAlone scenario quiet (quiet ++ more) group
+    → GoInTurn (names_at (births as_nodes scenario) quiet) (all_replicas (births as_nodes scenario) quiet) turn → (after : Draw → ℕ) × GoInTurn (names_at (births as_nodes scenario) (quiet ++ more)) (all_replicas (births as_nodes scenario) (quiet ++ more)) after

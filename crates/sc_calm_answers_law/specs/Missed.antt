@@ -1,0 +1,46 @@
+-- What a mail finds at a node without replica, and what children find that a row makes.
+use Rattle.std.specs.Prelude.{List, None, Some, ℕ, ◌≡◌}
+use Rattle.sc_actor.specs.declared.actors.Seat.{Seat}
+use Rattle.sc_actor.specs.declared.rows.Event.TheVariants.{Deliver}
+use Rattle.sc_base.specs.declared.names.Draw.{Draw}
+use Rattle.sc_calm_answers_law.specs.Guided.{IsNamedGuide}
+use Rattle.sc_calm_groups_law.specs.Led.{Ends, IsWellLed}
+use Rattle.sc_calm_law.specs.Totals.{Rows}
+use Rattle.sc_calm_mail_law.specs.Posted.{IsPosted}
+use Rattle.sc_calm_orders_law.specs.Parts.{bond_of}
+use Rattle.sc_calm_orders_law.specs.Scenes.{Unbound}
+use Rattle.sc_calm_rows_law.specs.Groups.{view_at}
+use Rattle.sc_calm_scenes_law.specs.Found.{NodeFinds}
+use Rattle.sc_calm_scenes_law.specs.Fresh.{IsThere}
+use Rattle.sc_calm_scenes_law.specs.Taken.{IsTaking, MayBear}
+use Rattle.sc_cmd.specs.declared.cores.Base.{Base}
+use Rattle.sc_cmd.specs.declared.cores.Lock.TheVariants.{Free}
+use Rattle.sc_following_law.specs.Following.{Course, Sets}
+use Rattle.sc_following_law.specs.Hints.{Tellers}
+use Rattle.sc_mail.specs.declared.bodies.Mail.{Mail}
+use Rattle.sc_mail.specs.declared.bodies.MailBody.TheVariants.{Install}
+use Rattle.sc_node_table.specs.Node.{NodeState}
+use Rattle.sc_node_table.specs.Replica.{ReplicaState}
+use Rattle.sc_sound.specs.Players.{Player}
+
+-- A mail to a node without replica of its group finds what an order needs: a question is its sender's; and a state is whole, of a member, and of a group that is guided at this row and has a replica.
+abbrev pub MissedAreFound : Type 0
+MissedAreFound =
+    (words : ℕ → ℕ → ℕ × ℕ) (births : List (Seat Player)) (rows : Rows) (seat : Seat Player) (number : ℕ) (mail : Mail) (group : Draw) (node : NodeState) → IsTaking words births rows seat number mail group node → IsPosted births mail
+    → ((slot : ℕ) (state : Base) (sets : List (List ℕ)) → mail.body ≡ Install group slot state sets → IsNamedGuide words births rows seat (Deliver number) group × IsThere births rows group)
+    → NodeFinds births rows seat number mail group mail.body
+
+-- A child that a row makes at a seat: it is well led, free, none of its replicas is bound, and its first member's node, if it is this one, has none yet.
+pub record IsYoung (words : ℕ → ℕ → ℕ × ℕ) (births : List (Seat Player)) (rows : Rows) (seat : Seat Player) (child : Base) : Type 0 where
+  pub at : Sets
+  pub over : Ends
+  pub by : Tellers
+  pub course : Course
+  pub led : IsWellLed at over by words births rows child course
+  pub free : child.core.lock ≡ Free
+  pub unbound : (node : ℕ) (r : ReplicaState) → view_at births rows child.core.id node ≡ Some r → bond_of r.group.core ≡ Unbound
+  pub first : child.core.first ≡ seat.who → view_at births rows child.core.id seat.who ≡ None
+
+-- Such a one may be made.
+abbrev pub YoungMayBear : Type 0
+YoungMayBear = (words : ℕ → ℕ → ℕ × ℕ) (births : List (Seat Player)) (rows : Rows) (seat : Seat Player) (child : Base) → IsYoung words births rows seat child → MayBear births rows seat child

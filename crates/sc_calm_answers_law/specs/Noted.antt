@@ -1,0 +1,33 @@
+-- That the requests which groups note in a quiet front of a calm journal were begun.
+use Rattle.std.specs.Prelude.{◌≡◌, ℕ, ◌≤◌, List, ◌∷◌, Some}
+use Rattle.sc_base.specs.Among.{Among}
+use Rattle.sc_base.specs.declared.names.Draw.{Draw}
+use Rattle.sc_cmd.specs.declared.cores.Base.{Base}
+use Rattle.sc_actor.specs.Replay.{value}
+use Rattle.sc_orderly_law.specs.Timely.{AreInTime}
+use Rattle.sc_scenario.specs.Valid.{IsValid}
+use Rattle.sc_scenario.specs.declared.scenarios.Asks.{Asks}
+use Rattle.sc_scenario.specs.declared.scenarios.Scenario.{Scenario}
+use Rattle.sc_sound.specs.Players.{births, as_nodes, player_table, client_seat, route_of}
+use Rattle.sc_sound.specs.Requests.{issue_row}
+use Rattle.sc_calm_law.specs.Charts.{players}
+use Rattle.sc_calm_law.specs.Quiet.{StandsQuiet}
+use Rattle.sc_calm_law.specs.Totals.{Rows}
+use Rattle.sc_budget_law.specs.AskingQuiet.{replicas_after}
+use Rattle.sc_budget_law.specs.AtRest.{frame_at_rest}
+use Rattle.sc_budget_law.specs.PlainClient.{IsBegun, begun_of}
+use Rattle.sc_budget_law.specs.PlainNode.{IsPlainGroup}
+use Rattle.sc_calm_answers_law.specs.KnownFronts.{IsQuietFront}
+use Rattle.sc_calm_answers_law.specs.Links.{AreAllFree}
+
+-- In rows that come in time each request that was issued is begun.
+abbrev pub IssuedAreBegun : Type 0
+IssuedAreBegun =
+    (words : ℕ → ℕ → ℕ × ℕ) (scenario : Scenario) (first : Base) (others : List Base) (rows : Rows) (asks : Asks) (seq at : ℕ) → IsValid scenario → scenario.groups ≡ first ∷ others → AreInTime (players words (births as_nodes scenario)) rows → Among asks scenario.clients
+    → issue_row asks.client seq rows ≡ Some at → seq ≤ begun_of (value player_table (client_seat (route_of first) asks) rows)
+
+-- So the group of a leader that stands in a quiet front has noted begun requests alone, and all values that it has come of such.
+abbrev pub FrontsAreNoted : Type 0
+FrontsAreNoted =
+    (words : ℕ → ℕ → ℕ × ℕ) (scenario : Scenario) (journal front : Rows) → IsQuietFront words scenario journal front → AreAllFree scenario front
+    → (group : Draw) (stands : StandsQuiet (replicas_after scenario front) group) → IsPlainGroup (IsBegun scenario front) (frame_at_rest stands.lead) stands.lead.group

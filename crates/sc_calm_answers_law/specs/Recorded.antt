@@ -1,0 +1,35 @@
+-- That a vote that a coordinator has in flight is true, since a quiet journal.
+use Rattle.std.specs.Prelude.{ℕ}
+use Rattle.sc_base.specs.Among.{Among}
+use Rattle.sc_base.specs.declared.names.Draw.{Draw}
+use Rattle.sc_cmd.specs.declared.commands.Command.{Command}
+use Rattle.sc_cmd.specs.declared.commands.Command.TheVariants.{Noop, Call, Join, Leave, Split, Begin, Prepared, RecordVote, GiveUp, Finish, Watched, RecordWatch}
+use Rattle.sc_cmd.specs.declared.cores.Base.{Base}
+use Rattle.sc_node_table.specs.Replica.{ReplicaState}
+use Rattle.sc_paxos_words.specs.declared.flights.Flight.{Flight}
+use Rattle.sc_scenario.specs.declared.scenarios.Scenario.{Scenario}
+use Rattle.sc_calm_law.specs.Totals.{Rows}
+use Rattle.sc_calm_orders_law.specs.Stages.{Stage}
+use Rattle.sc_calm_answers_law.specs.Votes.{IsTrueEntry}
+use Rattle.sc_calm_answers_law.specs.TrueEntries.{LeadsSince}
+
+-- a vote that is recorded
+abbrev pub IsRecord : Command → Type 0
+IsRecord (RecordVote tx vote by) = Unit {0}
+IsRecord (RecordWatch tx vote by) = Unit {0}
+IsRecord (Finish tx outcome) = ⊥
+IsRecord Noop = ⊥
+IsRecord (Call client seq op) = ⊥
+IsRecord (Join node order) = ⊥
+IsRecord (Leave node order) = ⊥
+IsRecord (Split at child order) = ⊥
+IsRecord (Begin tx body order) = ⊥
+IsRecord (Prepared tx offer) = ⊥
+IsRecord (GiveUp tx) = ⊥
+IsRecord (Watched tx watch) = ⊥
+
+-- Each of these that it has in flight is true: a participant's Yes decides, or asks a watcher that is neither the coordinator nor the participant, and its leader stays; and a watcher's vote decides.
+abbrev pub RecordsAreTrue : Type 0
+RecordsAreTrue =
+    (words : ℕ → ℕ → ℕ × ℕ) (scenario : Scenario) (first : Base) (journal quiet rows : Rows) (name : Draw) (node : ℕ) (r : ReplicaState) (stage : Stage) → LeadsSince words scenario first journal quiet rows name node r stage
+    → (flight : Flight Command) → Among flight r.leader.flights → IsRecord flight.value → IsTrueEntry r.me r.group flight.value

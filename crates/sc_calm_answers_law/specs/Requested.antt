@@ -1,0 +1,74 @@
+-- What holds while clients ask alone since a quiet front of a calm journal.
+use Rattle.std.specs.Prelude.{◌≡◌, ℕ, ◌+◌, ◌≤◌, List, [], ◌∷◌, ◌++◌, true}
+use Rattle.sc_base.specs.Among.{Among}
+use Rattle.sc_cmd.specs.declared.cores.Base.{Base}
+use Rattle.sc_cmd.specs.declared.orders.OrderLine.{OrderLine}
+use Rattle.sc_mail.specs.declared.bodies.Mail.{Mail}
+use Rattle.sc_member.specs.Roster.{is_member}
+use Rattle.sc_actor.specs.declared.actors.Seat.{Seat}
+use Rattle.sc_actor.specs.declared.rows.Event.{Event}
+use Rattle.sc_actor.specs.declared.rows.Row.{Row}
+use Rattle.sc_actor.specs.System.{row_of}
+use Rattle.sc_orderly_law.specs.Orderly.{IsInOrder, is_born, orders}
+use Rattle.sc_log_law.specs.Findings.{AreItsLogs}
+use Rattle.sc_sound.specs.Soundness.{IsOneMap}
+use Rattle.sc_scenario.specs.declared.scenarios.Scenario.{Scenario}
+use Rattle.sc_sound.specs.GroupsOf.{groups_at, world_at}
+use Rattle.sc_sound.specs.Players.{Player, player_table, births, as_nodes}
+use Rattle.sc_calm_law.specs.Charts.{players}
+use Rattle.sc_calm_law.specs.Keeping.{FindsCalm}
+use Rattle.sc_calm_law.specs.Totals.{Rows}
+use Rattle.sc_calm_rows_law.specs.Turns.{IsSeat, with_event}
+use Rattle.sc_calm_answers_law.specs.SentJournals.{IsQuietWhileYoung}
+use Rattle.sc_calm_charts_law.specs.Charting.{chart_at}
+use Rattle.sc_calm_charts_law.specs.Fronts.{quiet_front}
+use Rattle.sc_budget_law.specs.Asking.{IsAsking}
+use Rattle.sc_budget_law.specs.AskingLines.{AreRequests, NobodyWaits}
+use Rattle.sc_budget_law.specs.AskingQuiet.{replicas_after, setting_at}
+use Rattle.sc_budget_law.specs.CalmNode.{Setting}
+use Rattle.sc_calm_requests_law.specs.Rows.{NodesMayPump, AreNear}
+use Rattle.sc_calm_answers_law.specs.SettingCounting.{GoneAgree}
+use Rattle.sc_calm_answers_law.specs.Settings.{frames_after, AreAtNodes}
+use Rattle.sc_calm_answers_law.specs.Journal.{IsCalmJournal, IsFront, AreSent}
+use Rattle.sc_calm_answers_law.specs.Resting.{RestsAt}
+
+-- The setting that a quiet front gives to the requests behind it: the frames of the groups that stand, and ways as its chart has them.
+abbrev pub setting_of : (ℕ → ℕ → ℕ × ℕ) → Scenario → ℕ → ℕ → Rows → Setting
+setting_of words scenario far sent quiet = setting_at (replicas_after scenario quiet) (frames_after scenario quiet) (chart_at far sent (players words (births as_nodes scenario)) quiet).ways
+
+-- What else is known of a calm journal and one of its quiet fronts: there the entries are the logs and make one map, and replicas that are gone agree where; replicas are at nodes of the scenario, and may pump, after all first rows; first members are players; and ways may be longer by one than orders were told.
+pub record IsKnownFront (words : ℕ → ℕ → ℕ × ℕ) (scenario : Scenario) (journal quiet : Rows) (far : ℕ) : Type 0 where
+  pub one : IsOneMap (world_at as_nodes scenario.groups quiet)
+  pub logs : AreItsLogs as_nodes scenario.groups quiet
+  pub agree : GoneAgree (replicas_after scenario quiet)
+  pub homes : (rows : Rows) → IsFront journal rows → AreAtNodes scenario rows
+  pub pumps : (rows : Rows) → IsFront journal rows → NodesMayPump scenario rows
+  pub born : (base : Base) → Among base (groups_at as_nodes scenario.groups journal) → (who : ℕ) → is_member base.core.members who ≡ true → is_born (players words (births as_nodes scenario)) who ≡ true
+  pub room : orders quiet + 1 ≤ far
+
+-- Since a quiet front that rests clients asked by the rows behind it, and all players and mail are as requests leave them.
+pub record IsRequested (words : ℕ → ℕ → ℕ × ℕ) (scenario : Scenario) (first : Base) (far sent : ℕ) (quiet after : Rows) : Type 0 where
+  pub requests : AreRequests words scenario (setting_of words scenario far sent quiet) quiet after
+  pub asking : IsAsking words scenario (setting_of words scenario far sent quiet) first (quiet ++ after)
+
+-- So it is with nothing behind ..
+abbrev pub RequestsBegin : Type 0
+RequestsBegin =
+    (words : ℕ → ℕ → ℕ × ℕ) (scenario : Scenario) (first : Base) (others : List Base) (far sent : ℕ) (journal quiet : Rows) → IsCalmJournal words scenario journal → scenario.groups ≡ first ∷ others → RestsAt words scenario first journal quiet
+    → IsKnownFront words scenario journal quiet far → IsRequested words scenario first far sent quiet [] × NobodyWaits scenario first quiet
+
+-- .. and whatever comes next in order, which tells no order, finds what keeps the journal calm, and leaves it so.
+abbrev pub RequestsKeepCalm : Type 0
+RequestsKeepCalm =
+    (words : ℕ → ℕ → ℕ × ℕ) (scenario : Scenario) (first : Base) (others : List Base) (far sent : ℕ) (journal quiet after : Rows) (seat : Seat Player) (event : Event OrderLine) → IsCalmJournal words scenario journal → scenario.groups ≡ first ∷ others
+    → RestsAt words scenario first journal quiet → IsKnownFront words scenario journal quiet far → IsRequested words scenario first far sent quiet after → IsFront journal (with_event (quiet ++ after) seat event) → IsSeat (births as_nodes scenario) seat
+    → IsInOrder (players words (births as_nodes scenario)) (quiet ++ after) seat.who event → quiet_front (players words (births as_nodes scenario)) (quiet ++ after) ≡ quiet
+    → AreNear scenario (chart_at far sent (players words (births as_nodes scenario)) (quiet ++ after)) first (quiet ++ after)
+    → FindsCalm (chart_at far sent (players words (births as_nodes scenario)) (quiet ++ after)) (births as_nodes scenario) (quiet ++ after) seat event
+    × IsRequested words scenario first far sent quiet (after ++ row_of player_table seat (quiet ++ after) event ∷ [])
+
+-- While clients ask, no first member of a group that has no replica of it yet is sent anything of it.
+abbrev pub RequestsLeaveYoung : Type 0
+RequestsLeaveYoung =
+    (words : ℕ → ℕ → ℕ × ℕ) (scenario : Scenario) (first : Base) (others : List Base) (far sent : ℕ) (journal quiet after : Rows) (base : Base) → IsCalmJournal words scenario journal → scenario.groups ≡ first ∷ others → RestsAt words scenario first journal quiet → IsFront journal (quiet ++ after)
+    → IsKnownFront words scenario journal quiet far → IsRequested words scenario first far sent quiet after → Among base (groups_at as_nodes scenario.groups journal) → IsQuietWhileYoung words (births as_nodes scenario) (quiet ++ after) base

@@ -1,0 +1,42 @@
+-- What holds of a quiet front of a calm journal.
+use Rattle.std.specs.Prelude.{◌≡◌, ℕ, ◌+◌, ◌≤◌, true, Some}
+use Rattle.sc_base.specs.Among.{Among}
+use Rattle.sc_base.specs.declared.names.Draw.{Draw}
+use Rattle.sc_cmd.specs.declared.cores.Base.{Base}
+use Rattle.sc_member.specs.Roster.{is_member}
+use Rattle.sc_actor.specs.Walk.{is_quiet}
+use Rattle.sc_orderly_law.specs.Orderly.{orders}
+use Rattle.sc_scenario.specs.declared.scenarios.Scenario.{Scenario}
+use Rattle.sc_node_table.specs.Replica.{ReplicaState}
+use Rattle.sc_sound.specs.GroupsOf.{groups_at}
+use Rattle.sc_sound.specs.Players.{births, as_nodes}
+use Rattle.sc_calm_law.specs.Charts.{players}
+use Rattle.sc_calm_law.specs.Quiet.{HasReplica}
+use Rattle.sc_calm_law.specs.Totals.{Rows}
+use Rattle.sc_calm_rows_law.specs.Groups.{view_at}
+use Rattle.sc_calm_orders_law.specs.Stages.{Still, IsAt}
+use Rattle.sc_calm_scenes_law.specs.Scenes.{scene_at}
+use Rattle.sc_calm_scenes_law.specs.Fresh.{IsThere}
+use Rattle.sc_calm_charts_law.specs.Charting.{names_at, all_replicas}
+use Rattle.sc_calm_charts_law.specs.Ends.{GoInTurn}
+use Rattle.sc_budget_law.specs.AskingQuiet.{IsQuietJournal, replicas_after}
+use Rattle.sc_calm_ring_law.specs.Cuts.{AreKnown}
+use Rattle.sc_calm_requests_law.specs.OneLog.{AllMayPump}
+use Rattle.sc_calm_answers_law.specs.Settings.{AreReachable}
+use Rattle.sc_calm_answers_law.specs.Journal.{IsFront, AreSent}
+
+-- The players are as a quiet journal asks it; all groups are well led, and the first members of each that is there have a replica; nothing of an order is left; links and routes name nodes that have replicas; rounds are counted from 1 on, and no more were begun behind the first than orders told; and groups went one after another.
+pub record RestsAt (words : ℕ → ℕ → ℕ × ℕ) (scenario : Scenario) (first : Base) (journal quiet : Rows) : Type 0 where
+  pub front : IsFront journal quiet
+  pub calm : is_quiet (players words (births as_nodes scenario)) quiet ≡ true
+  pub is : IsQuietJournal words scenario first quiet
+  pub sent : AreSent words scenario journal quiet
+  pub members : (base : Base) → Among base (groups_at as_nodes scenario.groups journal) → IsThere (births as_nodes scenario) quiet base.core.id
+      → (node : ℕ) → is_member base.core.members node ≡ true → HasReplica (view_at (births as_nodes scenario) quiet) base.core.id node
+  pub still : IsAt Still (scene_at (births as_nodes scenario) quiet)
+  pub known : AreKnown scenario quiet
+  pub reach : AreReachable (replicas_after scenario quiet)
+  pub pumps : AllMayPump (replicas_after scenario quiet)
+  pub rounds : (name : Draw) (node : ℕ) (r : ReplicaState) → view_at (births as_nodes scenario) quiet name node ≡ Some r → (1 ≤ r.top.round) × (r.top.round ≤ orders quiet + 1)
+  pub turn : Draw → ℕ
+  pub turns : GoInTurn (names_at (births as_nodes scenario) quiet) (all_replicas (births as_nodes scenario) quiet) turn

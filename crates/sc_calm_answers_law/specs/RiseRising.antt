@@ -1,0 +1,21 @@
+-- That hints rise after some rows of a calm journal: what is kept of a group in its course, row by row.
+use Rattle.std.specs.Prelude.{◌≡◌, ℕ, List, Some}
+use Rattle.sc_cmd.specs.declared.cores.Base.{Base}
+use Rattle.sc_actor.specs.declared.actors.Seat.{Seat}
+use Rattle.sc_paxos_words.specs.Ballots.{IsAtLeast}
+use Rattle.sc_node_table.specs.Replica.{ReplicaState}
+use Rattle.sc_sound.specs.Players.{Player}
+use Rattle.sc_calm_law.specs.Charts.{players}
+use Rattle.sc_calm_law.specs.Totals.{Rows}
+use Rattle.sc_following_law.specs.Following.{pledged, Course, Sets}
+use Rattle.sc_following_law.specs.Hints.{Tellers}
+use Rattle.sc_calm_rows_law.specs.Groups.{view_at, marks_at, progress_at}
+use Rattle.sc_calm_groups_law.specs.Led.{hints_at}
+use Rattle.sc_calm_answers_law.specs.Fates.{AreFated}
+use Rattle.sc_calm_answers_law.specs.RiseHomes.{AreSeen}
+
+-- Those that left the group are so; no replica saw a later ballot than it has promised, once it has taken its mail; and each ballot that is promised or named was seen by its node.
+pub record IsRisingOn (at : Sets) (by : Tellers) (words : ℕ → ℕ → ℕ × ℕ) (births : List (Seat Player)) (rows : Rows) (base : Base) (course : Course) : Type 0 where
+  pub fated : AreFated at by (progress_at births rows base course) (hints_at births rows base) (marks_at (players words births) rows base.core.id)
+  pub seen : (node : ℕ) (r : ReplicaState) → view_at births rows base.core.id node ≡ Some r → IsAtLeast (pledged r.acceptor.promised (marks_at (players words births) rows base.core.id node)) r.top
+  pub home : AreSeen words births rows base

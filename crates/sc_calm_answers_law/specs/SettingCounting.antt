@@ -1,0 +1,35 @@
+-- That the chart of some rows counts as the setting does that the last quiet journal before them gives.
+use Rattle.std.specs.Prelude.{◌≡◌, ℕ, List, ◌∷◌, Some}
+use Rattle.sc_base.specs.declared.names.Draw.{Draw}
+use Rattle.sc_cmd.specs.declared.cores.Base.{Base}
+use Rattle.sc_cmd.specs.declared.links.Route.{Route}
+use Rattle.sc_cmd.specs.declared.orders.OrderLine.{OrderLine}
+use Rattle.sc_mail.specs.declared.bodies.Mail.{Mail}
+use Rattle.sc_actor.specs.declared.rows.Row.{Row}
+use Rattle.sc_node_table.specs.Replica.{ReplicaState}
+use Rattle.sc_scenario.specs.declared.scenarios.Scenario.{Scenario}
+use Rattle.sc_scenario.specs.Valid.{IsValid}
+use Rattle.sc_sound.specs.Players.{as_nodes, births, Lawful}
+use Rattle.sc_calm_law.specs.Charts.{players}
+use Rattle.sc_calm_law.specs.Quiet.{View as Replicas}
+use Rattle.sc_calm_charts_law.specs.Charting.{all_replicas, names_at, chart_at}
+use Rattle.sc_calm_charts_law.specs.Ends.{GoInTurn}
+use Rattle.sc_calm_charts_law.specs.Fronts.{quiet_front}
+use Rattle.sc_budget_law.specs.AskingQuiet.{replicas_after, setting_at, AreFramesOf, IsQuietJournal}
+use Rattle.sc_budget_law.specs.Frames.{Frame}
+use Rattle.sc_calm_requests_law.specs.Finding.{CountsAs}
+use Rattle.sc_calm_answers_law.specs.Settings.{AreAtNodes, AreReachable}
+
+-- replicas of one group that are gone know the same group that it went into
+abbrev pub GoneAgree : Replicas → Type 0
+GoneAgree at =
+    (group : Draw) (one other : ℕ) (r s : ReplicaState) (into elsewhere : Route) → at group one ≡ Some r → at group other ≡ Some s → r.group.core.gone ≡ Some into → s.group.core.gone ≡ Some elsewhere → into ≡ elsewhere
+
+-- Where groups go one after another, the chart after requests behind a quiet journal counts as its setting does.
+abbrev pub QuietChartsCount : Type 0
+QuietChartsCount =
+    (words : ℕ → ℕ → ℕ × ℕ) (scenario : Scenario) (first : Base) (others : List Base) (rows later : List (Row Mail OrderLine)) (far sent : ℕ) (frames : List Frame) (turn : Draw → ℕ)
+    → IsValid scenario → scenario.groups ≡ first ∷ others → Lawful as_nodes words scenario rows → IsQuietJournal words scenario first rows → AreAtNodes scenario rows → AreFramesOf (replicas_after scenario rows) frames
+    → AreReachable (replicas_after scenario rows) → GoneAgree (replicas_after scenario rows) → quiet_front (players words (births as_nodes scenario)) later ≡ rows
+    → GoInTurn (names_at (births as_nodes scenario) rows) (all_replicas (births as_nodes scenario) rows) turn
+    → CountsAs (setting_at (replicas_after scenario rows) frames (chart_at far sent (players words (births as_nodes scenario)) later).ways) (chart_at far sent (players words (births as_nodes scenario)) later)

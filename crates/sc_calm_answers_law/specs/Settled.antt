@@ -1,0 +1,84 @@
+-- That the leader of a coordinator stays settled: nobody is asked to promise in its group since a quiet journal.
+use Rattle.std.specs.Prelude.{◌≡◌, ℕ, true, false, List, [], ◌∷◌, Option, Some, ◌⊎◌}
+use Rattle.sc_actor.specs.declared.actors.Seat.{Seat}
+use Rattle.sc_actor.specs.declared.rows.Event.TheVariants.{Deliver, Told}
+use Rattle.sc_base.specs.Among.{Each}
+use Rattle.sc_base.specs.declared.names.Draw.{Draw}
+use Rattle.sc_cmd.specs.declared.cores.Base.{Base}
+use Rattle.sc_cmd.specs.declared.orders.OrderLine.{OrderLine}
+use Rattle.sc_mail.specs.declared.bodies.Mail.{Mail}
+use Rattle.sc_mail.specs.declared.bodies.MailBody.TheVariants.{TxElsewhere}
+use Rattle.sc_node_table.specs.Node.{NodeState}
+use Rattle.sc_node_table.specs.Replica.{ReplicaState, settled}
+use Rattle.sc_orderly_law.specs.Orderly.{is_born}
+use Rattle.sc_scenario.specs.declared.scenarios.Scenario.{Scenario}
+use Rattle.sc_sound.specs.Players.{Player, as_nodes, births}
+use Rattle.sc_following_law.specs.Following.{Asks as AsksFor, Installs, Mark, Prepares, Promises, Tells, Votes}
+use Rattle.sc_calm_law.specs.Charts.{players}
+use Rattle.sc_calm_law.specs.Totals.{Rows}
+use Rattle.sc_calm_orders_law.specs.Stages.{Asks, Closes, ClosesBoth, IsAt, Ordered, Recorded, Replied, SentOn, Stage, Still, Weighs}
+use Rattle.sc_calm_rows_law.specs.Groups.{marks_at, view_at}
+use Rattle.sc_calm_rows_law.specs.Turns.{with_event}
+use Rattle.sc_calm_scenes_law.specs.Fresh.{IsToldInQuiet}
+use Rattle.sc_calm_scenes_law.specs.Kept.{GoesBy}
+use Rattle.sc_calm_scenes_law.specs.Scenes.{scene_at}
+use Rattle.sc_calm_answers_law.specs.Votes.{IsOrdersAlone}
+use Rattle.sc_calm_answers_law.specs.Journal.{AreSent, IsCalmJournal, IsFront}
+use Rattle.sc_calm_answers_law.specs.Resting.{RestsAt}
+use Rattle.sc_calm_answers_law.specs.TrueGoing.{GoesOnSince}
+use Rattle.sc_calm_answers_law.specs.TrueUnder.{AreSeen, IsTrueSince}
+use Rattle.sc_calm_answers_law.specs.Unsettled.{TakesSince}
+
+-- neither asks to promise a ballot, nor is such a promise
+abbrev pub IsNoRound : Mark → Type 0
+IsNoRound (AsksFor ballot slot) = Unit {0}
+IsNoRound (Votes node ballot slot) = Unit {0}
+IsNoRound (Tells slot) = Unit {0}
+IsNoRound (Installs slot) = Unit {0}
+IsNoRound (Prepares ballot) = ⊥
+IsNoRound (Promises node ballot) = ⊥
+
+-- no such mail of a group is under way
+abbrev pub HasNoRounds : (ℕ → ℕ → ℕ × ℕ) → List (Seat Player) → Rows → Draw → Type 0
+HasNoRounds words births rows name = (who : ℕ) → Each IsNoRound (marks_at (players words births) rows name who)
+
+-- the group that is told the order, or coordinates its transaction, with the node that leads it
+abbrev pub coords_of : Stage → List (Draw × ℕ)
+coords_of Still = []
+coords_of (Ordered group chief work) = (group, chief) ∷ []
+coords_of (Asks deal to) = (deal.coord, deal.chief) ∷ []
+coords_of (SentOn deal) = (deal.coord, deal.chief) ∷ []
+coords_of (Weighs deal host) = (deal.coord, deal.chief) ∷ []
+coords_of (Replied deal agreed host) = (deal.coord, deal.chief) ∷ []
+coords_of (Recorded deal agreed host) = (deal.coord, deal.chief) ∷ []
+coords_of (Closes tx party) = []
+coords_of (ClosesBoth tx one two) = []
+
+-- no such mail of it is under way
+abbrev pub AreSettled : (ℕ → ℕ → ℕ × ℕ) → Scenario → Rows → Stage → Type 0
+AreSettled words scenario rows stage = Each (λ coord. HasNoRounds words (births as_nodes scenario) rows coord.0) (coords_of stage)
+
+-- So it is from an order on that is told in a quiet front, where no mail of a group is for who is no player ..
+abbrev pub SettledOrdersBegin : Type 0
+SettledOrdersBegin =
+    (words : ℕ → ℕ → ℕ × ℕ) (scenario : Scenario) (first : Base) (journal quiet : Rows) (seat : Seat Player) (line : OrderLine) (stage : Stage) → IsCalmJournal words scenario journal → RestsAt words scenario first journal quiet → AreSeen scenario quiet
+    → IsToldInQuiet words (births as_nodes scenario) quiet seat line → IsFront journal (with_event quiet seat (Told line)) → AreSent words scenario journal (with_event quiet seat (Told line))
+    → ((name : Draw) (who : ℕ) → is_born (players words (births as_nodes scenario)) who ≡ false → marks_at (players words (births as_nodes scenario)) quiet name who ≡ [])
+    → IsAt stage (scene_at (births as_nodes scenario) (with_event quiet seat (Told line))) → IsTrueSince scenario quiet (with_event quiet seat (Told line)) stage
+    → AreSettled words scenario (with_event quiet seat (Told line)) stage
+
+-- .. and after each delivery, where leaders have nothing but work in flight and ready.
+abbrev pub SettledOrdersGoOn : Type 0
+SettledOrdersGoOn =
+    (words : ℕ → ℕ → ℕ × ℕ) (scenario : Scenario) (first : Base) (journal quiet rows : Rows) (seat : Seat Player) (number : ℕ) (stage later : Stage) → GoesOnSince words scenario first journal quiet rows seat number stage
+    → AreSent words scenario journal rows → AreSent words scenario journal (with_event rows seat (Deliver number))
+    → ((name : Draw) (node : ℕ) (r : ReplicaState) → view_at (births as_nodes scenario) rows name node ≡ Some r → r.running ≡ true → IsOrdersAlone r)
+    → IsAt later (scene_at (births as_nodes scenario) (with_event rows seat (Deliver number))) → (later ≡ stage) ⊎ GoesBy rows (Deliver number) stage later
+    → IsTrueSince scenario quiet (with_event rows seat (Deliver number)) later → AreSettled words scenario rows stage → AreSettled words scenario (with_event rows seat (Deliver number)) later
+
+-- Then a coordinator that is to ask elsewhere is settled.
+abbrev pub CoordinatorsAreSettled : Type 0
+CoordinatorsAreSettled =
+    (words : ℕ → ℕ → ℕ × ℕ) (scenario : Scenario) (first : Base) (journal quiet rows : Rows) (seat : Seat Player) (number : ℕ) (mail : Mail) (group : Draw) (node : NodeState) (r : ReplicaState) (stage : Stage) (tx coord : Draw) (hint : Option ℕ)
+    → TakesSince words scenario first journal quiet rows seat number mail group node r stage → IsFront journal rows → AreSent words scenario journal rows → AreSettled words scenario rows stage
+    → mail.body ≡ TxElsewhere tx coord hint → r.running ≡ true → settled r ≡ true

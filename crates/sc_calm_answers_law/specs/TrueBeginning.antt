@@ -1,0 +1,22 @@
+-- That what is known of an order since a quiet journal is so from when it is told.
+use Rattle.sc_actor.specs.declared.actors.Seat.{Seat}
+use Rattle.sc_actor.specs.declared.rows.Event.TheVariants.{Told}
+use Rattle.sc_cmd.specs.declared.cores.Base.{Base}
+use Rattle.sc_cmd.specs.declared.orders.OrderLine.{OrderLine}
+use Rattle.sc_scenario.specs.declared.scenarios.Scenario.{Scenario}
+use Rattle.sc_sound.specs.Players.{Player, as_nodes, births}
+use Rattle.std.specs.Prelude.{ℕ}
+use Rattle.sc_calm_law.specs.Totals.{Rows}
+use Rattle.sc_calm_orders_law.specs.Stages.{IsAt, Stage}
+use Rattle.sc_calm_rows_law.specs.Turns.{with_event}
+use Rattle.sc_calm_scenes_law.specs.Fresh.{IsToldInQuiet}
+use Rattle.sc_calm_scenes_law.specs.Scenes.{scene_at}
+use Rattle.sc_calm_answers_law.specs.Journal.{IsCalmJournal}
+use Rattle.sc_calm_answers_law.specs.Resting.{RestsAt}
+use Rattle.sc_calm_answers_law.specs.TrueUnder.{AreSeen, IsTrueSince}
+
+-- An order that is told in a quiet front of a calm journal is so at each stage that stands then.
+abbrev pub TrueOrdersBegin : Type 0
+TrueOrdersBegin =
+    (words : ℕ → ℕ → ℕ × ℕ) (scenario : Scenario) (first : Base) (journal quiet : Rows) (seat : Seat Player) (line : OrderLine) (stage : Stage) → IsCalmJournal words scenario journal → RestsAt words scenario first journal quiet → AreSeen scenario quiet
+    → IsToldInQuiet words (births as_nodes scenario) quiet seat line → IsAt stage (scene_at (births as_nodes scenario) (with_event quiet seat (Told line))) → IsTrueSince scenario quiet (with_event quiet seat (Told line)) stage

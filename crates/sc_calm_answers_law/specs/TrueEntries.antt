@@ -1,0 +1,52 @@
+-- That what leaders have in flight of an order is true, since a quiet journal.
+use Rattle.std.specs.Prelude.{ℕ}
+use Rattle.sc_base.specs.Among.{Among}
+use Rattle.sc_base.specs.declared.names.Draw.{Draw}
+use Rattle.sc_cmd.specs.declared.commands.Command.{Command}
+use Rattle.sc_cmd.specs.declared.commands.Command.TheVariants.{Noop, Call, Join, Leave, Split, Begin, Prepared, RecordVote, GiveUp, Finish, Watched, RecordWatch}
+use Rattle.sc_cmd.specs.declared.cores.Base.{Base}
+use Rattle.sc_node_table.specs.Replica.{ReplicaState}
+use Rattle.sc_paxos_words.specs.declared.flights.Flight.{Flight}
+use Rattle.sc_scenario.specs.declared.scenarios.Scenario.{Scenario}
+use Rattle.sc_sound.specs.Players.{as_nodes, births}
+use Rattle.sc_calm_law.specs.Totals.{Rows}
+use Rattle.sc_calm_orders_law.specs.Stages.{Stage}
+use Rattle.sc_calm_scenes_law.specs.Fresh.{AreUntouched}
+use Rattle.sc_calm_scenes_law.specs.Turns.{LeadsAlone}
+use Rattle.sc_calm_answers_law.specs.Votes.{IsOrdersAlone, IsTrueEntry}
+use Rattle.sc_calm_answers_law.specs.Journal.{AreSent, IsCalmJournal, IsFront}
+use Rattle.sc_calm_answers_law.specs.Resting.{RestsAt}
+use Rattle.sc_calm_answers_law.specs.TrueUnder.{AreSeen, IsTrueSince}
+
+-- What is known of a replica that leads alone while an order is at a stage, since a quiet front of a calm journal: only work is in flight or ready there.
+pub record LeadsSince (words : ℕ → ℕ → ℕ × ℕ) (scenario : Scenario) (first : Base) (journal quiet rows : Rows) (name : Draw) (node : ℕ) (r : ReplicaState) (stage : Stage) : Type 0 where
+  pub calm : IsCalmJournal words scenario journal
+  pub rests : RestsAt words scenario first journal quiet
+  pub seen : AreSeen scenario quiet
+  pub front : IsFront journal rows
+  pub sent : AreSent words scenario journal rows
+  pub untouched : AreUntouched words (births as_nodes scenario) quiet rows stage
+  pub true_since : IsTrueSince scenario quiet rows stage
+  pub leads : LeadsAlone (births as_nodes scenario) rows name node r
+  pub alone : IsOrdersAlone r
+
+-- a command that begins or asks, or a vote that a group casts: neither a vote that is recorded, nor an outcome
+abbrev pub IsAskedOrCast : Command → Type 0
+IsAskedOrCast (RecordVote tx vote by) = ⊥
+IsAskedOrCast (RecordWatch tx vote by) = ⊥
+IsAskedOrCast (Finish tx outcome) = ⊥
+IsAskedOrCast Noop = Unit {0}
+IsAskedOrCast (Call client seq op) = Unit {0}
+IsAskedOrCast (Join node order) = Unit {0}
+IsAskedOrCast (Leave node order) = Unit {0}
+IsAskedOrCast (Split at child order) = Unit {0}
+IsAskedOrCast (Begin tx body order) = Unit {0}
+IsAskedOrCast (Prepared tx offer) = Unit {0}
+IsAskedOrCast (GiveUp tx) = Unit {0}
+IsAskedOrCast (Watched tx watch) = Unit {0}
+
+-- Each of these that it has in flight is true: one that begins a transaction asks another group, and one that votes has not voted, a watcher says Yes, and the leader stays.
+abbrev pub VotesAreTrue : Type 0
+VotesAreTrue =
+    (words : ℕ → ℕ → ℕ × ℕ) (scenario : Scenario) (first : Base) (journal quiet rows : Rows) (name : Draw) (node : ℕ) (r : ReplicaState) (stage : Stage) → LeadsSince words scenario first journal quiet rows name node r stage
+    → (flight : Flight Command) → Among flight r.leader.flights → IsAskedOrCast flight.value → IsTrueEntry r.me r.group flight.value

@@ -1,0 +1,36 @@
+-- That mail of a transaction which is under way since a quiet journal comes unsettled.
+use Rattle.std.specs.Prelude.{◌≡◌, ℕ, Option, Some}
+use Rattle.sc_actor.specs.declared.actors.Seat.{Seat}
+use Rattle.sc_base.specs.declared.names.Draw.{Draw}
+use Rattle.sc_cmd.specs.declared.cores.Base.{Base}
+use Rattle.sc_mail.specs.declared.bodies.Mail.{Mail}
+use Rattle.sc_mail.specs.declared.bodies.MailBody.TheVariants.{TxElsewhere}
+use Rattle.sc_node_table.specs.Node.{NodeState, replica_of}
+use Rattle.sc_node_table.specs.Replica.{ReplicaState}
+use Rattle.sc_scenario.specs.declared.scenarios.Scenario.{Scenario}
+use Rattle.sc_sound.specs.Players.{Player, as_nodes, births}
+use Rattle.sc_calm_law.specs.Totals.{Rows}
+use Rattle.sc_calm_orders_law.specs.Stages.{Stage}
+use Rattle.sc_calm_scenes_law.specs.Fresh.{AreUntouched}
+use Rattle.sc_calm_scenes_law.specs.Taken.{IsTaking}
+use Rattle.sc_calm_answers_law.specs.Beside.{IsUnsettled}
+use Rattle.sc_calm_answers_law.specs.Journal.{IsCalmJournal}
+use Rattle.sc_calm_answers_law.specs.Resting.{RestsAt}
+use Rattle.sc_calm_answers_law.specs.TrueUnder.{AreSeen, IsTrueSince}
+
+-- What is known where a replica takes a mail while an order is at a stage, since a quiet front of a calm journal.
+pub record TakesSince (words : ℕ → ℕ → ℕ × ℕ) (scenario : Scenario) (first : Base) (journal quiet rows : Rows) (seat : Seat Player) (number : ℕ) (mail : Mail) (group : Draw) (node : NodeState) (r : ReplicaState) (stage : Stage) : Type 0 where
+  pub calm : IsCalmJournal words scenario journal
+  pub rests : RestsAt words scenario first journal quiet
+  pub seen : AreSeen scenario quiet
+  pub untouched : AreUntouched words (births as_nodes scenario) quiet rows stage
+  pub true_since : IsTrueSince scenario quiet rows stage
+  pub taking : IsTaking words (births as_nodes scenario) rows seat number mail group node
+  pub here : replica_of group node.replicas ≡ Some r
+
+-- A question finds that no vote stands, and a vote that no outcome is noted.
+abbrev pub MailComesUnsettled : Type 0
+MailComesUnsettled =
+    (words : ℕ → ℕ → ℕ × ℕ) (scenario : Scenario) (first : Base) (journal quiet rows : Rows) (seat : Seat Player) (number : ℕ) (mail : Mail) (group : Draw) (node : NodeState) (r : ReplicaState) (stage : Stage)
+    → TakesSince words scenario first journal quiet rows seat number mail group node r stage
+    → ((tx coord : Draw) (hint : Option ℕ) → mail.body ≡ TxElsewhere tx coord hint → ⊥) → IsUnsettled r mail.body

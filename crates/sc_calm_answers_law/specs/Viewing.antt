@@ -1,0 +1,16 @@
+-- That the replicas of players are those of the nodes.
+use Rattle.std.specs.Prelude.{◌≡◌, ℕ}
+use Rattle.sc_base.specs.declared.names.Draw.{Draw}
+use Rattle.sc_scenario.specs.Valid.{IsBounded}
+use Rattle.sc_scenario.specs.declared.scenarios.Scenario.{Scenario}
+use Rattle.sc_sound.specs.Players.{births, as_nodes}
+use Rattle.sc_calm_law.specs.Totals.{Rows}
+use Rattle.sc_calm_rows_law.specs.Groups.{view_at}
+use Rattle.sc_calm_charts_law.specs.Charting.{replica_at as chart_replica}
+use Rattle.sc_calm_answers_law.specs.Settings.{AreAtNodes}
+use Rattle.sc_budget_law.specs.AskingQuiet.{replicas_after}
+
+-- After any rows of a scenario the replica of a player is that of the node with its number, where all replicas are at nodes; and so says the chart.
+pub record ViewsAgree : Type 0 where
+  pub nodes : (scenario : Scenario) (rows : Rows) (name : Draw) (who : ℕ) → IsBounded scenario → AreAtNodes scenario rows → view_at (births as_nodes scenario) rows name who ≡ replicas_after scenario rows name who
+  pub charts : (scenario : Scenario) (rows : Rows) (name : Draw) (who : ℕ) → chart_replica (births as_nodes scenario) rows name who ≡ view_at (births as_nodes scenario) rows name who

@@ -1,0 +1,84 @@
+-- What a vote finds at the leader, by the one command that is in flight there.
+use Rattle.std.specs.Prelude.{List, None, Some, [], false, true, ℕ, ◌∷◌, ◌≡◌, ◌⊎◌}
+use Rattle.sc_actor.specs.declared.actors.Seat.{Seat}
+use Rattle.sc_base.specs.Among.{Each}
+use Rattle.sc_base.specs.declared.names.Ballot.{Ballot}
+use Rattle.sc_base.specs.declared.names.Draw.{Draw}
+use Rattle.sc_calm_answers_law.specs.Beside.{IsHere}
+use Rattle.sc_calm_groups_law.specs.Slots.{IsSlotKept}
+use Rattle.sc_calm_law.specs.Totals.{Rows}
+use Rattle.sc_calm_orders_law.specs.Entries.{IsBegun}
+use Rattle.sc_calm_orders_law.specs.Parts.{bond_of}
+use Rattle.sc_calm_orders_law.specs.Scenes.{Answers, Asking, Bond, Bound, Changes, Ends, First, GivesUp, Lone, Next, Opens, Records, Scene, Turn, Unbound, Work, is_watch}
+use Rattle.sc_calm_orders_law.specs.Stages.{IsUnderWay, IsVote}
+use Rattle.sc_calm_scenes_law.specs.Counted.{StaysIn}
+use Rattle.sc_calm_scenes_law.specs.Found.{FindsFlight}
+use Rattle.sc_calm_scenes_law.specs.Quiet.{IsWork}
+use Rattle.sc_calm_scenes_law.specs.Scenes.{scene_at}
+use Rattle.sc_cmd.specs.Cores.{is_alone}
+use Rattle.sc_cmd.specs.Effects.{decided_in, is_changed}
+use Rattle.sc_cmd.specs.declared.commands.Command.{Command}
+use Rattle.sc_cmd.specs.declared.commands.Command.TheVariants.{Begin, Call, Finish, GiveUp, Join, Leave, Noop, Prepared, RecordVote, RecordWatch, Split, Watched}
+use Rattle.sc_cmd.specs.declared.cores.Base.{Base}
+use Rattle.sc_cmd.specs.declared.votes.Outcome.{Outcome}
+use Rattle.sc_machine_table.specs.Group.{Group}
+use Rattle.sc_machine_table.specs.Machine.{applied}
+use Rattle.sc_machine_table.specs.Votes.{has_voted, watch_vote_of}
+use Rattle.sc_mail.specs.declared.bodies.Mail.{Mail}
+use Rattle.sc_mail.specs.declared.bodies.MailBody.TheVariants.{Accepted}
+use Rattle.sc_node_table.specs.Node.{NodeState}
+use Rattle.sc_node_table.specs.Replica.{ReplicaState}
+use Rattle.sc_node_table.specs.Spoken.{before_of}
+use Rattle.sc_sound.specs.Players.{Player}
+use Rattle.sc_cmd.specs.declared.votes.Past.TheVariants as Cast
+use Rattle.sc_cmd.specs.declared.votes.Vote.TheVariants as Says
+
+-- nothing but work is in flight or ready at a replica: neither calls nor fillers
+pub record IsOrdersAlone (r : ReplicaState) : Type 0 where
+  pub flights : Each (λ flight. IsWork flight.value) r.leader.flights
+  pub ready : Each (λ entry. IsWork entry.1) r.ready
+
+-- what a group waits for whose leader has this work, by its bond: one that is told an order or weighs a question is bound by nothing, one that records a vote is the coordinator, and one that ends is bound
+abbrev pub WorkExpects : Work → Bond → Type 0
+WorkExpects Changes bond = bond ≡ Unbound
+WorkExpects (Opens tx) bond = bond ≡ Unbound
+WorkExpects (Answers tx coord watch by) bond = bond ≡ Unbound
+WorkExpects (Records tx watch agreed by) bond = (asked : Draw) × (turn : Turn) × (bond ≡ Asking tx asked turn) × (is_watch turn ≡ watch) × IsVote turn agreed
+WorkExpects (GivesUp tx) bond = ⊥
+WorkExpects (Ends tx) bond = bond ≡ Bound tx
+
+-- So it does in each stage.
+abbrev pub StagesExpectWork : Type 0
+StagesExpectWork = (now : Scene) (group : Draw) (work : Work) → IsUnderWay now → (now.at group).work ≡ work ∷ [] → WorkExpects work (now.at group).bond
+
+-- an order that is begun asks another group, and the leader of its own stays
+abbrev pub AsksAnother : Command → ℕ → Group → Draw → Type 0
+AsksAnother command me group asked = StaysIn command me group × (asked ≡ group.core.id → ⊥)
+
+-- What an entry of an order has to be: one that begins a transaction asks another group; a vote is true, a watcher's Yes, and the leader stays by it; a Yes decides, or asks another watcher; and an outcome can be taken.
+abbrev pub IsTrueEntry : ℕ → Group → Command → Type 0
+IsTrueEntry me group (Split at child order) = is_alone group.core ≡ false → is_changed (applied group (Split at child order)).1 ≡ true → AsksAnother (Split at child order) me group group.core.succ.group
+IsTrueEntry me group (Begin tx body order) = is_changed (applied group (Begin tx body order)).1 ≡ true → IsBegun body × AsksAnother (Begin tx body order) me group group.core.succ.group
+IsTrueEntry me group (Prepared tx offer) = (has_voted group.core tx ≡ false) × StaysIn (Prepared tx offer) me group
+IsTrueEntry me group (Watched tx watch) = (has_voted group.core tx ≡ false) × ((watch_vote_of group.core watch ≡ None) × StaysIn (Watched tx watch) me group)
+IsTrueEntry me group (RecordVote tx (Says.No why) by) = Unit {0}
+IsTrueEntry me group (RecordVote tx (Says.Yes frozen) by) =
+    ((outcome : Outcome) × (decided_in (applied group (RecordVote tx (Says.Yes frozen) by)).1 ≡ Some outcome))
+    ⊎ ((is_changed (applied group (RecordVote tx (Says.Yes frozen) by)).1 ≡ true)
+    × (AsksAnother (RecordVote tx (Says.Yes frozen) by) me group frozen.succ.group × ((asked : Draw) → bond_of group.core ≡ Asking tx asked First → frozen.succ.group ≡ asked → ⊥)))
+IsTrueEntry me group (RecordWatch tx vote by) =
+    ((asked : Draw) (turn : Turn) → bond_of group.core ≡ Asking tx asked turn → (turn ≡ Lone → (before_of group.core).heard ≡ None) × ((part : Draw) (host : ℕ) → turn ≡ Next part host → part ≡ asked → ⊥))
+    × ((outcome : Outcome) × (decided_in (applied group (RecordWatch tx vote by)).1 ≡ Some outcome))
+IsTrueEntry me group (Finish tx outcome) = (done : Outcome) × (decided_in (applied group (Finish tx outcome)).1 ≡ Some done)
+IsTrueEntry me group (Join node order) = Unit {0}
+IsTrueEntry me group (Leave node order) = Unit {0}
+IsTrueEntry me group (GiveUp tx) = Unit {0}
+IsTrueEntry me group Noop = Unit {0}
+IsTrueEntry me group (Call client seq op) = Unit {0}
+
+-- A vote finds at the leader nothing in flight at its slot, or the one command that is there alone, of one of the kinds of entries, while an order is under way, where only work is in flight, and the commands in flight are true.
+abbrev pub VotesAreFound : Type 0
+VotesAreFound =
+    (words : ℕ → ℕ → ℕ × ℕ) (births : List (Seat Player)) (rows : Rows) (seat : Seat Player) (number : ℕ) (mail : Mail) (base : Base) (node : NodeState) (r : ReplicaState) (named : Draw) (ballot : Ballot) (slot : ℕ)
+    → IsHere words births rows seat number mail base node r → r.running ≡ true → mail.body ≡ Accepted named ballot slot → IsUnderWay (scene_at births rows) → IsOrdersAlone r → IsSlotKept r
+    → Each (λ flight. IsTrueEntry r.me r.group flight.value) r.leader.flights → FindsFlight births rows seat number mail base.core.id r slot

@@ -1,0 +1,38 @@
+-- That groups which were nowhere in a quiet journal stay as they begin while an order is under way.
+use Rattle.std.specs.Prelude.{◌≡◌, ℕ, true, Some}
+use Rattle.sc_base.specs.Among.{Among}
+use Rattle.sc_base.specs.declared.names.Draw.{Draw}
+use Rattle.sc_cmd.specs.declared.cores.Base.{Base}
+use Rattle.sc_cmd.specs.declared.orders.OrderLine.{OrderLine}
+use Rattle.sc_mail.specs.declared.bodies.AnswerBody.{AnswerBody}
+use Rattle.sc_mail.specs.declared.bodies.Mail.{Mail}
+use Rattle.sc_mail.specs.declared.bodies.MailBody.TheVariants.{Answer}
+use Rattle.sc_actor.specs.Mail.{mails, numbered}
+use Rattle.sc_actor.specs.Walk.{is_quiet}
+use Rattle.sc_actor.specs.declared.actors.Seat.{Seat}
+use Rattle.sc_actor.specs.declared.rows.Event.TheVariants.{Deliver, Told}
+use Rattle.sc_orderly_law.specs.Timely.{AreInTime}
+use Rattle.sc_scenario.specs.declared.scenarios.Scenario.{Scenario}
+use Rattle.sc_sound.specs.GroupsOf.{groups_at}
+use Rattle.sc_sound.specs.Players.{Player, births, as_nodes}
+use Rattle.sc_calm_law.specs.Charts.{players}
+use Rattle.sc_calm_law.specs.Totals.{Rows}
+use Rattle.sc_calm_rows_law.specs.Turns.{IsSeat, with_event}
+use Rattle.sc_calm_orders_law.specs.Stages.{Stage}
+use Rattle.sc_calm_scenes_law.specs.Fresh.{IsNowhere, AreUntouched}
+use Rattle.sc_calm_answers_law.specs.Journal.{IsCalmJournal, GoesOnBy}
+use Rattle.sc_calm_answers_law.specs.JournalUnder.{IsYoungAt}
+
+-- no answer is delivered
+abbrev pub IsUnanswered : Rows → ℕ → Type 0
+IsUnanswered rows number = (mail : Mail) (group : Draw) (seq : ℕ) (answer : AnswerBody) → numbered (mails rows) number ≡ Some mail → mail.body ≡ Answer group seq answer → ⊥
+
+-- A group that was nowhere in a quiet journal is as it begins once an order is told, which makes no child and sends none of its mail; and so it stays by each delivery: none is of it, no client is answered, the node may make its replica at its birth, and what is sent of other groups is an errand for a group of a stage, which was there in the quiet.
+pub record YoungGroupsStay : Type 0 where
+  pub begins : (words : ℕ → ℕ → ℕ × ℕ) (scenario : Scenario) (quiet : Rows) (seat : Seat Player) (line : OrderLine) (stage : Stage) → IsSeat (births as_nodes scenario) seat
+      → AreInTime (players words (births as_nodes scenario)) (with_event quiet seat (Told line)) → is_quiet (players words (births as_nodes scenario)) quiet ≡ true → AreUntouched words (births as_nodes scenario) quiet (with_event quiet seat (Told line)) stage
+      → (base : Base) → IsNowhere (births as_nodes scenario) quiet base.core.id → IsYoungAt words (births as_nodes scenario) (with_event quiet seat (Told line)) base
+  pub stays : (words : ℕ → ℕ → ℕ × ℕ) (scenario : Scenario) (journal quiet rows : Rows) (seat : Seat Player) (number : ℕ) (later : Stage) → IsCalmJournal words scenario journal → GoesOnBy words scenario journal rows seat number → IsUnanswered rows number
+      → AreUntouched words (births as_nodes scenario) quiet (with_event rows seat (Deliver number)) later
+      → (base : Base) → Among base (groups_at as_nodes scenario.groups journal) → IsNowhere (births as_nodes scenario) quiet base.core.id → IsYoungAt words (births as_nodes scenario) rows base
+      → IsYoungAt words (births as_nodes scenario) (with_event rows seat (Deliver number)) base

@@ -1,0 +1,94 @@
+//! All that holds while an order is under way since a quiet front of a calm journal. Definitions
+//! and laws, no logic.
+ghost use Rattle.sc_calm_answers_law.specs.Ordered.{DeliveriesKeepOrdered, OrdersBeginOrdered};
+ghost use Rattle.sc_calm_answers_law.specs.OrderedEntries.{FlightsAreEntries};
+
+use crate::found_laws::{newest_stay, orders_rows_find, orders_rows_meet, well_led_lead_alone};
+use crate::kept_laws::{order_rows_find_calm, told_orders_find_calm, views_agree};
+use crate::known_laws::fronts_are_found;
+use crate::sent_laws::{next_rows_are_sent, sent_replicas};
+use crate::true_laws::{
+    asked_groups_stood, entries_are_true, mail_comes_unsettled, records_are_true, replicas_tell,
+    true_orders_begin, true_orders_go_on,
+};
+use crate::work_laws::{deliveries_keep_work, orders_begin_work, work_stands_alone};
+use crate::young_laws::{children_were_nowhere, young_groups_stay};
+use sc_calm_led_law::replicas_run_logs;
+use sc_calm_logs_law::{slots_have_rosters, views_are_replicas};
+use sc_calm_mail_law::{mail_may_come, replicas_last, slots_are_left};
+use sc_calm_requests_law::lawful_replicas_are_named_once;
+use sc_calm_scenes_law::{fresh_groups_stay, quiet_scenes_are_over};
+use sc_scenario::valid_scenarios_are_bounded;
+use sc_whole_law::members_stay_rosters;
+
+/// Each delivery while an order is under way keeps all that holds then, and finds what keeps the
+/// journal calm.
+pub fn deliveries_keep_ordered()
+    ensures { DeliveriesKeepOrdered }
+{
+    valid_scenarios_are_bounded();
+    slots_are_left();
+    replicas_run_logs();
+    views_are_replicas();
+    slots_have_rosters();
+    replicas_last();
+    next_rows_are_sent();
+    newest_stay();
+    fronts_are_found();
+    views_agree();
+    well_led_lead_alone();
+    sent_replicas();
+    orders_rows_meet();
+    orders_rows_find();
+    children_were_nowhere();
+    fresh_groups_stay();
+    young_groups_stay();
+    mail_comes_unsettled();
+    asked_groups_stood();
+    true_orders_go_on();
+    deliveries_keep_work();
+    work_stands_alone();
+    order_rows_find_calm();
+    entries_are_true();
+    flights_are_entries();
+    mail_may_come();
+    lawful_replicas_are_named_once();
+}
+
+/// An order that is told in a quiet front which rests begins all that holds while it is under way,
+/// and finds what keeps the journal calm.
+pub fn orders_begin_ordered()
+    ensures { OrdersBeginOrdered }
+{
+    valid_scenarios_are_bounded();
+    slots_are_left();
+    replicas_run_logs();
+    views_are_replicas();
+    slots_have_rosters();
+    next_rows_are_sent();
+    newest_stay();
+    fronts_are_found();
+    views_agree();
+    sent_replicas();
+    orders_rows_find();
+    fresh_groups_stay();
+    young_groups_stay();
+    true_orders_begin();
+    orders_begin_work();
+    work_stands_alone();
+    told_orders_find_calm();
+}
+
+/// Each command that is in flight at a leader while an order is under way is an entry of it, and
+/// leaves at most nine members.
+pub fn flights_are_entries()
+    ensures { FlightsAreEntries }
+{
+    replicas_tell();
+    records_are_true();
+    quiet_scenes_are_over();
+    members_stay_rosters();
+    slots_have_rosters();
+    replicas_run_logs();
+    views_are_replicas();
+}

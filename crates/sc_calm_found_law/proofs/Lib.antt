@@ -1,9 +1,0 @@
-pub mod Along
-pub mod Beside
-pub mod Leader
-pub mod Leading
-pub mod Missed
-pub mod Newest
-pub mod Posted
-pub mod Rows
-pub mod Votes

@@ -1,3 +1,0 @@
-pub mod Journal
-pub mod Resting
-pub mod Under

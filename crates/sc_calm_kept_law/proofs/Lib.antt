@@ -1,9 +1,0 @@
-pub mod Asking
-pub mod Counting
-pub mod Delivering
-pub mod Following
-pub mod Questions
-pub mod Seen
-pub mod Views
-pub mod Rising
-pub mod Telling

@@ -1,5 +1,0 @@
-use Rattle.sc_calm_kept_law.proofs.Asking.{stages_ask}
-use Rattle.sc_calm_kept_law.proofs.stages_ask.Goals as goal
-
-pub returns : goal.returns
-returns c = stages_ask c.scenes_tell.ensures

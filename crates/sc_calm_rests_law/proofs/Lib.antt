@@ -1,4 +1,0 @@
-pub mod Facts
-pub mod KeptAll
-pub mod Resting
-pub mod Stands

@@ -1,4 +1,0 @@
-pub mod Above
-pub mod Homes
-pub mod Sent
-pub mod Journals
