@@ -32,11 +32,12 @@ use Rattle.sc_calm_charts_law.specs.Charting.{names_at, all_replicas, went_in}
 use Rattle.sc_calm_charts_law.specs.Ends.{GoInTurn}
 use Rattle.sc_calm_answers_law.specs.SentJournals.{GroupsBeginSent, GroupsAreBornAsBegun}
 use Rattle.sc_calm_answers_law.specs.Begins.{QuietJournalsBegin}
+use Rattle.sc_calm_answers_law.specs.Hinting.{GroupsBeginRising}
 use Rattle.sc_calm_answers_law.specs.KnownFronts.{IsQuietFront, IsFoundFront, FrontsAreFound}
 use Rattle.sc_calm_answers_law.specs.Journal.{IsCalmJournal, IsFront, AreSent}
 use Rattle.sc_calm_answers_law.specs.Viewing.{ViewsAgree}
 use Rattle.sc_calm_answers_law.specs.OverJournals.{QuietJournalsRest}
-use Rattle.sc_calm_answers_law.specs.Ordered.{IsHomelyJournal, IsNamedGroup}
+use Rattle.sc_calm_answers_law.specs.Ordered.{IsNamedGroup}
 use Rattle.sc_calm_answers_law.proofs.OrderedKnown.{named_there}
 use Rattle.sc_calm_answers_law.proofs.Placing.{place_of}
 use Rattle.sc_calm_answers_law.specs.FrontBegins.{JournalsBeginResting}
@@ -51,7 +52,7 @@ none_went group into [] none e = cc
 none_went group into (r ∷ replicas) none e = step (same_draw (name_of r) group && is_some r.group.core.gone) r.group.core.gone (went_in group replicas) into (none r (inl refl)) (none_went group into replicas (λ x a. none x (inr a))) e
 
 module _ (all_bounded : ValidScenariosAreBounded) (few_law : SlotsAreLeft) (stand_law : GroupsBeginStanding) (once_law : LawfulReplicasAreNamedOnce) (sent_law : GroupsBeginSent) (born_law : GroupsAreBornAsBegun) (begin_law : QuietJournalsBegin) (found_law : FrontsAreFound) (agree_law : ViewsAgree) (rest_law : QuietJournalsRest)
-    (words : ℕ → ℕ → ℕ × ℕ) (scenario : Scenario) (first : Base) (others : List Base) (journal : Rows) (groups : scenario.groups ≡ first ∷ others) (calm : IsCalmJournal words scenario journal) (home : IsHomelyJournal words scenario journal) where
+    (words : ℕ → ℕ → ℕ × ℕ) (scenario : Scenario) (first : Base) (others : List Base) (journal : Rows) (groups : scenario.groups ≡ first ∷ others) (calm : IsCalmJournal words scenario journal) where
   front : IsFront journal []
   front = record { more = journal; is = refl }
 
@@ -72,20 +73,20 @@ module _ (all_bounded : ValidScenariosAreBounded) (few_law : SlotsAreLeft) (stan
   sent base among = sent_law words scenario journal base (group base among) calm.timely (few base)
 
   q : IsQuietFront words scenario journal []
-  q = record { calm = calm; begins = front; quiet = refl; sent = sent; strangers = λ base among. home.strangers [] front base.core.id }
+  q = record { calm = calm; begins = front; quiet = refl; sent = sent }
 
   -- each replica is as its group begins
   as_begun : (name : Draw) (node : ℕ) (r : ReplicaState) → view_at (births as_nodes scenario) [] name node ≡ Some r → (base : Base) × Among base (groups_at as_nodes scenario.groups journal) × (r ≡ born_replica slots_ahead node base)
   as_begun name node r e =
-      let g : IsNamedGroup scenario journal name = named_there found_law words scenario journal [] calm home front name (node, r, e) in
+      let g : IsNamedGroup scenario journal name = named_there found_law words scenario journal [] calm front name (node, r, e) in
       let here : view_at (births as_nodes scenario) [] g.0.core.id node ≡ Some r = ap (λ n. view_at (births as_nodes scenario) [] n node) g.2 ∙ e in
       elim (born_law words scenario journal g.0 (group g.0 g.1) node) [
         | inl none ↦ absurd (none-some r (sym none ∙ here))
         | inr born ↦ (let same : Some r ≡ Some (born_replica slots_ahead node g.0) = sym here ∙ born.0 in (g.0, g.1, (let one : r ≡ born_replica slots_ahead node g.0 = cc in one)))
       ]
 
-  round_one : (name : Draw) (node : ℕ) (r : ReplicaState) → view_at (births as_nodes scenario) [] name node ≡ Some r → (1 ≤ r.top.round) × (r.top.round ≤ 0 + 1)
-  round_one name node r e = (let is = as_begun name node r e in let one : r.top.round ≡ 1 = ap (λ (x : ReplicaState). x.top.round) is.2 in (omega (arith, one), omega (arith, one)))
+  round_one : (name : Draw) (node : ℕ) (r : ReplicaState) → view_at (births as_nodes scenario) [] name node ≡ Some r → r.top.round ≤ 0 + 1
+  round_one name node r e = (let is = as_begun name node r e in let one : r.top.round ≡ 1 = ap (λ (x : ReplicaState). x.top.round) is.2 in omega (arith, one))
 
   none_gone : (r : ReplicaState) → Among r (all_replicas (births as_nodes scenario) []) → r.group.core.gone ≡ None
   none_gone r a =
@@ -97,14 +98,16 @@ module _ (all_bounded : ValidScenariosAreBounded) (few_law : SlotsAreLeft) (stan
   turns : GoInTurn (names_at (births as_nodes scenario) []) (all_replicas (births as_nodes scenario) []) (λ name. 0)
   turns name into went = absurd (none_went name into (all_replicas (births as_nodes scenario) []) none_gone went)
 
-pub journals_begin : ValidScenariosAreBounded → SlotsAreLeft → GroupsBeginStanding → LawfulReplicasAreNamedOnce → GroupsBeginSent → GroupsAreBornAsBegun → QuietJournalsBegin → FrontsAreFound → ViewsAgree → QuietJournalsRest → JournalsBeginResting
-journals_begin all_bounded few_law stand_law once_law sent_law born_law begin_law found_law agree_law rest_law words scenario first others journal groups calm home =
-    rest_law words scenario first journal [] (q all_bounded few_law stand_law once_law sent_law born_law begin_law found_law agree_law rest_law words scenario first others journal groups calm home)
+pub journals_begin : ValidScenariosAreBounded → SlotsAreLeft → GroupsBeginStanding → LawfulReplicasAreNamedOnce → GroupsBeginSent → GroupsAreBornAsBegun → QuietJournalsBegin → FrontsAreFound → ViewsAgree → QuietJournalsRest → GroupsBeginRising → JournalsBeginResting
+unfolding q sent
+journals_begin all_bounded few_law stand_law once_law sent_law born_law begin_law found_law agree_law rest_law rise_law words scenario first others journal groups calm =
+    rest_law words scenario first journal [] (q all_bounded few_law stand_law once_law sent_law born_law begin_law found_law agree_law rest_law words scenario first others journal groups calm)
     (begin_law words scenario first others calm.valid groups)
     (record {
-      strangers = home.strangers [] (record { more = journal; is = refl });
       errands = tt;
-      rounds = round_one all_bounded few_law stand_law once_law sent_law born_law begin_law found_law agree_law rest_law words scenario first others journal groups calm home;
+      rounds = round_one all_bounded few_law stand_law once_law sent_law born_law begin_law found_law agree_law rest_law words scenario first others journal groups calm;
+      rising = λ base among. rise_law words scenario journal base (record { open_slots = refl; valid = calm.valid; lawful = calm.lawful; stands = among })
+          (sent all_bounded few_law stand_law once_law sent_law born_law begin_law found_law agree_law rest_law words scenario first others journal groups calm base among);
       turn = λ name. 0;
-      turns = turns all_bounded few_law stand_law once_law sent_law born_law begin_law found_law agree_law rest_law words scenario first others journal groups calm home;
+      turns = turns all_bounded few_law stand_law once_law sent_law born_law begin_law found_law agree_law rest_law words scenario first others journal groups calm;
     })

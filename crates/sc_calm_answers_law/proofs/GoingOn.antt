@@ -1,5 +1,6 @@
 -- Groups go one after another from one quiet front to a later one.
-use Rattle.std.proofs.Common.{◌≡◌, ℕ, ◌-◌, ◌≤◌, zero, suc, List, [], ◌∷◌, ◌++◌, take, Some, refl, sym, ◌∙◌, ap, arith, append_assoc, append-nil}
+use Rattle.std.proofs.Common.{◌≡◌, ℕ, ◌-◌, ◌≤◌, zero, suc, List, [], ◌∷◌, ◌++◌, take, Option, Some, None, refl, sym, ◌∙◌, ap, arith, append_assoc, append-nil}
+use Rattle.std.proofs.lemmas.Option.{none-some}
 use Rattle.sc_base.specs.Among.{Among}
 use Rattle.sc_base.specs.declared.names.Draw.{Draw}
 use Rattle.sc_cmd.specs.declared.commands.Command.{Command}
@@ -8,6 +9,7 @@ use Rattle.sc_cmd.specs.declared.links.Route.{Route}
 use Rattle.sc_machine_table.specs.Group.{Group, group_of}
 use Rattle.sc_machine_table.specs.Logs.{state_after}
 use Rattle.sc_machine_table.specs.Machine.{applied}
+use Rattle.sc_scenario.specs.Groups.{base_at}
 use Rattle.sc_scenario.specs.Valid.{ValidScenariosAreBounded}
 use Rattle.sc_scenario.specs.declared.scenarios.Scenario.{Scenario}
 use Rattle.sc_node_table.specs.Replica.{ReplicaState, next}
@@ -30,7 +32,7 @@ use Rattle.sc_calm_answers_law.specs.SettingCounting.{GoneAgree}
 use Rattle.sc_calm_answers_law.specs.KnownFronts.{IsQuietFront, FrontsAreFound, QuietLogsAreExecuted}
 use Rattle.sc_calm_answers_law.specs.Known.{FrontsGoneAgree}
 use Rattle.sc_calm_answers_law.specs.Links.{AreAllFree}
-use Rattle.sc_calm_answers_law.specs.KnownTurns.{GoesOnce, GoesAlone, TurnsGoOn, FrontsGoInTurn}
+use Rattle.sc_calm_answers_law.specs.KnownTurns.{GoesOnce, GoesAlone, TurnsGoOn, FrontsGoInTurn, FrontsStayInTurn}
 use Rattle.sc_calm_answers_law.proofs.KnownGroups.{front_timely}
 use Rattle.sc_calm_answers_law.proofs.Known.{found, seen, shown, gone_last, last_state}
 use Rattle.sc_calm_answers_law.proofs.KnownGoing.{gone_seen, seen_gone, seen_none, gone_named}
@@ -95,6 +97,11 @@ module _ (bounded : ValidScenariosAreBounded) (named : LawfulReplicasAreNamedOnc
   goes_now : (name : Draw) (node : ℕ) (r : ReplicaState) (into : Route) → replicas_after scenario quiet name node ≡ Some r → r.group.core.gone ≡ Some into → went_in name (all_replicas (births as_nodes scenario) (quiet ++ more)) ≡ Some into
   goes_now name node r into e gone = (let s = still_gone name node r into e gone in seen_gone bounded named led_once finds words scenario journal (quiet ++ more) l now_agree name node s.0 into s.1 s.2)
 
+  -- none of its replicas was gone, where it was not
+  by_gone : went_in group (all_replicas (births as_nodes scenario) quiet) ≡ None → (who : ℕ) (s : ReplicaState) → replicas_after scenario quiet group who ≡ Some s → (o : Option Route) → s.group.core.gone ≡ o → s.group.core.gone ≡ None
+  by_gone new who s there None is = is
+  by_gone new who s there (Some x) is = absurd (none-some x (sym new ∙ seen_gone bounded named led_once finds words scenario journal quiet q old_agree group who s x there is))
+
   once : GoesOnce (names_at (births as_nodes scenario) quiet) (names_at (births as_nodes scenario) (quiet ++ more)) (all_replicas (births as_nodes scenario) quiet) (all_replicas (births as_nodes scenario) (quiet ++ more)) group
   once = record {
     more = (names_more scenario quiet more).0;
@@ -107,7 +114,7 @@ module _ (bounded : ValidScenariosAreBounded) (named : LawfulReplicasAreNamedOnc
         let s = alone.others name g.0 g.1 into ne g.2 g.3 in
         let now_ = goes_now name s.0 s.1 s.2 s.3 s.4 in
         seen_gone bounded named led_once finds words scenario journal quiet q old_agree name s.0 s.1 s.2 s.3 s.4 ∙ (sym now_ ∙ e));
-    stands = λ into e. (let g = gone_seen bounded named led_once finds words scenario journal (quiet ++ more) l group into e in seen_none bounded named led_once finds words scenario journal (quiet ++ more) l into.group (alone.stands g.0 g.1 into g.2 g.3));
+    stands = λ into new e. (let g = gone_seen bounded named led_once finds words scenario journal (quiet ++ more) l group into e in seen_none bounded named led_once finds words scenario journal (quiet ++ more) l into.group (alone.stands g.0 g.1 into (λ who s there. by_gone new who s there (s.group.core.gone) refl) g.2 g.3));
   }
 
   fronts_turn : (turn : Draw → ℕ) → GoInTurn (names_at (births as_nodes scenario) quiet) (all_replicas (births as_nodes scenario) quiet) turn → (after : Draw → ℕ) × GoInTurn (names_at (births as_nodes scenario) (quiet ++ more)) (all_replicas (births as_nodes scenario) (quiet ++ more)) after
@@ -116,3 +123,13 @@ module _ (bounded : ValidScenariosAreBounded) (named : LawfulReplicasAreNamedOnc
 pub fronts_go_in_turn : ValidScenariosAreBounded → LawfulReplicasAreNamedOnce → LedStandOnce → FrontsAreFound → QuietLogsAreExecuted → FrontsGoneAgree → ReplicasLast → ReplicasRunLogs → ViewsAreReplicas → EntriesLeaveOver → TurnsGoOn → FrontsGoInTurn
 fronts_go_in_turn bounded named led_once finds executed agrees last run see_replicas over turns words scenario journal quiet more turn group q free l alone =
     fronts_turn bounded named led_once finds executed agrees last run see_replicas over turns words scenario journal quiet more group q free l alone turn
+
+-- where none went, any name will do
+pub fronts_stay_in_turn : FrontsGoInTurn → FrontsStayInTurn
+fronts_stay_in_turn go words scenario journal quiet more turn q free l none = go words scenario journal quiet more turn any q free l (record {
+  others = λ name node r into ne there gone. none name node r into there gone;
+  stands = λ node r into stood there gone who s here. (let old = none any node r into there gone in absurd (none-some old.2 (sym (stood old.0 old.1 old.3) ∙ old.4)));
+})
+  where
+    any : Draw
+    any = (base_at [] 0).core.id

@@ -1,10 +1,9 @@
 -- Groups of a scenario and their children begin with nodes of the scenario, and what orders and policies queue brings such.
-use Rattle.std.proofs.Common.{◌≡◌, ℕ, ◌<◌, ◌≤◌, ◌&&◌, nat_le, Bool, true, List, [], ◌∷◌, zero, suc, length, map, Option, Some, None, inl, inr, ◌∙◌, ap, subst, arith, option_to_list}
+use Rattle.std.proofs.Common.{◌≡◌, ℕ, ◌<◌, ◌≤◌, ◌&&◌, Bool, List, [], ◌∷◌, zero, suc, length, map, Option, Some, None, inl, inr, ◌∙◌, ap, subst, arith, option_to_list}
 use Rattle.std.specs.FinMap.{entries}
 use Rattle.std.specs.Option.{option_map}
-use Rattle.std.proofs.lemmas.Bool.{and_from, le-leb, cond_both}
+use Rattle.std.proofs.lemmas.Bool.{cond_both}
 use Rattle.sc_base.specs.Among.{Among, Each}
-use Rattle.sc_base.specs.Limits.{most_nodes}
 use Rattle.sc_base.specs.Same.{same_draw}
 use Rattle.sc_base.specs.declared.names.Draw.{Draw}
 use Rattle.sc_cmd.specs.Cores.{is_alone}
@@ -36,7 +35,7 @@ use Rattle.sc_node_table.specs.Replica.{ReplicaState}
 use Rattle.sc_policy.specs.declared.bodies.Body0.{Body0}
 use Rattle.sc_policy.specs.declared.bodies.Body0.TheVariants as Wants
 use Rattle.sc_policy.specs.Wishes.{wished, order_of, wished_order}
-use Rattle.sc_paxos_words.proofs.ListLemmas.{Each-from_All, Each-weaker}
+use Rattle.sc_paxos_words.proofs.ListLemmas.{Each-from_All}
 use Rattle.sc_paxos_law.proofs.Among.{Among-either}
 use Rattle.sc_scenario.specs.Groups.{group_at, base_at, bases_up_to}
 use Rattle.sc_scenario.specs.Valid.{IsUpTo, IsBounded, IsBoundedGroup, IsBoundedLine, IsBoundedOrder}

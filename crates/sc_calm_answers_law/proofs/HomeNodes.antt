@@ -53,7 +53,7 @@ use Rattle.sc_mail.specs.declared.bodies.MailBody.TheVariants.{TxVote, TxOutcome
 use Rattle.sc_cmd.specs.declared.cores.Base.{Base}
 use Rattle.sc_sound.specs.Players.{Ahead}
 use Rattle.sc_log_law.specs.Descent.{Rows}
-use Rattle.sc_calm_logs_law.specs.Logged.{logged_sets, IsGroupOf}
+use Rattle.sc_calm_logs_law.specs.Logged.{logged_sets}
 
 module _ (Home : ℕ → Type 0) where
   -- each of these is a node

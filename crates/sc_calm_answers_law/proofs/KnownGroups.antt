@@ -35,6 +35,7 @@ use Rattle.sc_calm_answers_law.specs.Rests.{IsQuietGroup}
 use Rattle.sc_calm_answers_law.proofs.Facts.{at, over, all, view, members_have, newest_next, place, room}
 use Rattle.sc_calm_answers_law.specs.KnownFronts.{IsQuietFront, IsKnownGroup, IsFoundFront, FrontsAreFound, QuietFrontsHaveGroups, QuietLogsAreExecuted}
 use Rattle.sc_calm_answers_law.specs.Offered.{GroupsAreAskedThrough}
+use Rattle.sc_calm_answers_law.specs.Strangers.{NoMailForStrangers}
 use Rattle.sc_calm_answers_law.specs.There.{FrontsHaveMembers}
 use Rattle.sc_calm_answers_law.proofs.Chosen.{log_short}
 
@@ -80,7 +81,7 @@ module _ (by : Tellers) (words : ℕ → ℕ → ℕ × ℕ) (scenario : Scenari
 pub front_timely : (words : ℕ → ℕ → ℕ × ℕ) (scenario : Scenario) (journal front : Rows) → IsQuietFront words scenario journal front → AreInTime (players words (births as_nodes scenario)) front
 front_timely words scenario journal front q = λ before row after e. q.calm.timely before row (after ++ q.begins.more) (q.begins.is ∙ (ap (λ rows. rows ++ q.begins.more) e ∙ append_assoc before (row ∷ after) q.begins.more))
 
-module _ (wb : ScenariosAreWellBorn) (begin : GroupsBeginTaught) (through : GroupsAreAskedThrough) (words : ℕ → ℕ → ℕ × ℕ) (scenario : Scenario) (journal front : Rows) (base : Base) (q : IsQuietFront words scenario journal front) where
+module _ (wb : ScenariosAreWellBorn) (begin : GroupsBeginTaught) (through : GroupsAreAskedThrough) (none : NoMailForStrangers) (words : ℕ → ℕ → ℕ × ℕ) (scenario : Scenario) (journal front : Rows) (base : Base) (q : IsQuietFront words scenario journal front) where
   -- its first members have replicas
   abbrev pub HasMembers : Type 0
   HasMembers = (node : ℕ) → is_member base.core.members node ≡ true → HasReplica (view_at (births as_nodes scenario) front) base.core.id node
@@ -103,7 +104,7 @@ module _ (wb : ScenariosAreWellBorn) (begin : GroupsBeginTaught) (through : Grou
           timely = front_timely words scenario journal front q;
           quiet = q.quiet;
           short = omega (arith, len, parts, short);
-          strangers = q.strangers base a;
+          strangers = none.strangers words scenario journal front q.calm q.begins q.sent base.core.id;
           led = on.led;
           taught = on.taught;
           one = t.one;
@@ -134,10 +135,10 @@ module _ (wb : ScenariosAreWellBorn) (begin : GroupsBeginTaught) (through : Grou
         let newest = last.3 in
         (k, omega (arith, high, short, within, next_is, newest))
 
-pub quiet_fronts_have_groups : ScenariosAreWellBorn → GroupsBeginTaught → GroupsAreAskedThrough → FrontsHaveMembers → QuietFrontsHaveGroups
-quiet_fronts_have_groups wb begin through members words scenario journal front base q a there = known_group wb begin through words scenario journal front base q a (members words scenario journal front base q a there)
+pub quiet_fronts_have_groups : ScenariosAreWellBorn → GroupsBeginTaught → GroupsAreAskedThrough → NoMailForStrangers → FrontsHaveMembers → QuietFrontsHaveGroups
+quiet_fronts_have_groups wb begin through none members words scenario journal front base q a there = known_group wb begin through none words scenario journal front base q a (members words scenario journal front base q a there)
 
-pub quiet_logs_are_executed : ScenariosAreWellBorn → GroupsBeginTaught → GroupsAreAskedThrough → FrontsAreFound → FrontsHaveMembers → QuietLogsAreExecuted
-quiet_logs_are_executed wb begin through finds members words scenario journal front base q a there =
+pub quiet_logs_are_executed : ScenariosAreWellBorn → GroupsBeginTaught → GroupsAreAskedThrough → NoMailForStrangers → FrontsAreFound → FrontsHaveMembers → QuietLogsAreExecuted
+quiet_logs_are_executed wb begin through none finds members words scenario journal front base q a there =
     let f = finds words scenario journal front q.calm q.begins in
-    executed wb begin through words scenario journal front base q finds a (members words scenario journal front base q (f.later base a) there)
+    executed wb begin through none words scenario journal front base q finds a (members words scenario journal front base q (f.later base a) there)

@@ -167,12 +167,20 @@ module _ (names later_names : List Draw) (replicas later : List ReplicaState) (g
         ],
       )
 
+  not_there : (name : Draw) → was_gone name ≡ false → went_in name replicas ≡ None
+  unfolding was_gone
+  not_there name f = by (went_in name replicas) refl f
+    where
+      by : (o : Option Route) → went_in name replicas ≡ o → is_some o ≡ false → went_in name replicas ≡ None
+      by None e s = e
+      by (Some into) e s = absurd (true≢false s)
+
   new_turn : (name : Draw) (into : Route) → went_in name later ≡ Some into → was_gone name ≡ false → (after name < length later_names) × (is_some (went_in into.group later) ≡ true → after name < after into.group)
   new_turn name into e new =
       let mine = after_new name new in
       let less = counted_new name into e new in (
         omega (arith, mine, less),
-        λ gone. absurd (true≢false (sym gone ∙ ap is_some (once.stands into (ap (λ n. went_in n later) (sym (is_group name into e new)) ∙ e)))),
+        λ gone. absurd (true≢false (sym gone ∙ ap is_some (once.stands into (ap (λ n. went_in n replicas) (sym (is_group name into e new)) ∙ not_there name new) (ap (λ n. went_in n later) (sym (is_group name into e new)) ∙ e)))),
       )
 
   in_turn : GoInTurn later_names later after

@@ -15,6 +15,7 @@ pub mod Begun
 pub mod Beside
 pub mod BetweenRequests
 pub mod BornAsBegun
+pub mod Borne
 pub mod Children
 pub mod Chosen
 pub mod Comers
@@ -48,10 +49,12 @@ pub mod HomeBringing
 pub mod HomeNaming
 pub mod HomeNodes
 pub mod JournalFronts
+pub mod Keeping
 pub mod KeptAll
 pub mod KeptCounting
 pub mod KeptRising
 pub mod KeptSeen
+pub mod KeptTelling
 pub mod Known
 pub mod KnownBirths
 pub mod KnownBorn
@@ -60,6 +63,7 @@ pub mod KnownGoing
 pub mod KnownGroups
 pub mod KnownHomes
 pub mod KnownLinked
+pub mod KnownMembers
 pub mod KnownTurns
 pub mod Late
 pub mod Leader
@@ -75,7 +79,6 @@ pub mod Linking
 pub mod Lists
 pub mod Logs
 pub mod Meeting
-pub mod Members
 pub mod Missed
 pub mod Names
 pub mod Needs
@@ -90,6 +93,7 @@ pub mod OrderedBeginning
 pub mod OrderedGoing
 pub mod OrderedKnown
 pub mod Outcomes
+pub mod Over
 pub mod OverEnding
 pub mod OverJournals
 pub mod OverRequests
@@ -103,6 +107,7 @@ pub mod Posted
 pub mod Questions
 pub mod Reaching
 pub mod Records
+pub mod RestStands
 pub mod Resting
 pub mod Ring
 pub mod RiseHomes
@@ -131,14 +136,13 @@ pub mod Since
 pub mod Spoken
 pub mod Stages
 pub mod Standing
-pub mod Stands
 pub mod Staying
 pub mod Stepping
 pub mod Still
+pub mod Strangers
 pub mod Strays
 pub mod Taking
 pub mod Tasks
-pub mod Telling
 pub mod There
 pub mod Told
 pub mod Took
@@ -160,3 +164,6 @@ pub mod WorkBirths
 pub mod WorkFronts
 pub mod WorkRows
 pub mod WorkSaying
+pub mod YoungMembers
+pub mod YoungStands
+pub mod YoungTelling

@@ -328,6 +328,26 @@ IsStateless (TxWatch tx watch) = Unit {0}
 IsStateless (TxWatched tx coord part vote) = Unit {0}
 IsStateless (Told order result) = Unit {0}
 
+-- a mail by which nothing is executed
+abbrev pub IsRest : MailBody → Type 0
+IsRest (Accepted group ballot slot) = ⊥
+IsRest (Learn group slot command) = ⊥
+IsRest (Install group slot base sets) = ⊥
+IsRest (Request group client seq op) = Unit {0}
+IsRest (Answer group seq answer) = Unit {0}
+IsRest (Prepare group ballot from_slot) = Unit {0}
+IsRest (Promise group ballot reports) = Unit {0}
+IsRest (Accept group ballot slot command) = Unit {0}
+IsRest (Nack group promised) = Unit {0}
+IsRest (Ask group from_slot) = Unit {0}
+IsRest (TxPrepare tx offer) = Unit {0}
+IsRest (TxVote tx coord part vote) = Unit {0}
+IsRest (TxOutcome tx part outcome) = Unit {0}
+IsRest (TxElsewhere tx coord hint) = Unit {0}
+IsRest (TxWatch tx watch) = Unit {0}
+IsRest (TxWatched tx coord part vote) = Unit {0}
+IsRest (Told order result) = Unit {0}
+
 module _ (r : ReplicaState) (mails : List Mail) where
   abbrev P : ReplicaState → Type 0
   P = At r.group r.me (next r)
@@ -358,3 +378,24 @@ module _ (r : ReplicaState) (mails : List Mail) where
   mailed_goes from (TxWatch tx watch) s = rest_goes r _ (watch_rests P any from tx watch (r, mails) here)
   mailed_goes from (TxWatched tx coord part vote) s = rest_goes r _ (watched_rests P any from tx part vote (r, mails) here)
   mailed_goes from (Told order result) s = rest_goes r _ here
+
+  -- where nothing is executed the group stays
+  pub rest_leaves : (from : ℕ) (body : MailBody) → IsRest body → (mailed from body (r, mails)).0.0.group ≡ r.group
+  unfolding mailed
+  rest_leaves from (Accepted group ballot slot) s = absurd s
+  rest_leaves from (Learn group slot command) s = absurd s
+  rest_leaves from (Install group slot base sets) s = absurd s
+  rest_leaves from (Request group client seq op) s = (request_rests P any client seq op (r, mails) here).0
+  rest_leaves from (Prepare group ballot from_slot) s = (prepare_rests P any from ballot from_slot (r, mails) here).0
+  rest_leaves from (Promise group ballot reports) s = (promise_rests P any from ballot reports (r, mails) here).0
+  rest_leaves from (Accept group ballot slot command) s = (accept_rests P any from ballot slot command (r, mails) here).0
+  rest_leaves from (Nack group ballot) s = (nack_rests P any ballot (r, mails) here).0
+  rest_leaves from (Ask group from_slot) s = (ask_rests P any from from_slot (r, mails) here).0
+  rest_leaves from (Answer group seq answer) s = (here).0
+  rest_leaves from (TxPrepare tx offer) s = (offer_rests P any from tx offer (r, mails) here).0
+  rest_leaves from (TxVote tx coord part vote) s = (vote_rests P any from tx part vote (r, mails) here).0
+  rest_leaves from (TxOutcome tx part outcome) s = (outcome_rests P any tx outcome (r, mails) here).0
+  rest_leaves from (TxElsewhere tx coord hint) s = (elsewhere_rests P any from tx hint (r, mails) here).0
+  rest_leaves from (TxWatch tx watch) s = (watch_rests P any from tx watch (r, mails) here).0
+  rest_leaves from (TxWatched tx coord part vote) s = (watched_rests P any from tx part vote (r, mails) here).0
+  rest_leaves from (Told order result) s = (here).0

@@ -1,5 +1,5 @@
 -- An order that is told in a quiet front begins all that holds while it is under way.
-use Rattle.std.proofs.Common.{◌≡◌, ◌⊎◌, ◌≤◌, ℕ, Bool, true, false, List, [], ◌∷◌, ◌++◌, Option, Some, None, inl, inr, refl, sym, ◌∙◌, ap, subst}
+use Rattle.std.proofs.Common.{◌≡◌, ◌⊎◌, ◌≤◌, ℕ, Bool, true, false, List, [], ◌∷◌, ◌++◌, Option, Some, None, inl, inr, refl, sym, ◌∙◌, ap, subst, arith}
 use Rattle.std.proofs.lemmas.Bool.{cases_Bool}
 use Rattle.sc_base.specs.Among.{Among, Each}
 use Rattle.sc_base.specs.declared.names.Draw.{Draw}
@@ -10,7 +10,8 @@ use Rattle.sc_actor.specs.declared.actors.Seat.{Seat}
 use Rattle.sc_actor.specs.declared.rows.Event.TheVariants.{Told}
 use Rattle.sc_actor.specs.declared.rows.Row.{Row}
 use Rattle.sc_actor.specs.System.{System, row_of}
-use Rattle.sc_orderly_law.specs.Orderly.{is_born}
+use Rattle.sc_orderly_law.specs.Orderly.{is_born, is_told}
+use Rattle.sc_orderly_law.proofs.Paying.{count_push}
 use Rattle.sc_orderly_law.specs.Timely.{AreInTime}
 use Rattle.sc_orderly_law.proofs.InTime.{in_time_before, in_time_tidy}
 use Rattle.sc_orderly_law.proofs.Resting.{quiet-empty}
@@ -34,26 +35,37 @@ use Rattle.sc_calm_scenes_law.specs.Fresh.{IsThere, IsNowhere, AreUntouched, IsT
 use Rattle.sc_calm_scenes_law.specs.Found.{FindsOrder}
 use Rattle.sc_calm_answers_law.specs.Guided.{IsNamedGuide, IsReachedSo, NewestStay}
 use Rattle.sc_calm_answers_law.specs.FoundRows.{IsOrdersRow, OrdersRowsFind}
-use Rattle.sc_calm_answers_law.specs.SentJournals.{IsQuietWhileYoung, NextRowsAreSent, SentReplicas}
+use Rattle.sc_calm_answers_law.specs.SentJournals.{IsQuietWhileYoung, IsSentStep, NextRowsAreSent, SentReplicas}
 use Rattle.sc_calm_charts_law.specs.Charting.{chart_at}
+use Rattle.sc_calm_logs_law.specs.Logged.{logged_sets}
+use Rattle.sc_calm_led_law.specs.Led.{over_at}
+use Rattle.sc_calm_led_law.specs.Tellers.{tellers_at}
+use Rattle.sc_calm_answers_law.specs.Hinting.{NextRowsRise}
+use Rattle.sc_calm_answers_law.specs.RiseRising.{IsRisingOn}
+use Rattle.sc_calm_answers_law.specs.RiseRounds.{IsRoundSince, OrdersKeepRounds}
 use Rattle.sc_calm_answers_law.specs.KnownFronts.{FrontsAreFound, IsFoundFront}
+use Rattle.sc_calm_answers_law.specs.Strangers.{NoMailForStrangers}
+use Rattle.sc_calm_scenes_law.specs.Quiet.{GoesToActor}
+use Rattle.sc_actor.specs.Mail.{mails}
 use Rattle.sc_calm_answers_law.specs.Journal.{IsCalmJournal, IsFront, AreSent}
 use Rattle.sc_calm_answers_law.specs.Resting.{RestsAt}
 use Rattle.sc_calm_answers_law.specs.JournalUnder.{IsUnder, IsYoungAt}
-use Rattle.sc_calm_answers_law.specs.Telling.{ToldOrdersFindCalm}
+use Rattle.sc_calm_answers_law.specs.KeptTelling.{ToldOrdersFindCalm}
 use Rattle.sc_calm_answers_law.specs.Viewing.{ViewsAgree}
+use Rattle.sc_calm_answers_law.specs.Borne.{ChildrenAreBorne}
 use Rattle.sc_calm_answers_law.specs.Young.{YoungGroupsStay}
 use Rattle.sc_calm_answers_law.specs.TrueBeginning.{TrueOrdersBegin}
+use Rattle.sc_calm_answers_law.specs.Settled.{SettledOrdersBegin}
 use Rattle.sc_calm_answers_law.specs.TrueUnder.{AreSeen}
 use Rattle.sc_calm_answers_law.specs.Works.{OrdersBeginWork, WorkStandsAlone}
-use Rattle.sc_calm_answers_law.specs.Ordered.{IsHomelyJournal, IsNamedGroup, IsOrderedSince, OrdersBeginOrdered}
+use Rattle.sc_calm_answers_law.specs.Ordered.{IsNamedGroup, IsOrderedSince, OrdersBeginOrdered}
 use Rattle.sc_calm_answers_law.proofs.OrderedKnown as at_row
 use Rattle.sc_calm_answers_law.proofs.OrderedKnown.{named_there, reached_even}
 use Rattle.sc_calm_answers_law.proofs.Sending.{known_told}
 
-module _ (all_bounded : ValidScenariosAreBounded) (few_law : SlotsAreLeft) (logs_law : ReplicasRunLogs) (views_law : ViewsAreReplicas) (rosters_law : SlotsHaveRosters) (next_law : NextRowsAreSent) (newest_law : NewestStay) (found_law : FrontsAreFound)
-    (agree_law : ViewsAgree) (plain_law : SentReplicas) (finds_law : OrdersRowsFind) (fresh_law : FreshGroupsStay) (young_law : YoungGroupsStay) (true_law : TrueOrdersBegin) (work_law : OrdersBeginWork) (stands_law : WorkStandsAlone) (calm_law : ToldOrdersFindCalm)
-    (words : ℕ → ℕ → ℕ × ℕ) (scenario : Scenario) (first : Base) (journal quiet : Rows) (seat : Seat Player) (line : OrderLine) (calm : IsCalmJournal words scenario journal) (home : IsHomelyJournal words scenario journal) (rests : RestsAt words scenario first journal quiet)
+module _ (all_bounded : ValidScenariosAreBounded) (few_law : SlotsAreLeft) (logs_law : ReplicasRunLogs) (views_law : ViewsAreReplicas) (rosters_law : SlotsHaveRosters) (next_law : NextRowsAreSent) (newest_law : NewestStay) (found_law : FrontsAreFound) (no_law : NoMailForStrangers)
+    (agree_law : ViewsAgree) (plain_law : SentReplicas) (finds_law : OrdersRowsFind) (fresh_law : FreshGroupsStay) (young_law : YoungGroupsStay) (true_law : TrueOrdersBegin) (settled_law : SettledOrdersBegin) (work_law : OrdersBeginWork) (borne_law : ChildrenAreBorne) (rise_law : NextRowsRise) (rounds_law : OrdersKeepRounds) (stands_law : WorkStandsAlone) (calm_law : ToldOrdersFindCalm)
+    (words : ℕ → ℕ → ℕ × ℕ) (scenario : Scenario) (first : Base) (journal quiet : Rows) (seat : Seat Player) (line : OrderLine) (calm : IsCalmJournal words scenario journal) (rests : RestsAt words scenario first journal quiet) (errands : Each (GoesToActor words (births as_nodes scenario)) (mails quiet))
     (seated : IsSeat (births as_nodes scenario) seat) (front : IsFront journal (with_event quiet seat (Told line))) (timely : AreInTime (players words (births as_nodes scenario)) (with_event quiet seat (Told line))) where
   abbrev all : List (Seat Player)
   all = births as_nodes scenario
@@ -70,11 +82,14 @@ module _ (all_bounded : ValidScenariosAreBounded) (few_law : SlotsAreLeft) (logs
   before : AreInTime s quiet
   before = in_time_before s quiet row timely
 
+  strangers : (name : Draw) (who : ℕ) → is_born s who ≡ false → marks_at s quiet name who ≡ []
+  strangers = no_law.strangers words scenario journal quiet calm rests.front rests.sent
+
   -- nothing is under way
   none : (name : Draw) (who : ℕ) → marks_at s quiet name who ≡ []
   none name who = elim (cases_Bool (is_born s who)) [
     | inl t ↦ ap (marks_of name) (quiet-empty s quiet who (in_time_tidy s quiet before) t rests.calm)
-    | inr f ↦ home.strangers quiet rests.front name who f
+    | inr f ↦ strangers name who f
   ]
 
   young : (base : Base) → Among base (groups_at as_nodes scenario.groups journal) → IsQuietWhileYoung words all quiet base
@@ -87,13 +102,13 @@ module _ (all_bounded : ValidScenariosAreBounded) (few_law : SlotsAreLeft) (logs
   reached base among = reached_even rosters_law logs_law views_law words scenario journal quiet rests.front.more base (group base among) rests.front.is (rests.sent base among) (none base.core.id)
 
   guide_of : (name : Draw) → IsNamedGroup scenario journal name → IsNamedGuide words all quiet seat (Told line) name
-  guide_of = at_row.guide_of few_law logs_law views_law rosters_law next_law newest_law found_law words scenario journal quiet seat (Told line) calm home front seated timely rests.sent reached young
+  guide_of = at_row.guide_of few_law logs_law views_law rosters_law next_law newest_law found_law no_law words scenario journal quiet seat (Told line) calm front seated timely rests.sent reached young
 
   abbrev sent_after : AreSent words scenario journal then
-  sent_after = at_row.sent_after few_law logs_law views_law rosters_law next_law newest_law found_law words scenario journal quiet seat (Told line) calm home front seated timely rests.sent reached young
+  sent_after = at_row.sent_after few_law logs_law views_law rosters_law next_law newest_law found_law no_law words scenario journal quiet seat (Told line) calm front seated timely rests.sent reached young
 
   named : (name : Draw) → IsThere all quiet name → IsNamedGroup scenario journal name
-  named = named_there found_law words scenario journal quiet calm home rests.front
+  named = named_there found_law words scenario journal quiet calm rests.front
 
   seen : AreSeen scenario quiet
   seen name node = agree_law.nodes scenario quiet name node (all_bounded scenario calm.valid) (found_law words scenario journal quiet calm rests.front).homes
@@ -103,7 +118,7 @@ module _ (all_bounded : ValidScenariosAreBounded) (few_law : SlotsAreLeft) (logs
   at_rest name who r e = rests.is.quiet.at_rest name who r (sym (seen name who) ∙ e)
 
   room : (name : Draw) (who : ℕ) (r : ReplicaState) → view_at all quiet name who ≡ Some r → next r ≤ last_slot
-  room name who r e = (at_row.few few_law logs_law views_law rosters_law next_law newest_law found_law words scenario journal quiet seat (Told line) calm home front seated timely rests.sent reached young (named name (who, r, e)).0 quiet rests.front.more who r rests.front.is
+  room name who r e = (at_row.few few_law logs_law views_law rosters_law next_law newest_law found_law no_law words scenario journal quiet seat (Told line) calm front seated timely rests.sent reached young (named name (who, r, e)).0 quiet rests.front.more who r rests.front.is
       (ap (λ n. view_at all quiet n who) (named name (who, r, e)).2 ∙ e)).0
 
   plain : (name : Draw) (who : ℕ) (r : ReplicaState) → view_at all quiet name who ≡ Some r → r.leader.reports ≡ []
@@ -122,8 +137,8 @@ module _ (all_bounded : ValidScenariosAreBounded) (few_law : SlotsAreLeft) (logs
     votes = λ n mail group_ node r named_ ballot slot e taking here runs body. cc;
     told = λ other e. record {
       quiet = rests.calm;
-      errands = home.errands quiet rests.front;
-      strangers = home.strangers quiet rests.front;
+      errands = errands;
+      strangers = strangers;
       room = λ name node r view runs. (room name node r view, stands_law.rests r (at_rest name node r view));
     };
     clients = λ client is. refl;
@@ -146,11 +161,25 @@ module _ (all_bounded : ValidScenariosAreBounded) (few_law : SlotsAreLeft) (logs
     rests = rests;
     front = front;
     sent = sent_after;
-    reached = λ base among. at_row.reached_after few_law logs_law views_law rosters_law next_law newest_law found_law words scenario journal quiet seat (Told line) calm home front seated timely rests.sent reached young base among (young_after base among);
+    reached = λ base among. at_row.reached_after few_law logs_law views_law rosters_law next_law newest_law found_law no_law words scenario journal quiet seat (Told line) calm front seated timely rests.sent reached young base among (young_after base among);
     stage = begun.0;
     untouched = begun.1;
     young = young_after;
   }
+
+  steps : (base : Base) (among : Among base (groups_at as_nodes scenario.groups journal))
+      → IsSentStep (logged_sets as_nodes base journal) (over_at as_nodes base journal) (tellers_at as_nodes scenario base journal) words (births as_nodes scenario) quiet seat (Told line) base (rests.sent base among).course
+  steps = at_row.steps few_law logs_law views_law rosters_law next_law newest_law found_law no_law words scenario journal quiet seat (Told line) calm front seated timely rests.sent reached young
+
+  rising_after : (base : Base) (among : Among base (groups_at as_nodes scenario.groups journal)) → IsRisingOn (logged_sets as_nodes base journal) (tellers_at as_nodes scenario base journal) words (births as_nodes scenario) then base (sent_after base among).course
+  unfolding steps
+  rising_after base among =
+      rise_law words (logged_sets as_nodes base journal) (over_at as_nodes base journal) (tellers_at as_nodes scenario base journal) scenario quiet seat (Told line) base timely seated (rests.sent base among) (steps base among) (rests.rising base among)
+
+  round_after : (base : Base) (among : Among base (groups_at as_nodes scenario.groups journal)) → IsRoundSince (rests.sent base among).course begun.0 base.core.id (sent_after base among).course
+  unfolding steps
+  round_after base among =
+      rounds_law.told words (logged_sets as_nodes base journal) (over_at as_nodes base journal) (tellers_at as_nodes scenario base journal) scenario quiet seat line base begun.0 timely seated (rests.sent base among) (steps base among) (none base.core.id)
 
   found : IsFoundFront words scenario journal quiet
   found = found_law words scenario journal quiet calm rests.front
@@ -158,25 +187,31 @@ module _ (all_bounded : ValidScenariosAreBounded) (few_law : SlotsAreLeft) (logs
   begins : IsOrderedSince words scenario first journal quiet then
   unfolding under_after
   begins =
+      let true_so = true_law words scenario first journal quiet seat line begun.0 calm rests seen told_so begun.1.stands in
       let work = work_law words scenario quiet seat line calm.valid found.lawful seated timely rests.calm (λ name who r e. (at_rest name who r e, λ runs. plain name who r e, room name who r e)) in
       record {
         behind = row ∷ [];
         rows_are = refl;
+        one_order = (let more = count_push (λ (x : Row Mail OrderLine). is_told x.event) quiet row true refl in omega (arith, more));
         under = under_after;
-        true_since = true_law words scenario first journal quiet seat line begun.0 calm rests seen told_so begun.1.stands;
+        rising = rising_after;
+        round = round_after;
+        true_since = true_so;
+        settled = settled_law words scenario first journal quiet seat line begun.0 calm rests seen told_so front sent_after strangers begun.1.stands true_so;
         line = line;
         task = work.0;
         is_task = work.1;
         work = work.2;
+        borne = borne_law.begins words scenario journal quiet seat line work.0 seated timely work.1;
         known = known_told words scenario journal quiet seat line begun.0 seated timely rests.calm named begun.1;
       }
 
   finds_calm : (far sent : ℕ) → FindsCalm (chart_at far sent s quiet) all quiet seat (Told line)
   finds_calm far sent = calm_law words scenario first journal quiet far sent seat line calm rests (found_law words scenario journal quiet calm rests.front).homes seated
 
-pub orders_begin : ValidScenariosAreBounded → SlotsAreLeft → ReplicasRunLogs → ViewsAreReplicas → SlotsHaveRosters → NextRowsAreSent → NewestStay → FrontsAreFound → ViewsAgree → SentReplicas → OrdersRowsFind → FreshGroupsStay → YoungGroupsStay → TrueOrdersBegin → OrdersBeginWork → WorkStandsAlone
+pub orders_begin : ValidScenariosAreBounded → SlotsAreLeft → ReplicasRunLogs → ViewsAreReplicas → SlotsHaveRosters → NextRowsAreSent → NewestStay → FrontsAreFound → NoMailForStrangers → ViewsAgree → SentReplicas → OrdersRowsFind → FreshGroupsStay → YoungGroupsStay → TrueOrdersBegin → SettledOrdersBegin → OrdersBeginWork → ChildrenAreBorne → NextRowsRise → OrdersKeepRounds → WorkStandsAlone
     → ToldOrdersFindCalm → OrdersBeginOrdered
-orders_begin all_bounded few_law logs_law views_law rosters_law next_law newest_law found_law agree_law plain_law finds_law fresh_law young_law true_law work_law stands_law calm_law words scenario first journal quiet seat line calm home rests seated front timely = (
-  begins all_bounded few_law logs_law views_law rosters_law next_law newest_law found_law agree_law plain_law finds_law fresh_law young_law true_law work_law stands_law calm_law words scenario first journal quiet seat line calm home rests seated front timely,
-  finds_calm all_bounded few_law logs_law views_law rosters_law next_law newest_law found_law agree_law plain_law finds_law fresh_law young_law true_law work_law stands_law calm_law words scenario first journal quiet seat line calm home rests seated front timely,
+orders_begin all_bounded few_law logs_law views_law rosters_law next_law newest_law found_law no_law agree_law plain_law finds_law fresh_law young_law true_law settled_law work_law borne_law rise_law rounds_law stands_law calm_law words scenario first journal quiet seat line calm rests errands seated front timely = (
+  begins all_bounded few_law logs_law views_law rosters_law next_law newest_law found_law no_law agree_law plain_law finds_law fresh_law young_law true_law settled_law work_law borne_law rise_law rounds_law stands_law calm_law words scenario first journal quiet seat line calm rests errands seated front timely,
+  finds_calm all_bounded few_law logs_law views_law rosters_law next_law newest_law found_law no_law agree_law plain_law finds_law fresh_law young_law true_law settled_law work_law borne_law rise_law rounds_law stands_law calm_law words scenario first journal quiet seat line calm rests errands seated front timely,
 )

@@ -1,5 +1,5 @@
 -- Each delivery while an order is under way keeps all that holds then, and finds what keeps the journal calm.
-use Rattle.std.proofs.Common.{◌≡◌, ◌⊎◌, ◌≤◌, ℕ, Bool, true, false, eqb, length, List, [], ◌∷◌, ◌++◌, Option, Some, None, inl, inr, refl, sym, ◌∙◌, ap, subst, append_assoc}
+use Rattle.std.proofs.Common.{◌≡◌, ◌⊎◌, ◌≤◌, ℕ, Bool, true, false, eqb, length, List, [], ◌∷◌, ◌++◌, Option, Some, None, inl, inr, refl, sym, ◌∙◌, ap, subst, arith, append_assoc}
 use Rattle.std.proofs.lemmas.Option.{none-some}
 use Rattle.sc_base.specs.Among.{Among, Each}
 use Rattle.sc_base.specs.declared.names.Draw.{Draw}
@@ -17,7 +17,8 @@ use Rattle.sc_actor.specs.declared.rows.Row.{Row}
 use Rattle.sc_actor.specs.Mail.{mails, numbered}
 use Rattle.sc_actor.specs.Replay.{value}
 use Rattle.sc_actor.specs.System.{System, row_of}
-use Rattle.sc_orderly_law.specs.Orderly.{is_born, rest}
+use Rattle.sc_orderly_law.specs.Orderly.{is_born, is_told, rest}
+use Rattle.sc_orderly_law.proofs.Paying.{count_push}
 use Rattle.sc_orderly_law.proofs.Resting.{is_born-from}
 use Rattle.sc_scenario.specs.Valid.{ValidScenariosAreBounded}
 use Rattle.sc_scenario.specs.declared.scenarios.Scenario.{Scenario}
@@ -48,28 +49,37 @@ use Rattle.sc_calm_entries_law.specs.Paid.{IsEntry}
 use Rattle.sc_calm_answers_law.specs.Beside.{IsUnsettled}
 use Rattle.sc_calm_answers_law.specs.Guided.{IsGuided, IsNamedGuide, NewestStay, WellLedLeadAlone}
 use Rattle.sc_calm_answers_law.specs.FoundRows.{IsOrdersRow, OrdersRowsFind, OrdersRowsMeet}
-use Rattle.sc_calm_answers_law.specs.SentJournals.{IsQuietWhileYoung, NextRowsAreSent, SentReplicas}
+use Rattle.sc_calm_answers_law.specs.SentJournals.{IsQuietWhileYoung, IsSentStep, NextRowsAreSent, SentReplicas}
 use Rattle.sc_calm_answers_law.specs.Meeting.{IsNoRequest, IsPlainAt}
 use Rattle.sc_calm_charts_law.specs.Charting.{chart_at, all_replicas}
 use Rattle.sc_calm_charts_law.specs.Fronts.{quiet_front}
 use Rattle.sc_budget_law.specs.AskingQuiet.{replicas_after, DoHintsRise}
 use Rattle.sc_budget_law.proofs.BetweenSteps.{each_numbered}
+use Rattle.sc_calm_logs_law.specs.Logged.{logged_sets}
+use Rattle.sc_calm_led_law.specs.Led.{over_at}
+use Rattle.sc_calm_led_law.specs.Tellers.{tellers_at}
+use Rattle.sc_calm_answers_law.specs.Hinting.{NextRowsRise}
+use Rattle.sc_calm_answers_law.specs.RiseRising.{IsRisingOn}
+use Rattle.sc_calm_answers_law.specs.RiseRounds.{IsRoundSince, OrdersKeepRounds}
 use Rattle.sc_calm_answers_law.specs.KnownFronts.{FrontsAreFound}
+use Rattle.sc_calm_answers_law.specs.Strangers.{NoMailForStrangers}
 use Rattle.sc_calm_answers_law.specs.Journal.{IsCalmJournal, IsFront, AreSent, GoesOnBy}
 use Rattle.sc_calm_answers_law.specs.JournalUnder.{IsUnder, IsYoungAt}
 use Rattle.sc_calm_answers_law.specs.Asking.{AllLeadAlone}
 use Rattle.sc_calm_answers_law.specs.KeptFinding.{CountsEntries, IsKnownMail, IsKnownDelivery, OrderRowsFindCalm}
 use Rattle.sc_calm_answers_law.specs.Viewing.{ViewsAgree}
+use Rattle.sc_calm_answers_law.specs.Borne.{ChildrenAreBorne, IsWorkingRow}
 use Rattle.sc_calm_answers_law.specs.Children.{ChildrenWereNowhere}
 use Rattle.sc_calm_answers_law.specs.Young.{IsUnanswered, YoungGroupsStay}
 use Rattle.sc_calm_answers_law.specs.TrueUnder.{AreSeen, IsTrueSince}
 use Rattle.sc_calm_answers_law.specs.TrueEntries.{LeadsSince}
 use Rattle.sc_calm_answers_law.specs.Finished.{EntriesAreTrue}
-use Rattle.sc_calm_answers_law.specs.Unsettled.{MailComesUnsettled}
+use Rattle.sc_calm_answers_law.specs.Unsettled.{MailComesUnsettled, TakesSince}
+use Rattle.sc_calm_answers_law.specs.Settled.{AreSettled, CoordinatorsAreSettled, SettledOrdersGoOn}
 use Rattle.sc_calm_answers_law.specs.TrueGoing.{AskedGroupsStood, GoesOnSince, TrueOrdersGoOn}
 use Rattle.sc_calm_answers_law.specs.Works.{IsGuidedRow, DeliveriesKeepWork, WorkStandsAlone}
 use Rattle.sc_calm_answers_law.specs.OrderedEntries.{FlightsAreEntries}
-use Rattle.sc_calm_answers_law.specs.Ordered.{IsHomelyJournal, IsNamedGroup, IsOfJournal, IsOrderedSince, IsGivenBesides, DeliveriesKeepOrdered}
+use Rattle.sc_calm_answers_law.specs.Ordered.{IsNamedGroup, IsOfJournal, IsOrderedSince, IsGivenBesides, DeliveriesKeepOrdered}
 use Rattle.sc_calm_answers_law.proofs.OrderedKnown as at_row
 use Rattle.sc_calm_answers_law.proofs.OrderedKnown.{named_there}
 use Rattle.sc_calm_answers_law.proofs.Placing.{place_of}
@@ -120,10 +130,10 @@ no_request (TxWatch tx watch) none = tt
 no_request (TxWatched tx coord part vote) none = tt
 no_request (Told order result) none = tt
 
-module _ (all_bounded : ValidScenariosAreBounded) (few_law : SlotsAreLeft) (logs_law : ReplicasRunLogs) (views_law : ViewsAreReplicas) (rosters_law : SlotsHaveRosters) (last_law : ReplicasLast) (next_law : NextRowsAreSent) (newest_law : NewestStay) (found_law : FrontsAreFound)
-    (agree_law : ViewsAgree) (alone_law : WellLedLeadAlone) (plain_law : SentReplicas) (meets_law : OrdersRowsMeet) (finds_law : OrdersRowsFind) (nowhere_law : ChildrenWereNowhere) (fresh_law : FreshGroupsStay) (young_law : YoungGroupsStay) (unsettled_law : MailComesUnsettled) (asked_law : AskedGroupsStood) (true_law : TrueOrdersGoOn)
-    (work_law : DeliveriesKeepWork) (stands_law : WorkStandsAlone) (calm_law : OrderRowsFindCalm) (entries_law : EntriesAreTrue) (flights_law : FlightsAreEntries) (come_law : MailMayCome) (once_law : LawfulReplicasAreNamedOnce) (words : ℕ → ℕ → ℕ × ℕ) (scenario : Scenario) (first : Base) (journal quiet rows : Rows) (seat : Seat Player) (number : ℕ) (calm : IsCalmJournal words scenario journal)
-    (home : IsHomelyJournal words scenario journal) (o : IsOrderedSince words scenario first journal quiet rows) (on : GoesOnBy words scenario journal rows seat number) (given : IsGivenBesides words scenario rows seat number) where
+module _ (all_bounded : ValidScenariosAreBounded) (few_law : SlotsAreLeft) (logs_law : ReplicasRunLogs) (views_law : ViewsAreReplicas) (rosters_law : SlotsHaveRosters) (last_law : ReplicasLast) (next_law : NextRowsAreSent) (newest_law : NewestStay) (found_law : FrontsAreFound) (no_law : NoMailForStrangers)
+    (agree_law : ViewsAgree) (alone_law : WellLedLeadAlone) (plain_law : SentReplicas) (meets_law : OrdersRowsMeet) (finds_law : OrdersRowsFind) (rise_law : NextRowsRise) (rounds_law : OrdersKeepRounds) (nowhere_law : ChildrenWereNowhere) (borne_law : ChildrenAreBorne) (fresh_law : FreshGroupsStay) (young_law : YoungGroupsStay) (unsettled_law : MailComesUnsettled) (asked_law : AskedGroupsStood) (true_law : TrueOrdersGoOn)
+    (work_law : DeliveriesKeepWork) (stands_law : WorkStandsAlone) (calm_law : OrderRowsFindCalm) (settled_law : SettledOrdersGoOn) (settled_at : CoordinatorsAreSettled) (entries_law : EntriesAreTrue) (flights_law : FlightsAreEntries) (come_law : MailMayCome) (once_law : LawfulReplicasAreNamedOnce) (words : ℕ → ℕ → ℕ × ℕ) (scenario : Scenario) (first : Base) (journal quiet rows : Rows) (seat : Seat Player) (number : ℕ) (calm : IsCalmJournal words scenario journal)
+    (o : IsOrderedSince words scenario first journal quiet rows) (on : GoesOnBy words scenario journal rows seat number) (given : IsGivenBesides words scenario rows seat number) where
   abbrev all : List (Seat Player)
   all = births as_nodes scenario
 
@@ -140,22 +150,22 @@ module _ (all_bounded : ValidScenariosAreBounded) (few_law : SlotsAreLeft) (logs
   under = o.under
 
   young : (base : Base) → Among base (groups_at as_nodes scenario.groups journal) → IsQuietWhileYoung words all rows base
-  young = at_row.young_quiet last_law words scenario first journal quiet rows o.behind seat number home o.rows_are under on
+  young = at_row.young_quiet last_law no_law words scenario first journal quiet rows o.behind seat number calm o.rows_are under on
 
   guide_of : (name : Draw) → IsNamedGroup scenario journal name → IsNamedGuide words all rows seat (Deliver number) name
-  guide_of = at_row.guide_of few_law logs_law views_law rosters_law next_law newest_law found_law words scenario journal rows seat (Deliver number) calm home on.front on.seated on.timely under.sent under.reached young
+  guide_of = at_row.guide_of few_law logs_law views_law rosters_law next_law newest_law found_law no_law words scenario journal rows seat (Deliver number) calm on.front on.seated on.timely under.sent under.reached young
 
   before : AreInTime s rows
-  before = at_row.before few_law logs_law views_law rosters_law next_law newest_law found_law words scenario journal rows seat (Deliver number) calm home on.front on.seated on.timely under.sent under.reached young
+  before = at_row.before few_law logs_law views_law rosters_law next_law newest_law found_law no_law words scenario journal rows seat (Deliver number) calm on.front on.seated on.timely under.sent under.reached young
 
   named : (name : Draw) → IsThere all rows name → IsNamedGroup scenario journal name
-  named = at_row.named few_law logs_law views_law rosters_law next_law newest_law found_law words scenario journal rows seat (Deliver number) calm home on.front on.seated on.timely under.sent under.reached young
+  named = at_row.named few_law logs_law views_law rosters_law next_law newest_law found_law no_law words scenario journal rows seat (Deliver number) calm on.front on.seated on.timely under.sent under.reached young
 
   named_quiet : (name : Draw) → IsThere all quiet name → IsNamedGroup scenario journal name
-  named_quiet = named_there found_law words scenario journal quiet calm home under.rests.front
+  named_quiet = named_there found_law words scenario journal quiet calm under.rests.front
 
   abbrev sent_after : AreSent words scenario journal then
-  sent_after = at_row.sent_after few_law logs_law views_law rosters_law next_law newest_law found_law words scenario journal rows seat (Deliver number) calm home on.front on.seated on.timely under.sent under.reached young
+  sent_after = at_row.sent_after few_law logs_law views_law rosters_law next_law newest_law found_law no_law words scenario journal rows seat (Deliver number) calm on.front on.seated on.timely under.sent under.reached young
 
   seen : AreSeen scenario quiet
   seen name node = agree_law.nodes scenario quiet name node (all_bounded scenario calm.valid) (found_law words scenario journal quiet calm under.rests.front).homes
@@ -163,24 +173,28 @@ module _ (all_bounded : ValidScenariosAreBounded) (few_law : SlotsAreLeft) (logs
   -- a mail that is delivered is of a group of the journal, which has a replica
   mail_known : (mail : Mail) → numbered (mails rows) number ≡ Some mail → IsOfJournal scenario journal mail × ((name : Draw) → group_of_mail mail.body ≡ Some name → IsThere all rows name)
   mail_known mail at =
-      let d = at_row.delivered last_law words scenario first journal quiet rows o.behind seat number home o.rows_are under on in
+      let d = at_row.delivered last_law no_law words scenario first journal quiet rows o.behind seat number calm o.rows_are under on in
       let both : Some d.mail ≡ Some mail = sym d.sent ∙ at in
       let same : d.mail ≡ mail = cc in
       let is = is_born-from s seat.who seat on.seated in
       let first_known = (subst (Each (IsOfJournal scenario journal)) d.first (o.known seat.who is)).0 in
       let known = subst (IsOfJournal scenario journal) same first_known in (
         known,
-        λ name of. elim (at_row.there_now last_law words scenario first journal quiet rows o.behind seat number home o.rows_are under on name (known name of)) [
+        λ name of. elim (at_row.there_now last_law no_law words scenario first journal quiet rows o.behind seat number calm o.rows_are under on name (known name of)) [
           | inl there ↦ there
           | inr none ↦ absurd (subst (λ (m : Mail). group_of_mail m.body ≡ Some name → ⊥) same (subst (Each (λ (m : Mail). group_of_mail m.body ≡ Some name → ⊥)) d.first (none seat.who is)).0 of)
         ],
       )
 
+  takes : (mail : Mail) (group : Draw) (node : NodeState) (r : ReplicaState) → IsTaking words all rows seat number mail group node → replica_of group node.replicas ≡ Some r → TakesSince words scenario first journal quiet rows seat number mail group node r under.stage
+  takes mail group node r taking here = record { calm = calm; rests = under.rests; seen = seen; untouched = under.untouched; true_since = o.true_since; taking = taking; here = here }
+
   unsettled : (mail : Mail) (group : Draw) (node : NodeState) (r : ReplicaState) → IsTaking words all rows seat number mail group node → replica_of group node.replicas ≡ Some r → IsUnsettled r mail.body
   unsettled mail group node r taking here = elim (elsewhere_or mail.body) [
-    | inl e ↦ subst (IsUnsettled r) (sym e.3) (given.elsewhere mail group node r e.0 e.1 e.2 taking here e.3)
-    | inr other ↦ unsettled_law words scenario first journal quiet rows seat number mail group node r under.stage
-        (record { calm = calm; rests = under.rests; seen = seen; untouched = under.untouched; true_since = o.true_since; taking = taking; here = here }) other
+    | inl e ↦ subst (IsUnsettled r) (sym e.3) (λ runs. (
+        let to = given.elsewhere mail group node r e.0 e.1 e.2 taking here e.3 runs in
+        (to.0, to.1, settled_at words scenario first journal quiet rows seat number mail group node r under.stage e.0 e.1 e.2 (takes mail group node r taking here) under.front under.sent o.settled e.3 runs)))
+    | inr other ↦ unsettled_law words scenario first journal quiet rows seat number mail group node r under.stage (takes mail group node r taking here) other
   ]
 
   viewed : (group : Draw) (node : NodeState) (r : ReplicaState) → value player_table seat rows ≡ Node node → replica_of group node.replicas ≡ Some r → view_at all rows group seat.who ≡ Some r
@@ -233,10 +247,15 @@ module _ (all_bounded : ValidScenariosAreBounded) (few_law : SlotsAreLeft) (logs
   guided_row : IsGuidedRow words scenario rows seat number
   guided_row = record { seated = on.seated; timely = on.timely; meets = meets_law words scenario rows seat number orders_row; groups = λ name node r e. guide_of name (named name (node, r, e)) }
 
+  working : IsWorkingRow words scenario first journal quiet rows o.line o.task seat number
+  working = record { calm = calm; under = under; goes = on; guided = guided_row; named = λ name who r e. named name (who, r, e); of = o.is_task; work = o.work }
+
   finds : FindsOrder words all rows seat (Deliver number)
   finds =
       finds_law words scenario rows seat (Deliver number) orders_row
-      (λ n mail group node r e taking here. (let same : n ≡ number = cc in given.children mail group node r (subst (λ m. IsTaking words all rows seat m mail group node) same taking) here))
+      (λ n mail group node r e taking here.
+      (let same : n ≡ number = cc in
+      borne_law.young words scenario first journal quiet rows o.line o.task seat number working o.borne mail group node r (subst (λ m. IsTaking words all rows seat m mail group node) same taking) here))
 
   unanswered : IsUnanswered rows number
   unanswered = work_law.unanswered words all rows seat number o.task on.seated on.timely o.work
@@ -265,7 +284,7 @@ module _ (all_bounded : ValidScenariosAreBounded) (few_law : SlotsAreLeft) (logs
     rests = under.rests;
     front = on.front;
     sent = sent_after;
-    reached = λ base among. at_row.reached_after few_law logs_law views_law rosters_law next_law newest_law found_law words scenario journal rows seat (Deliver number) calm home on.front on.seated on.timely under.sent under.reached young base among (λ nowhere. young_after base among (at_row.never_there last_law words scenario first journal quiet rows o.behind seat number home o.rows_are under on base.core.id nowhere));
+    reached = λ base among. at_row.reached_after few_law logs_law views_law rosters_law next_law newest_law found_law no_law words scenario journal rows seat (Deliver number) calm on.front on.seated on.timely under.sent under.reached young base among (λ nowhere. young_after base among (at_row.never_there last_law no_law words scenario first journal quiet rows o.behind seat number calm o.rows_are under on base.core.id nowhere));
     stage = next_stage.0;
     untouched = next_stage.1;
     young = young_after;
@@ -275,17 +294,41 @@ module _ (all_bounded : ValidScenariosAreBounded) (few_law : SlotsAreLeft) (logs
   true_after =
       true_law words scenario first journal quiet rows seat number under.stage next_stage.0 goes_since delivered_so next_stage.1 next_stage.2
 
+  steps : (base : Base) (among : Among base (groups_at as_nodes scenario.groups journal))
+      → IsSentStep (logged_sets as_nodes base journal) (over_at as_nodes base journal) (tellers_at as_nodes scenario base journal) words (births as_nodes scenario) rows seat (Deliver number) base (under.sent base among).course
+  steps = at_row.steps few_law logs_law views_law rosters_law next_law newest_law found_law no_law words scenario journal rows seat (Deliver number) calm on.front on.seated on.timely under.sent under.reached young
+
+  rising_after : (base : Base) (among : Among base (groups_at as_nodes scenario.groups journal)) → IsRisingOn (logged_sets as_nodes base journal) (tellers_at as_nodes scenario base journal) words (births as_nodes scenario) then base (sent_after base among).course
+  unfolding steps
+  rising_after base among =
+      rise_law words (logged_sets as_nodes base journal) (over_at as_nodes base journal) (tellers_at as_nodes scenario base journal) scenario rows seat (Deliver number) base on.timely on.seated (under.sent base among) (steps base among) (o.rising base among)
+
+  round_after : (base : Base) (among : Among base (groups_at as_nodes scenario.groups journal)) → IsRoundSince (under.rests.sent base among).course next_stage.0 base.core.id (sent_after base among).course
+  unfolding steps
+  round_after base among =
+      rounds_law.delivered words (logged_sets as_nodes base journal) (over_at as_nodes base journal) (tellers_at as_nodes scenario base journal) scenario quiet rows seat number base under.stage next_stage.0 on.timely on.seated (under.rests.sent base among) (under.sent base among) (steps base among)
+      (λ there. under.rests.members base among there) under.untouched next_stage.2 (o.round base among)
+
+  settled_after : AreSettled words scenario then next_stage.0
+  settled_after =
+      settled_law words scenario first journal quiet rows seat number under.stage next_stage.0 goes_since under.sent sent_after (λ name node r e runs. stands_law.alone o.task name r (o.work.replicas name node r e)) next_stage.1.stands next_stage.2 true_after o.settled
+
   keeps : IsOrderedSince words scenario first journal quiet then
   unfolding under_after
   keeps = record {
     behind = o.behind ++ row ∷ [];
     rows_are = ap (λ l. l ++ row ∷ []) o.rows_are ∙ append_assoc quiet o.behind (row ∷ []);
+    one_order = (let more = count_push (λ (x : Row Mail OrderLine). is_told x.event) rows row false refl in let one = o.one_order in omega (arith, more, one));
     under = under_after;
+    rising = rising_after;
+    round = round_after;
     true_since = true_after;
+    settled = settled_after;
     line = o.line;
     task = o.task;
     is_task = o.is_task;
     work = work_law.keeps words scenario rows seat number o.task guided_row o.work;
+    borne = borne_law.keeps words scenario first journal quiet rows o.line o.task seat number working o.borne;
     known = known_after words scenario journal quiet rows seat number next_stage.0 on.seated on.timely unanswered named_quiet next_stage.1 o.known;
   }
 
@@ -294,7 +337,7 @@ module _ (all_bounded : ValidScenariosAreBounded) (few_law : SlotsAreLeft) (logs
   -- a replica that a player has is one of a group of the journal
   alone : AllLeadAlone all rows
   alone r a runs =
-      let front = at_row.here few_law logs_law views_law rosters_law next_law newest_law found_law words scenario journal rows seat (Deliver number) calm home on.front on.seated on.timely under.sent under.reached young in
+      let front = at_row.here few_law logs_law views_law rosters_law next_law newest_law found_law no_law words scenario journal rows seat (Deliver number) calm on.front on.seated on.timely under.sent under.reached young in
       let f = found_law words scenario journal rows calm front in
       let p = place_of all_bounded once_law agree_law words scenario rows calm.valid f.lawful f.homes r a in
       (p.0, lead_at (name_of r) p.0 r p.1 runs)
@@ -328,9 +371,9 @@ module _ (all_bounded : ValidScenariosAreBounded) (few_law : SlotsAreLeft) (logs
       calm_law words scenario first journal quiet rows far sent seat number calm under on sent_after
       (record { alone = alone; homes = (found_law words scenario journal quiet calm under.rests.front).homes; front = front; rise = rise; nodes = given.nodes; mail = mail_so })
 
-pub deliveries_keep : ValidScenariosAreBounded → SlotsAreLeft → ReplicasRunLogs → ViewsAreReplicas → SlotsHaveRosters → ReplicasLast → NextRowsAreSent → NewestStay → FrontsAreFound → ViewsAgree → WellLedLeadAlone → SentReplicas → OrdersRowsMeet → OrdersRowsFind → ChildrenWereNowhere → FreshGroupsStay → YoungGroupsStay
-    → MailComesUnsettled → AskedGroupsStood → TrueOrdersGoOn → DeliveriesKeepWork → WorkStandsAlone → OrderRowsFindCalm → EntriesAreTrue → FlightsAreEntries → MailMayCome → LawfulReplicasAreNamedOnce → DeliveriesKeepOrdered
-deliveries_keep all_bounded few_law logs_law views_law rosters_law last_law next_law newest_law found_law agree_law alone_law plain_law meets_law finds_law nowhere_law fresh_law young_law unsettled_law asked_law true_law work_law stands_law calm_law entries_law flights_law come_law once_law words scenario first journal quiet rows seat number calm home o on given = (
-  keeps all_bounded few_law logs_law views_law rosters_law last_law next_law newest_law found_law agree_law alone_law plain_law meets_law finds_law nowhere_law fresh_law young_law unsettled_law asked_law true_law work_law stands_law calm_law entries_law flights_law come_law once_law words scenario first journal quiet rows seat number calm home o on given,
-  found all_bounded few_law logs_law views_law rosters_law last_law next_law newest_law found_law agree_law alone_law plain_law meets_law finds_law nowhere_law fresh_law young_law unsettled_law asked_law true_law work_law stands_law calm_law entries_law flights_law come_law once_law words scenario first journal quiet rows seat number calm home o on given,
+pub deliveries_keep : ValidScenariosAreBounded → SlotsAreLeft → ReplicasRunLogs → ViewsAreReplicas → SlotsHaveRosters → ReplicasLast → NextRowsAreSent → NewestStay → FrontsAreFound → NoMailForStrangers → ViewsAgree → WellLedLeadAlone → SentReplicas → OrdersRowsMeet → OrdersRowsFind → NextRowsRise → OrdersKeepRounds → ChildrenWereNowhere → ChildrenAreBorne → FreshGroupsStay → YoungGroupsStay
+    → MailComesUnsettled → AskedGroupsStood → TrueOrdersGoOn → DeliveriesKeepWork → WorkStandsAlone → OrderRowsFindCalm → SettledOrdersGoOn → CoordinatorsAreSettled → EntriesAreTrue → FlightsAreEntries → MailMayCome → LawfulReplicasAreNamedOnce → DeliveriesKeepOrdered
+deliveries_keep all_bounded few_law logs_law views_law rosters_law last_law next_law newest_law found_law no_law agree_law alone_law plain_law meets_law finds_law rise_law rounds_law nowhere_law borne_law fresh_law young_law unsettled_law asked_law true_law work_law stands_law calm_law settled_law settled_at entries_law flights_law come_law once_law words scenario first journal quiet rows seat number calm o on given = (
+  keeps all_bounded few_law logs_law views_law rosters_law last_law next_law newest_law found_law no_law agree_law alone_law plain_law meets_law finds_law rise_law rounds_law nowhere_law borne_law fresh_law young_law unsettled_law asked_law true_law work_law stands_law calm_law settled_law settled_at entries_law flights_law come_law once_law words scenario first journal quiet rows seat number calm o on given,
+  found all_bounded few_law logs_law views_law rosters_law last_law next_law newest_law found_law no_law agree_law alone_law plain_law meets_law finds_law rise_law rounds_law nowhere_law borne_law fresh_law young_law unsettled_law asked_law true_law work_law stands_law calm_law settled_law settled_at entries_law flights_law come_law once_law words scenario first journal quiet rows seat number calm o on given,
 )

@@ -45,11 +45,12 @@ use Rattle.sc_calm_scenes_law.specs.Fresh.{IsThere, IsNowhere}
 use Rattle.sc_calm_scenes_law.proofs.Turning.{calm_is}
 use Rattle.sc_calm_answers_law.specs.Guided.{AreBoundBy, IsGuided, IsNamedGuide, IsReached, IsReachedSo, NewestStay}
 use Rattle.sc_calm_answers_law.specs.SentJournals.{IsQuietWhileYoung, IsSentThrough, IsSentStep, NextRowsAreSent}
-use Rattle.sc_calm_answers_law.specs.KnownFronts.{FrontsAreFound, IsFoundFront}
+use Rattle.sc_calm_answers_law.specs.KnownFronts.{FrontsAreFound}
+use Rattle.sc_calm_answers_law.specs.Strangers.{NoMailForStrangers}
 use Rattle.sc_calm_answers_law.specs.Journal.{IsCalmJournal, IsFront, AreSent, GoesOnBy}
 use Rattle.sc_calm_answers_law.specs.JournalUnder.{IsUnder, IsYoungAt}
 use Rattle.sc_calm_answers_law.proofs.Delivering.{there_or}
-use Rattle.sc_calm_answers_law.specs.Ordered.{IsHomelyJournal, IsNamedGroup}
+use Rattle.sc_calm_answers_law.specs.Ordered.{IsNamedGroup}
 
 -- ---- marks
 
@@ -128,7 +129,7 @@ module _ (rosters_law : SlotsHaveRosters) (logs_law : ReplicasRunLogs) (views_la
 
 -- ---- a front
 
-module _ (found_law : FrontsAreFound) (words : ℕ → ℕ → ℕ × ℕ) (scenario : Scenario) (journal rows : Rows) (calm : IsCalmJournal words scenario journal) (home : IsHomelyJournal words scenario journal) (front : IsFront journal rows) where
+module _ (found_law : FrontsAreFound) (words : ℕ → ℕ → ℕ × ℕ) (scenario : Scenario) (journal rows : Rows) (calm : IsCalmJournal words scenario journal) (front : IsFront journal rows) where
   -- a group that has a replica is one of the journal
   pub named_there : (name : Draw) → IsThere (births as_nodes scenario) rows name → IsNamedGroup scenario journal name
   named_there name there =
@@ -138,8 +139,8 @@ module _ (found_law : FrontsAreFound) (words : ℕ → ℕ → ℕ × ℕ) (scen
 
 -- ---- a row
 
-module _ (few_law : SlotsAreLeft) (logs_law : ReplicasRunLogs) (views_law : ViewsAreReplicas) (rosters_law : SlotsHaveRosters) (next_law : NextRowsAreSent) (newest_law : NewestStay) (found_law : FrontsAreFound)
-    (words : ℕ → ℕ → ℕ × ℕ) (scenario : Scenario) (journal rows : Rows) (seat : Seat Player) (event : Event OrderLine) (calm : IsCalmJournal words scenario journal) (home : IsHomelyJournal words scenario journal)
+module _ (few_law : SlotsAreLeft) (logs_law : ReplicasRunLogs) (views_law : ViewsAreReplicas) (rosters_law : SlotsHaveRosters) (next_law : NextRowsAreSent) (newest_law : NewestStay) (found_law : FrontsAreFound) (no_law : NoMailForStrangers)
+    (words : ℕ → ℕ → ℕ × ℕ) (scenario : Scenario) (journal rows : Rows) (seat : Seat Player) (event : Event OrderLine) (calm : IsCalmJournal words scenario journal)
     (front : IsFront journal (with_event rows seat event)) (seated : IsSeat (births as_nodes scenario) seat) (timely : AreInTime (players words (births as_nodes scenario)) (with_event rows seat event)) (sent : AreSent words scenario journal rows)
     (reached_so : (base : Base) (among : Among base (groups_at as_nodes scenario.groups journal)) → IsReachedSo (births as_nodes scenario) rows base (sent base among).course)
     (young : (base : Base) → Among base (groups_at as_nodes scenario.groups journal) → IsQuietWhileYoung words (births as_nodes scenario) rows base) where
@@ -205,7 +206,7 @@ module _ (few_law : SlotsAreLeft) (logs_law : ReplicasRunLogs) (views_law : View
   here = record { more = row ∷ front.more; is = split }
 
   pub named : (name : Draw) → IsThere (births as_nodes scenario) rows name → IsNamedGroup scenario journal name
-  named = named_there found_law words scenario journal rows calm home here
+  named = named_there found_law words scenario journal rows calm here
 
   pub guide_of : (name : Draw) → IsNamedGroup scenario journal name → IsNamedGuide words (births as_nodes scenario) rows seat event name
   guide_of name g = record { base = g.0; named = g.2; guided = guided g.0 g.1 }
@@ -230,12 +231,12 @@ module _ (few_law : SlotsAreLeft) (logs_law : ReplicasRunLogs) (views_law : View
         no_mail : IsYoungAt words (births as_nodes scenario) (with_event rows seat event) base → (who : ℕ) → marks_at s (with_event rows seat event) base.core.id who ≡ []
         no_mail y who = elim (cases_Bool (is_born s who)) [
           | inl t ↦ no_marks_of base.core.id (rest s (with_event rows seat event) who) (y.unsent who t)
-          | inr f ↦ home.strangers (with_event rows seat event) front base.core.id who f
+          | inr f ↦ no_law.strangers words scenario journal (with_event rows seat event) calm front sent_after base.core.id who f
         ]
 
 -- ---- a delivery
 
-module _ (last_law : ReplicasLast) (words : ℕ → ℕ → ℕ × ℕ) (scenario : Scenario) (first : Base) (journal quiet rows after : Rows) (seat : Seat Player) (number : ℕ) (home : IsHomelyJournal words scenario journal)
+module _ (last_law : ReplicasLast) (no_law : NoMailForStrangers) (words : ℕ → ℕ → ℕ × ℕ) (scenario : Scenario) (first : Base) (journal quiet rows after : Rows) (seat : Seat Player) (number : ℕ) (calm : IsCalmJournal words scenario journal)
     (rows_are : rows ≡ quiet ++ after) (under : IsUnder words scenario first journal quiet rows) (on : GoesOnBy words scenario journal rows seat number) where
   abbrev all : List (Seat Player)
   all = births as_nodes scenario
@@ -257,7 +258,7 @@ module _ (last_law : ReplicasLast) (words : ℕ → ℕ → ℕ × ℕ) (scenari
         let has = under.rests.members base among there who member in
         let later = grows base.core.id who has.0 has.1 in
         absurd (none-some later.0 (sym none ∙ later.1)))
-    | inr nowhere ↦ no_marks_of base.core.id (rest sys rows who) ((under.young base among nowhere).unsent who (home.born base among who member))
+    | inr nowhere ↦ no_marks_of base.core.id (rest sys rows who) ((under.young base among nowhere).unsent who (no_law.born words scenario journal calm base among who member))
   ]
 
   -- a group of the journal has a replica then, or no mail of it is under way

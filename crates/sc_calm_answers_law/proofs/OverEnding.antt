@@ -32,11 +32,11 @@ use Rattle.sc_sound.specs.GroupsOf.{groups_at}
 use Rattle.sc_sound.specs.Players.{Player, player_table, births, node_seat, as_nodes}
 use Rattle.sc_calm_law.specs.Charts.{players}
 use Rattle.sc_calm_law.specs.Laws.{MayPump}
-use Rattle.sc_calm_law.specs.Quiet.{HasReplica, StandsQuiet, IsGoneQuiet, IsAtRest}
+use Rattle.sc_calm_law.specs.Quiet.{HasReplica, StandsQuiet, IsGoneQuiet, IsAtRest, RisesAt}
 use Rattle.sc_calm_law.specs.Totals.{Rows}
 use Rattle.sc_following_law.specs.Following.{Course, marks_of, mark_of, named_mark}
 use Rattle.sc_following_law.specs.Leading.{IsLeadOf}
-use Rattle.sc_calm_rows_law.specs.Groups.{view_at, progress_at}
+use Rattle.sc_calm_rows_law.specs.Groups.{view_at, marks_at, progress_at}
 use Rattle.sc_calm_groups_law.specs.Tops.{NodesKeepTops, NodesAreBornTopped}
 use Rattle.sc_calm_groups_law.specs.Rests.{QuietGroupsAreLed, IsLedQuietly}
 use Rattle.sc_calm_logs_law.specs.Logged.{logged_sets}
@@ -53,6 +53,9 @@ use Rattle.sc_calm_answers_law.specs.KnownFronts.{IsQuietFront, IsKnownGroup, Is
 use Rattle.sc_calm_answers_law.specs.Known.{FrontsAreKnown, FrontsAreReachable, FrontsAreTakenIn, FrontsAreLinked, StillFrontsAreFree}
 use Rattle.sc_calm_answers_law.specs.Links.{AreAllFree}
 use Rattle.sc_calm_answers_law.specs.Noted.{FrontsAreNoted}
+use Rattle.sc_calm_answers_law.specs.Hinting.{QuietHintsRise}
+use Rattle.sc_calm_answers_law.specs.RiseRounds.{RoundsAreSeen}
+use Rattle.sc_calm_answers_law.specs.Strangers.{NoMailForStrangers}
 use Rattle.sc_calm_answers_law.specs.There.{FrontsAreThere, FrontsHaveMembers}
 use Rattle.sc_calm_answers_law.proofs.Known.{newest_state}
 use Rattle.sc_calm_scenes_law.specs.Fresh.{IsThere}
@@ -64,8 +67,8 @@ use Rattle.sc_calm_answers_law.proofs.Desk.{desk_marks}
 use Rattle.sc_calm_answers_law.proofs.Nodes.{node_value}
 
 module _ (all_bounded : ValidScenariosAreBounded) (found_law : FrontsAreFound) (groups_law : QuietFrontsHaveGroups) (executed_law : QuietLogsAreExecuted) (known_law : FrontsAreKnown) (reach_law : FrontsAreReachable) (taken_law : FrontsAreTakenIn) (linked_law : FrontsAreLinked) (free_law : StillFrontsAreFree)
-    (stand_law : QuietGroupsStand) (gone_law : QuietGroupsAreGone) (rest_law : QuietReplicasRest) (kept_law : QuietReplicasAreKept) (led_law : QuietGroupsAreLed) (keep_law : NodesKeepTops) (topped_law : NodesAreBornTopped) (sent_law : SentReplicas) (there_law : FrontsAreThere) (members_law : FrontsHaveMembers) (noted_law : FrontsAreNoted) (words : ℕ → ℕ → ℕ × ℕ) (scenario : Scenario) (first : Base) (journal front : Rows)
-    (q : IsQuietFront words scenario journal front) (ends : EndsQuietly words scenario first front) where
+    (stand_law : QuietGroupsStand) (gone_law : QuietGroupsAreGone) (rest_law : QuietReplicasRest) (kept_law : QuietReplicasAreKept) (led_law : QuietGroupsAreLed) (keep_law : NodesKeepTops) (topped_law : NodesAreBornTopped) (sent_law : SentReplicas) (there_law : FrontsAreThere) (members_law : FrontsHaveMembers) (noted_law : FrontsAreNoted) (no_law : NoMailForStrangers) (hints_law : QuietHintsRise) (rounds_law : RoundsAreSeen) (words : ℕ → ℕ → ℕ × ℕ) (scenario : Scenario) (first : Base) (journal front : Rows)
+    (q : IsQuietFront words scenario journal front) (ends : EndsQuietly words scenario first journal front q.sent) where
   abbrev at : Draw → ℕ → Option ReplicaState
   at = replicas_after scenario front
 
@@ -171,13 +174,30 @@ module _ (all_bounded : ValidScenariosAreBounded) (found_law : FrontsAreFound) (
   empty : (who : ℕ) → is_born s who ≡ true → rest s front who ≡ []
   empty who born = quiet-empty s front who (in_time_tidy s front (front_timely words scenario journal front q.calm q.begins)) born q.quiet
 
+  none : (name : Draw) (who : ℕ) → marks_at s front name who ≡ []
+  none name who = elim (cases_Bool (is_born s who)) [ inl t ↦ ap (marks_of name) (empty who t) | inr f ↦ no_law.strangers words scenario journal front q.calm q.begins q.sent name who f ]
+
+  -- hints rise, and rounds are counted from 1 on
+  rises_here : (base : Base) → Among base (groups_at as_nodes scenario.groups front) → (node : ℕ) (r : ReplicaState) → at base.core.id node ≡ Some r → r.running ≡ false → r.group.core.gone ≡ None → RisesAt at base.core.id r
+  rises_here base a node r e off stands =
+      let j = found.later base a in
+      let x =
+      hints_law words (logged_sets as_nodes base journal) (over_at as_nodes base journal) (tellers_at as_nodes scenario base journal) scenario front base (q.sent base j) (ends.rising base j) (none base.core.id)
+      (λ there. members_law words scenario journal front base q j there) node r (sym (found.views base.core.id node) ∙ e) off stands in
+      record { hint_is = x.hint_is; there = x.there; is_there = found.views base.core.id r.top.node ∙ x.is_there; nearer = x.nearer }
+
+  least_here : (base : Base) → Among base (groups_at as_nodes scenario.groups front) → (node : ℕ) (r : ReplicaState) → at base.core.id node ≡ Some r → 1 ≤ r.top.round
+  least_here base a node r e =
+      let j = found.later base a in
+      rounds_law.least (logged_sets as_nodes base journal) (tellers_at as_nodes scenario base journal) words (births as_nodes scenario) front base (q.sent base j).course (ends.rising base j) node r (sym (found.views base.core.id node) ∙ e)
+
   journal_is : IsQuietJournal words scenario first front
   journal_is = record {
     clients = ends.clients;
     quiet = record {
       groups = λ name node has. by_name (λ n w r. StandsQuiet at n ⊎ IsGoneQuiet at n) (λ base a w r e. group_quiet base a) name node has.0 has.1;
       at_rest = by_name (λ n w r. IsAtRest r) rest_here;
-      rises = ends.rises;
+      rises = by_name (λ n w r. r.running ≡ false → r.group.core.gone ≡ None → RisesAt at n r) rises_here;
       answered = ends.answered;
     };
     kept = by_name (λ n w r. IsKept n w r) kept_here;
@@ -186,7 +206,7 @@ module _ (all_bounded : ValidScenariosAreBounded) (found_law : FrontsAreFound) (
     players = ends.players;
     reached = ends.reached;
     none = empty;
-    desk = λ who none. desk_marks (rest s front who) (λ name. ends.strangers name who none);
+    desk = λ who none. desk_marks (rest s front who) (λ name. no_law.strangers words scenario journal front q.calm q.begins q.sent name who none);
   }
 
   rests : RestsAt words scenario first journal front
@@ -200,11 +220,12 @@ module _ (all_bounded : ValidScenariosAreBounded) (found_law : FrontsAreFound) (
     known = known_law words scenario journal front q free;
     reach = reach_law words scenario journal front q free;
     pumps = by_name (λ n w r. MayPump r) pump_here;
-    rounds = ends.rounds;
+    rounds = λ name node r e. (by_name (λ n w x. 1 ≤ x.top.round) least_here name node r (found.views name node ∙ e), ends.rounds name node r e);
+    rising = ends.rising;
     turn = ends.turn;
     turns = ends.turns;
   }
 
 pub quiet_fronts_rest : ValidScenariosAreBounded → FrontsAreFound → QuietFrontsHaveGroups → QuietLogsAreExecuted → FrontsAreKnown → FrontsAreReachable → FrontsAreTakenIn → FrontsAreLinked → StillFrontsAreFree → QuietGroupsStand → QuietGroupsAreGone → QuietReplicasRest → QuietReplicasAreKept
-    → QuietGroupsAreLed → NodesKeepTops → NodesAreBornTopped → SentReplicas → FrontsAreThere → FrontsHaveMembers → FrontsAreNoted → QuietFrontsRest
+    → QuietGroupsAreLed → NodesKeepTops → NodesAreBornTopped → SentReplicas → FrontsAreThere → FrontsHaveMembers → FrontsAreNoted → NoMailForStrangers → QuietHintsRise → RoundsAreSeen → QuietFrontsRest
 quiet_fronts_rest = rests

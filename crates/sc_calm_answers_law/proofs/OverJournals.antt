@@ -75,7 +75,7 @@ free_here bond work errands b w e =
     ∙ (ap (λ x. (let h : Here = record { bond = Unbound; work = x; errands = errands } in h)) w ∙ ap (λ x. (let h : Here = record { bond = Unbound; work = []; errands = x } in h)) e)
 
 module _ (found_law : FrontsAreFound) (rest_law : QuietFrontsRest) (words : ℕ → ℕ → ℕ × ℕ) (scenario : Scenario) (first : Base) (journal front : Rows) (q : IsQuietFront words scenario journal front) (is : IsQuietJournal words scenario first front)
-    (besides : RestsBesides words scenario front) where
+    (besides : RestsBesides words scenario journal front q.sent) where
   abbrev s : System Player Mail OrderLine
   s = players words (births as_nodes scenario)
 
@@ -110,10 +110,9 @@ module _ (found_law : FrontsAreFound) (rest_law : QuietFrontsRest) (words : ℕ 
   rests : RestsAt words scenario first journal front
   rests = rest_law words scenario first journal front q (record {
     still = still;
-    strangers = besides.strangers;
     done = λ name node r e runs. (let k = at_rest name node r e in (k.acts, k.calls));
-    rises = λ name node r e off stands. is.quiet.rises name node r e off stands;
     rounds = besides.rounds;
+    rising = besides.rising;
     clients = is.clients;
     answered = is.quiet.answered;
     players = is.players;

@@ -217,6 +217,9 @@ module _ (words : ℕ → ℕ → ℕ × ℕ) (at : Sets) (over : Ends) (by : Te
   marks_grown ms a = Each-weaker (AsksSeen all rows base) (AsksSeen all then_ base) (λ mark s. mark_grown mark s) ms a
 
   module _ (home : AreSeen words (births as_nodes scenario) rows base) where
+    first_then : (who : ℕ) → IsAtLeast (top_in base (view_at all then_ base.core.id who)) (first_ballot base.core)
+    first_then who = at_least_trans (top_in base (view_at all then_ name who)) (top_in base (view_at all rows name who)) (first_ballot base.core) (tops_rise who) (home.first who)
+
     -- ---- what is promised
 
     own_promised : IsSeen all then_ base (after.promise seat.who)
@@ -383,7 +386,7 @@ module _ (words : ℕ → ℕ → ℕ × ℕ) (at : Sets) (over : Ends) (by : Te
         (Each-weaker (λ (mail : Mail). IsRefusal May mail.to mail.body) (RefusesSeen all then_ base) refusal_then row.sent row_said))
 
     pub seen_then : AreSeen words (births as_nodes scenario) (with_event rows seat event) base
-    seen_then = record { promised = promised_then; asked = asked_then; refused = refused_then }
+    seen_then = record { first = first_then; promised = promised_then; asked = asked_then; refused = refused_then }
 
     -- so a refusal that is delivered names no later ballot than its receiver saw
     pub refuses_old : RefusesOld (births as_nodes scenario) rows seat event base

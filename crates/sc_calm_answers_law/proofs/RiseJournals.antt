@@ -108,13 +108,16 @@ module _ (words : ℕ → ℕ → ℕ × ℕ) (at : Sets) (over : Ends) (by : Te
       | inr some ↦ (let same : born_replica slots_ahead who base ≡ r = (let e : Some (born_replica slots_ahead who base) ≡ Some r = sym some.0 ∙ view in cc) in
           subst (λ (x : ReplicaState). IsAtLeast x.acceptor.promised x.top) same (at_least_itself (first_ballot base.core)))
     ];
-    home = record { promised = λ who. subst (IsSeen births [] base) (sym (promises who)) first_seen; asked = λ who. tt; refused = tt };
+    home = record { first = first_top; promised = λ who. subst (IsSeen births [] base) (sym (promises who)) first_seen; asked = λ who. tt; refused = tt };
   }
     where
-      first_seen : IsSeen births [] base (first_ballot base.core)
-      first_seen =
-          let top : top_in base (view_at births [] base.core.id (first_ballot base.core).node) ≡ first_ballot base.core = elim (born (first_ballot base.core).node) [ inl none ↦ ap (top_in base) none | inr some ↦ ap (top_in base) some.0 ] in
+      first_top : (who : ℕ) → IsAtLeast (top_in base (view_at births [] base.core.id who)) (first_ballot base.core)
+      first_top who =
+          let top : top_in base (view_at births [] base.core.id who) ≡ first_ballot base.core = elim (born who) [ inl none ↦ ap (top_in base) none | inr some ↦ ap (top_in base) some.0 ] in
           subst (λ b. IsAtLeast b (first_ballot base.core)) (sym top) (at_least_itself (first_ballot base.core))
+
+      first_seen : IsSeen births [] base (first_ballot base.core)
+      first_seen = first_top (first_ballot base.core).node
 
       some_none : (x : ReplicaState) → Some x ≡ None → ⊥
       some_none x e = cc

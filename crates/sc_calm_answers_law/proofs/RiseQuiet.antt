@@ -147,4 +147,4 @@ module _ (words : ℕ → ℕ → ℕ × ℕ) (at : Sets) (over : Ends) (by : Te
     ]
 
 pub quiet_hints_rise : QuietHintsRise
-quiet_hints_rise words at over by scenario front base t rising none born node r here off stands = rises words at over by scenario front base t rising none born node r here off stands
+quiet_hints_rise words at over by scenario front base t rising none born node r here off stands = rises words at over by scenario front base t rising none (born (node, r, here)) node r here off stands

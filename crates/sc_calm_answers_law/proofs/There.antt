@@ -31,13 +31,14 @@ use Rattle.sc_calm_scenes_law.specs.Fresh.{IsThere}
 use Rattle.sc_calm_answers_law.specs.Bearing.{IsBirth}
 use Rattle.sc_calm_answers_law.specs.KnownFronts.{IsQuietFront, IsFoundFront, FrontsAreFound}
 use Rattle.sc_calm_answers_law.specs.Offered.{GroupsAreAskedThrough}
+use Rattle.sc_calm_answers_law.specs.Strangers.{NoMailForStrangers}
 use Rattle.sc_calm_answers_law.specs.There.{ChildrenAreMade, FrontsAreThere, FrontsHaveMembers}
 use Rattle.sc_calm_answers_law.proofs.KnownBirths.{birth_slot}
 use Rattle.sc_calm_answers_law.proofs.KnownGroups.{front_timely, newest_there, executed}
 use Rattle.sc_calm_answers_law.proofs.LinkFronts.{found}
 
 module _ (bounded : ValidScenariosAreBounded) (begin : ValidScenariosBeginWell) (allowed : TakenOrdersAreAllowed) (wishes : TakenWishesAreAllowed) (positions : WishesAreAtPositions) (free : OtherNamesAreFree)
-    (wb : ScenariosAreWellBorn) (begin_taught : GroupsBeginTaught) (through : GroupsAreAskedThrough) (finds : FrontsAreFound) (made : ChildrenAreMade) (words : ℕ → ℕ → ℕ × ℕ) (scenario : Scenario) (journal front : Rows) (q : IsQuietFront words scenario journal front) where
+    (wb : ScenariosAreWellBorn) (begin_taught : GroupsBeginTaught) (through : GroupsAreAskedThrough) (no_mail : NoMailForStrangers) (finds : FrontsAreFound) (made : ChildrenAreMade) (words : ℕ → ℕ → ℕ × ℕ) (scenario : Scenario) (journal front : Rows) (q : IsQuietFront words scenario journal front) where
   bound : IsBounded scenario
   bound = bounded scenario q.calm.valid
 
@@ -67,7 +68,7 @@ module _ (bounded : ValidScenariosAreBounded) (begin : ValidScenariosBeginWell) 
   -- and those of a child since they learnt of it
   child_has : (parent base : Base) → Among parent (groups_at as_nodes scenario.groups front) → HasAll parent → (slot : ℕ) → slot ≤ length (decided_log as_nodes parent front) → IsBirth (decided_log as_nodes parent journal) parent slot base → HasAll base
   child_has parent base here has slot low b who member =
-      let k = executed wb begin_taught through words scenario journal front parent q finds here has in
+      let k = executed wb begin_taught through no_mail words scenario journal front parent q finds here has in
       let by = tellers_at as_nodes scenario parent journal in
       let t = q.sent parent (seen.later parent here) in
       let on = made words by scenario journal front q.begins.more parent k.0.quiet.group q.begins.is timely t.one t.so in
@@ -106,10 +107,10 @@ module _ (bounded : ValidScenariosAreBounded) (begin : ValidScenariosBeginWell) 
 -- what these laws stand on
 abbrev pub Stands : Type 0 → Type 0
 Stands law =
-    ValidScenariosAreBounded → ValidScenariosBeginWell → TakenOrdersAreAllowed → TakenWishesAreAllowed → WishesAreAtPositions → OtherNamesAreFree → ScenariosAreWellBorn → GroupsBeginTaught → GroupsAreAskedThrough → FrontsAreFound → ChildrenAreMade → law
+    ValidScenariosAreBounded → ValidScenariosBeginWell → TakenOrdersAreAllowed → TakenWishesAreAllowed → WishesAreAtPositions → OtherNamesAreFree → ScenariosAreWellBorn → GroupsBeginTaught → GroupsAreAskedThrough → NoMailForStrangers → FrontsAreFound → ChildrenAreMade → law
 
 pub fronts_are_there : Stands FrontsAreThere
 fronts_are_there = all_there
 
 pub fronts_have_members : Stands FrontsHaveMembers
-fronts_have_members bounded begin allowed wishes positions free wb begin_taught through finds made words scenario journal front base q a there = members_there bounded begin allowed wishes positions free wb begin_taught through finds made words scenario journal front q base a there
+fronts_have_members bounded begin allowed wishes positions free wb begin_taught through no_mail finds made words scenario journal front base q a there = members_there bounded begin allowed wishes positions free wb begin_taught through no_mail finds made words scenario journal front q base a there

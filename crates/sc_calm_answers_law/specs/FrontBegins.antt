@@ -5,9 +5,8 @@ use Rattle.sc_scenario.specs.declared.scenarios.Scenario.{Scenario}
 use Rattle.sc_calm_law.specs.Totals.{Rows}
 use Rattle.sc_calm_answers_law.specs.Journal.{IsCalmJournal}
 use Rattle.sc_calm_answers_law.specs.Resting.{RestsAt}
-use Rattle.sc_calm_answers_law.specs.Ordered.{IsHomelyJournal}
 
 -- Before its first row a calm journal rests.
 abbrev pub JournalsBeginResting : Type 0
 JournalsBeginResting =
-    (words : ℕ → ℕ → ℕ × ℕ) (scenario : Scenario) (first : Base) (others : List Base) (journal : Rows) → scenario.groups ≡ first ∷ others → IsCalmJournal words scenario journal → IsHomelyJournal words scenario journal → RestsAt words scenario first journal []
+    (words : ℕ → ℕ → ℕ × ℕ) (scenario : Scenario) (first : Base) (others : List Base) (journal : Rows) → scenario.groups ≡ first ∷ others → IsCalmJournal words scenario journal → RestsAt words scenario first journal []

@@ -1,8 +1,7 @@
 -- That hints rise in quiet fronts of a calm journal: what is kept of each group row by row, and what follows of it in quiet.
-use Rattle.std.specs.Prelude.{◌≡◌, ℕ, true, false, [], Some, None}
+use Rattle.std.specs.Prelude.{◌≡◌, ℕ, false, [], Some, None}
 use Rattle.sc_cmd.specs.declared.cores.Base.{Base}
 use Rattle.sc_cmd.specs.declared.orders.OrderLine.{OrderLine}
-use Rattle.sc_member.specs.Roster.{is_member}
 use Rattle.sc_actor.specs.declared.actors.Seat.{Seat}
 use Rattle.sc_actor.specs.declared.rows.Event.{Event}
 use Rattle.sc_orderly_law.specs.Timely.{AreInTime}
@@ -10,7 +9,7 @@ use Rattle.sc_scenario.specs.declared.scenarios.Scenario.{Scenario}
 use Rattle.sc_node_table.specs.Replica.{ReplicaState}
 use Rattle.sc_sound.specs.Players.{Player, births, as_nodes}
 use Rattle.sc_calm_law.specs.Charts.{players}
-use Rattle.sc_calm_law.specs.Quiet.{HasReplica, RisesAt}
+use Rattle.sc_calm_law.specs.Quiet.{RisesAt}
 use Rattle.sc_calm_law.specs.Totals.{Rows}
 use Rattle.sc_following_law.specs.Following.{Sets}
 use Rattle.sc_following_law.specs.Hints.{Tellers}
@@ -21,6 +20,7 @@ use Rattle.sc_calm_logs_law.specs.Logged.{logged_sets, IsGroupOf}
 use Rattle.sc_calm_led_law.specs.Led.{over_at}
 use Rattle.sc_calm_led_law.specs.Tellers.{tellers_at}
 use Rattle.sc_calm_answers_law.specs.SentJournals.{IsSentThrough, IsSentStep}
+use Rattle.sc_calm_answers_law.specs.RiseRounds.{HasMembers}
 use Rattle.sc_calm_answers_law.specs.RiseRising.{IsRisingOn}
 
 -- Each group of a lawful journal of a valid scenario is so at the births ..
@@ -41,5 +41,5 @@ NextRowsRise =
 abbrev pub QuietHintsRise : Type 0
 QuietHintsRise =
     (words : ℕ → ℕ → ℕ × ℕ) (at : Sets) (over : Ends) (by : Tellers) (scenario : Scenario) (front : Rows) (base : Base) (t : IsSentThrough at over by words (births as_nodes scenario) front base) → IsRisingOn at by words (births as_nodes scenario) front base t.course
-    → ((who : ℕ) → marks_at (players words (births as_nodes scenario)) front base.core.id who ≡ []) → ((node : ℕ) → is_member base.core.members node ≡ true → HasReplica (view_at (births as_nodes scenario) front) base.core.id node)
+    → ((who : ℕ) → marks_at (players words (births as_nodes scenario)) front base.core.id who ≡ []) → HasMembers (births as_nodes scenario) front base
     → (node : ℕ) (r : ReplicaState) → view_at (births as_nodes scenario) front base.core.id node ≡ Some r → r.running ≡ false → r.group.core.gone ≡ None → RisesAt (view_at (births as_nodes scenario) front) base.core.id r

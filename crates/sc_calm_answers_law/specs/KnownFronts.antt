@@ -1,11 +1,10 @@
 -- A quiet front of a calm journal, and what is known of its groups.
-use Rattle.std.specs.Prelude.{◌≡◌, ℕ, ◌+◌, true, false, [], length, Some}
+use Rattle.std.specs.Prelude.{◌≡◌, ℕ, ◌+◌, true, length, Some}
 use Rattle.sc_base.specs.Among.{Among}
 use Rattle.sc_base.specs.declared.names.Draw.{Draw}
 use Rattle.sc_cmd.specs.declared.cores.Base.{Base}
 use Rattle.sc_actor.specs.Mail.{mails}
 use Rattle.sc_actor.specs.Walk.{is_quiet}
-use Rattle.sc_orderly_law.specs.Orderly.{is_born}
 use Rattle.sc_paxos_law.specs.Chosen.{IsLog}
 use Rattle.sc_scenario.specs.declared.scenarios.Scenario.{Scenario}
 use Rattle.sc_node_table.specs.Replica.{ReplicaState}
@@ -17,7 +16,7 @@ use Rattle.sc_sound.specs.Soundness.{Continues, HasRun}
 use Rattle.sc_calm_law.specs.Charts.{players}
 use Rattle.sc_calm_law.specs.Totals.{Rows}
 use Rattle.sc_following_law.specs.Following.{Course}
-use Rattle.sc_calm_rows_law.specs.Groups.{view_at, marks_at}
+use Rattle.sc_calm_rows_law.specs.Groups.{view_at}
 use Rattle.sc_calm_led_law.specs.Tellers.{tellers_at}
 use Rattle.sc_calm_scenes_law.specs.Fresh.{IsThere}
 use Rattle.sc_calm_answers_law.specs.Rests.{IsQuietGroup}
@@ -49,13 +48,12 @@ abbrev pub FrontsAreFound : Type 0
 FrontsAreFound =
     (words : ℕ → ℕ → ℕ × ℕ) (scenario : Scenario) (journal front : Rows) → IsCalmJournal words scenario journal → IsFront journal front → IsFoundFront words scenario journal front
 
--- A quiet front of a calm journal, whose groups are well led; no mail of a group is for who is no actor.
+-- A quiet front of a calm journal, whose groups are well led.
 pub record IsQuietFront (words : ℕ → ℕ → ℕ × ℕ) (scenario : Scenario) (journal front : Rows) : Type 0 where
   pub calm : IsCalmJournal words scenario journal
   pub begins : IsFront journal front
   pub quiet : is_quiet (players words (births as_nodes scenario)) front ≡ true
   pub sent : AreSent words scenario journal front
-  pub strangers : (base : Base) → Among base (groups_at as_nodes scenario.groups journal) → (who : ℕ) → is_born (players words (births as_nodes scenario)) who ≡ false → marks_at (players words (births as_nodes scenario)) front base.core.id who ≡ []
 
 -- a group of the journal is a quiet group after the front, asked for nothing beyond its course; and its log after the front is executed
 pub record IsKnownGroup (words : ℕ → ℕ → ℕ × ℕ) (scenario : Scenario) (journal front : Rows) (base : Base) : Type 0 where

@@ -21,21 +21,33 @@ pub record GoesOnce (names later_names : List Draw) (replicas later : List Repli
   pub here : (other : Draw) (into : Route) → went_in other later ≡ Some into → Among other later_names
   pub stays : (other : Draw) (into : Route) → went_in other replicas ≡ Some into → went_in other later ≡ Some into
   pub others : (other : Draw) (into : Route) → (other ≡ group → ⊥) → went_in other later ≡ Some into → went_in other replicas ≡ Some into
-  pub stands : (into : Route) → went_in group later ≡ Some into → went_in into.group later ≡ None
+  pub stands : (into : Route) → went_in group replicas ≡ None → went_in group later ≡ Some into → went_in into.group later ≡ None
 
 -- So they go one after another then, by some numbers.
 abbrev pub TurnsGoOn : Type 0
 TurnsGoOn =
     (names later_names : List Draw) (replicas later : List ReplicaState) (group : Draw) (turn : Draw → ℕ) → GoInTurn names replicas turn → GoesOnce names later_names replicas later group → (after : Draw → ℕ) × GoInTurn later_names later after
 
--- Between two fronts at most this group went, and into one that stands.
+-- Between two fronts at most this group went, and if it did, into one that stands.
 pub record GoesAlone (scenario : Scenario) (quiet front : Rows) (group : Draw) : Type 0 where
   pub others : (name : Draw) (node : ℕ) (r : ReplicaState) (into : Route) → (name ≡ group → ⊥) → replicas_after scenario front name node ≡ Some r → r.group.core.gone ≡ Some into
       → (who : ℕ) × (s : ReplicaState) × (old : Route) × (replicas_after scenario quiet name who ≡ Some s) × (s.group.core.gone ≡ Some old)
-  pub stands : (node : ℕ) (r : ReplicaState) (into : Route) → replicas_after scenario front group node ≡ Some r → r.group.core.gone ≡ Some into → (who : ℕ) (s : ReplicaState) → replicas_after scenario front into.group who ≡ Some s → s.group.core.gone ≡ None
+  pub stands : (node : ℕ) (r : ReplicaState) (into : Route) → ((who : ℕ) (s : ReplicaState) → replicas_after scenario quiet group who ≡ Some s → s.group.core.gone ≡ None)
+      → replicas_after scenario front group node ≡ Some r → r.group.core.gone ≡ Some into → (who : ℕ) (s : ReplicaState) → replicas_after scenario front into.group who ≡ Some s → s.group.core.gone ≡ None
 
 -- So groups go one after another in a quiet front, where they did in an earlier one in which none was bound.
 abbrev pub FrontsGoInTurn : Type 0
 FrontsGoInTurn =
     (words : ℕ → ℕ → ℕ × ℕ) (scenario : Scenario) (journal quiet more : Rows) (turn : Draw → ℕ) (group : Draw) → IsQuietFront words scenario journal quiet → AreAllFree scenario quiet → IsQuietFront words scenario journal (quiet ++ more) → GoesAlone scenario quiet (quiet ++ more) group
+    → GoInTurn (names_at (births as_nodes scenario) quiet) (all_replicas (births as_nodes scenario) quiet) turn → (after : Draw → ℕ) × GoInTurn (names_at (births as_nodes scenario) (quiet ++ more)) (all_replicas (births as_nodes scenario) (quiet ++ more)) after
+
+-- Between two fronts none went.
+abbrev pub NoneGoes : Scenario → Rows → Rows → Type 0
+NoneGoes scenario quiet front = (name : Draw) (node : ℕ) (r : ReplicaState) (into : Route) → replicas_after scenario front name node ≡ Some r → r.group.core.gone ≡ Some into
+    → (who : ℕ) × (s : ReplicaState) × (old : Route) × (replicas_after scenario quiet name who ≡ Some s) × (s.group.core.gone ≡ Some old)
+
+-- So they go in turn where none did.
+abbrev pub FrontsStayInTurn : Type 0
+FrontsStayInTurn =
+    (words : ℕ → ℕ → ℕ × ℕ) (scenario : Scenario) (journal quiet more : Rows) (turn : Draw → ℕ) → IsQuietFront words scenario journal quiet → AreAllFree scenario quiet → IsQuietFront words scenario journal (quiet ++ more) → NoneGoes scenario quiet (quiet ++ more)
     → GoInTurn (names_at (births as_nodes scenario) quiet) (all_replicas (births as_nodes scenario) quiet) turn → (after : Draw → ℕ) × GoInTurn (names_at (births as_nodes scenario) (quiet ++ more)) (all_replicas (births as_nodes scenario) (quiet ++ more)) after

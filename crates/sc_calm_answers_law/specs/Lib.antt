@@ -5,6 +5,7 @@ pub mod Asking
 pub mod Bearing
 pub mod Begins
 pub mod Beside
+pub mod Borne
 pub mod Children
 pub mod Covered
 pub mod Deeds
@@ -21,14 +22,15 @@ pub mod Journal
 pub mod JournalUnder
 pub mod KeptFinding
 pub mod KeptRising
+pub mod KeptTelling
 pub mod Known
 pub mod KnownFronts
+pub mod KnownMembers
 pub mod KnownTurns
 pub mod Leader
 pub mod Lines
 pub mod Links
 pub mod Meeting
-pub mod Members
 pub mod Missed
 pub mod New
 pub mod Noted
@@ -36,6 +38,7 @@ pub mod Offered
 pub mod Ordered
 pub mod OrderedEntries
 pub mod Outcomes
+pub mod Over
 pub mod OverEnding
 pub mod OverJournals
 pub mod Recorded
@@ -52,8 +55,8 @@ pub mod SettingCounting
 pub mod Settings
 pub mod Settled
 pub mod Short
+pub mod Strangers
 pub mod Tasks
-pub mod Telling
 pub mod There
 pub mod Told
 pub mod TrueBeginning

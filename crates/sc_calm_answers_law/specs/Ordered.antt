@@ -1,5 +1,5 @@
 -- All that holds while an order is under way since a quiet front of a calm journal, and that each delivery keeps it.
-use Rattle.std.specs.Prelude.{◌≡◌, ℕ, true, false, [], ◌++◌, Option, Some}
+use Rattle.std.specs.Prelude.{◌≡◌, ℕ, ◌+◌, true, [], ◌++◌, Option, Some}
 use Rattle.sc_base.specs.Among.{Among, Each}
 use Rattle.sc_base.specs.declared.names.Draw.{Draw}
 use Rattle.sc_cmd.specs.declared.cores.Base.{Base}
@@ -7,43 +7,39 @@ use Rattle.sc_cmd.specs.declared.orders.OrderLine.{OrderLine}
 use Rattle.sc_mail.specs.declared.bodies.Mail.{Mail}
 use Rattle.sc_mail.specs.declared.bodies.MailBody.TheVariants.{TxElsewhere}
 use Rattle.sc_mail.specs.declared.roles.Role.TheVariants.{Client}
-use Rattle.sc_member.specs.Roster.{is_member}
 use Rattle.sc_actor.specs.declared.actors.Seat.{Seat}
 use Rattle.sc_actor.specs.declared.rows.Event.TheVariants.{Deliver, Told}
 use Rattle.sc_actor.specs.Mail.{mails}
 use Rattle.sc_actor.specs.Replay.{value}
 use Rattle.sc_client_table.specs.Client.{Client as ClientState}
-use Rattle.sc_orderly_law.specs.Orderly.{is_born, rest}
+use Rattle.sc_orderly_law.specs.Orderly.{is_born, orders, rest}
 use Rattle.sc_orderly_law.specs.Timely.{AreInTime}
 use Rattle.sc_scenario.specs.declared.scenarios.Scenario.{Scenario}
 use Rattle.sc_node_table.specs.Node.{NodeState, replica_of, group_of_mail}
-use Rattle.sc_node_table.specs.Replica.{ReplicaState, settled}
-use Rattle.sc_node_table.specs.Rows.{mailed}
+use Rattle.sc_node_table.specs.Replica.{ReplicaState}
 use Rattle.sc_sound.specs.GroupsOf.{groups_at}
 use Rattle.sc_sound.specs.Players.{Player, player_table, births, as_nodes}
 use Rattle.sc_calm_law.specs.Charts.{players}
 use Rattle.sc_calm_law.specs.Keeping.{FindsCalm}
 use Rattle.sc_calm_law.specs.Totals.{Rows}
-use Rattle.sc_calm_rows_law.specs.Groups.{marks_at}
 use Rattle.sc_calm_rows_law.specs.Turns.{IsSeat, with_event}
 use Rattle.sc_calm_scenes_law.specs.Quiet.{GoesToActor}
 use Rattle.sc_calm_scenes_law.specs.Taken.{IsTaking}
-use Rattle.sc_calm_answers_law.specs.Missed.{IsYoung}
 use Rattle.sc_calm_charts_law.specs.Charting.{chart_at}
 use Rattle.sc_calm_charts_law.specs.Fronts.{quiet_front}
 use Rattle.sc_budget_law.specs.AskingQuiet.{replicas_after, DoHintsRise}
+use Rattle.sc_calm_logs_law.specs.Logged.{logged_sets}
+use Rattle.sc_calm_led_law.specs.Tellers.{tellers_at}
+use Rattle.sc_calm_answers_law.specs.RiseRising.{IsRisingOn}
+use Rattle.sc_calm_answers_law.specs.RiseRounds.{IsRoundSince}
 use Rattle.sc_calm_answers_law.specs.Journal.{IsCalmJournal, IsFront, GoesOnBy}
 use Rattle.sc_calm_answers_law.specs.Resting.{RestsAt}
 use Rattle.sc_calm_answers_law.specs.JournalUnder.{IsUnder}
+use Rattle.sc_calm_answers_law.specs.Settled.{AreSettled}
 use Rattle.sc_calm_answers_law.specs.TrueUnder.{IsTrueSince}
+use Rattle.sc_calm_answers_law.specs.Borne.{AreBorneSo}
 use Rattle.sc_calm_answers_law.specs.Tasks.{Task}
 use Rattle.sc_calm_answers_law.specs.Works.{AreAtWork, IsTaskOf}
-
--- In all first rows of a journal neither an errand nor other mail of a group is for who is no player; and first members are players.
-pub record IsHomelyJournal (words : ℕ → ℕ → ℕ × ℕ) (scenario : Scenario) (journal : Rows) : Type 0 where
-  pub strangers : (rows : Rows) → IsFront journal rows → (name : Draw) (who : ℕ) → is_born (players words (births as_nodes scenario)) who ≡ false → marks_at (players words (births as_nodes scenario)) rows name who ≡ []
-  pub errands : (rows : Rows) → IsFront journal rows → Each (GoesToActor words (births as_nodes scenario)) (mails rows)
-  pub born : (base : Base) → Among base (groups_at as_nodes scenario.groups journal) → (who : ℕ) → is_member base.core.members who ≡ true → is_born (players words (births as_nodes scenario)) who ≡ true
 
 -- a group of the journal has this name
 abbrev pub IsNamedGroup : Scenario → Rows → Draw → Type 0
@@ -53,38 +49,41 @@ IsNamedGroup scenario journal name = (base : Base) × Among base (groups_at as_n
 abbrev pub IsOfJournal : Scenario → Rows → Mail → Type 0
 IsOfJournal scenario journal mail = (name : Draw) → group_of_mail mail.body ≡ Some name → IsNamedGroup scenario journal name
 
--- An order is under way since a quiet front that rests: what is known of its stage, of the groups that it has not touched, of its transaction, and of what stands at groups; and each mail under way is of a group of the journal.
+-- An order is under way since a quiet front that rests: what is known of its stage, of the groups that it has not touched, of those that left a group, of rounds, of its transaction, of its coordinator, of what stands at groups, and of the child that it makes; and each mail under way is of a group of the journal.
 pub record IsOrderedSince (words : ℕ → ℕ → ℕ × ℕ) (scenario : Scenario) (first : Base) (journal quiet rows : Rows) : Type 0 where
   pub behind : Rows
   pub rows_are : rows ≡ quiet ++ behind
+  pub one_order : orders rows ≡ orders quiet + 1
   pub under : IsUnder words scenario first journal quiet rows
+  pub rising : (base : Base) (among : Among base (groups_at as_nodes scenario.groups journal)) → IsRisingOn (logged_sets as_nodes base journal) (tellers_at as_nodes scenario base journal) words (births as_nodes scenario) rows base (under.sent base among).course
+  pub round : (base : Base) (among : Among base (groups_at as_nodes scenario.groups journal)) → IsRoundSince (under.rests.sent base among).course under.stage base.core.id (under.sent base among).course
   pub true_since : IsTrueSince scenario quiet rows under.stage
+  pub settled : AreSettled words scenario rows under.stage
   pub line : OrderLine
   pub task : Task
   pub is_task : IsTaskOf (births as_nodes scenario) quiet line task
   pub work : AreAtWork task words (births as_nodes scenario) rows
+  pub borne : AreBorneSo scenario journal quiet rows task
   pub known : (who : ℕ) → is_born (players words (births as_nodes scenario)) who ≡ true → Each (IsOfJournal scenario journal) (rest (players words (births as_nodes scenario)) rows who)
 
--- So it is from an order on that is told in a quiet front that rests, which finds what keeps the journal calm.
+-- So it is from an order on that is told in a quiet front that rests, where errands went to players, which finds what keeps the journal calm.
 abbrev pub OrdersBeginOrdered : Type 0
 OrdersBeginOrdered =
-    (words : ℕ → ℕ → ℕ × ℕ) (scenario : Scenario) (first : Base) (journal quiet : Rows) (seat : Seat Player) (line : OrderLine) → IsCalmJournal words scenario journal → IsHomelyJournal words scenario journal → RestsAt words scenario first journal quiet
+    (words : ℕ → ℕ → ℕ × ℕ) (scenario : Scenario) (first : Base) (journal quiet : Rows) (seat : Seat Player) (line : OrderLine) → IsCalmJournal words scenario journal → RestsAt words scenario first journal quiet → Each (GoesToActor words (births as_nodes scenario)) (mails quiet)
     → IsSeat (births as_nodes scenario) seat → IsFront journal (with_event quiet seat (Told line)) → AreInTime (players words (births as_nodes scenario)) (with_event quiet seat (Told line))
     → IsOrderedSince words scenario first journal quiet (with_event quiet seat (Told line))
     × ((far sent : ℕ) → FindsCalm (chart_at far sent (players words (births as_nodes scenario)) quiet) (births as_nodes scenario) quiet seat (Told line))
 
--- What is asked besides of a delivery: a node takes it; children that it makes are young; and a coordinator that is to ask elsewhere is told whom, and has its promises.
+-- What is asked besides of a delivery: a node takes it; and a coordinator that is to ask elsewhere is told whom.
 pub record IsGivenBesides (words : ℕ → ℕ → ℕ × ℕ) (scenario : Scenario) (rows : Rows) (seat : Seat Player) (number : ℕ) : Type 0 where
   pub nodes : (client : ClientState) → value player_table seat rows ≡ Client client → ⊥
-  pub children : (mail : Mail) (group : Draw) (node : NodeState) (r : ReplicaState) → IsTaking words (births as_nodes scenario) rows seat number mail group node → replica_of group node.replicas ≡ Some r
-      → Each (IsYoung words (births as_nodes scenario) rows seat) (mailed mail.from mail.body (r, [])).1
   pub elsewhere : (mail : Mail) (group : Draw) (node : NodeState) (r : ReplicaState) (tx coord : Draw) (hint : Option ℕ) → IsTaking words (births as_nodes scenario) rows seat number mail group node → replica_of group node.replicas ≡ Some r
-      → mail.body ≡ TxElsewhere tx coord hint → r.running ≡ true → (to : ℕ) × (hint ≡ Some to) × (settled r ≡ true)
+      → mail.body ≡ TxElsewhere tx coord hint → r.running ≡ true → (to : ℕ) × (hint ≡ Some to)
 
 -- Then all this holds after it, and it finds what keeps the journal calm, by the chart of the rows before it.
 abbrev pub DeliveriesKeepOrdered : Type 0
 DeliveriesKeepOrdered =
-    (words : ℕ → ℕ → ℕ × ℕ) (scenario : Scenario) (first : Base) (journal quiet rows : Rows) (seat : Seat Player) (number : ℕ) → IsCalmJournal words scenario journal → IsHomelyJournal words scenario journal
+    (words : ℕ → ℕ → ℕ × ℕ) (scenario : Scenario) (first : Base) (journal quiet rows : Rows) (seat : Seat Player) (number : ℕ) → IsCalmJournal words scenario journal
     → IsOrderedSince words scenario first journal quiet rows → GoesOnBy words scenario journal rows seat number → IsGivenBesides words scenario rows seat number
     → IsOrderedSince words scenario first journal quiet (with_event rows seat (Deliver number))
     × ((far sent : ℕ) → quiet_front (players words (births as_nodes scenario)) rows ≡ quiet → DoHintsRise (replicas_after scenario quiet) (chart_at far sent (players words (births as_nodes scenario)) rows).ways

@@ -8,31 +8,34 @@ use Rattle.sc_mail.specs.declared.roles.Role.TheVariants.{Client}
 use Rattle.sc_member.specs.Roster.{least_of}
 use Rattle.sc_actor.specs.Replay.{value}
 use Rattle.sc_actor.specs.System.{has_gone}
-use Rattle.sc_orderly_law.specs.Orderly.{orders, is_born}
+use Rattle.sc_orderly_law.specs.Orderly.{orders}
 use Rattle.sc_client_table.specs.Client.{Client as ClientState}
 use Rattle.sc_scenario.specs.declared.scenarios.Asks.{Asks}
 use Rattle.sc_scenario.specs.declared.scenarios.Scenario.{Scenario}
 use Rattle.sc_node_table.specs.Replica.{ReplicaState}
 use Rattle.sc_sound.specs.Players.{player_table, births, client_seat, route_of, as_nodes}
-use Rattle.sc_calm_law.specs.Charts.{players}
-use Rattle.sc_calm_law.specs.Quiet.{HasReplica, RisesAt, IsAnswered}
+use Rattle.sc_calm_law.specs.Quiet.{HasReplica, IsAnswered}
 use Rattle.sc_calm_law.specs.Totals.{Rows}
-use Rattle.sc_calm_rows_law.specs.Groups.{view_at, marks_at}
+use Rattle.sc_calm_rows_law.specs.Groups.{view_at}
 use Rattle.sc_calm_orders_law.specs.Stages.{Still, IsAt}
 use Rattle.sc_calm_scenes_law.specs.Scenes.{scene_at}
 use Rattle.sc_calm_charts_law.specs.Charting.{names_at, all_replicas}
 use Rattle.sc_calm_charts_law.specs.Ends.{GoInTurn}
 use Rattle.sc_budget_law.specs.AskingQuiet.{replicas_after}
 use Rattle.sc_calm_answers_law.specs.KnownFronts.{IsQuietFront}
+use Rattle.sc_sound.specs.GroupsOf.{groups_at}
+use Rattle.sc_calm_logs_law.specs.Logged.{logged_sets}
+use Rattle.sc_calm_led_law.specs.Tellers.{tellers_at}
+use Rattle.sc_calm_answers_law.specs.RiseRising.{IsRisingOn}
+use Rattle.sc_calm_answers_law.specs.Journal.{AreSent}
 use Rattle.sc_calm_answers_law.specs.Resting.{RestsAt}
 
--- No mail of a group is for who is no player; nothing of an order is left, and a replica that runs waits for nothing; hints rise, and rounds are few; a client that was told to go has all replies, and all others are as at their births; the scenario's first group has a replica where clients ask first; and groups went one after another.
-pub record EndsQuietly (words : ℕ → ℕ → ℕ × ℕ) (scenario : Scenario) (first : Base) (front : Rows) : Type 0 where
-  pub strangers : (name : Draw) (who : ℕ) → is_born (players words (births as_nodes scenario)) who ≡ false → marks_at (players words (births as_nodes scenario)) front name who ≡ []
+-- Nothing of an order is left, and a replica that runs waits for nothing; what becomes of those that left a group is as hints rise by, and rounds are few; a client that was told to go has all replies, and all others are as at their births; the scenario's first group has a replica where clients ask first; and groups went one after another.
+pub record EndsQuietly (words : ℕ → ℕ → ℕ × ℕ) (scenario : Scenario) (first : Base) (journal front : Rows) (sent : AreSent words scenario journal front) : Type 0 where
   pub still : IsAt Still (scene_at (births as_nodes scenario) front)
   pub done : (name : Draw) (node : ℕ) (r : ReplicaState) → view_at (births as_nodes scenario) front name node ≡ Some r → r.running ≡ true → (r.acts ≡ []) × (r.calls ≡ [])
-  pub rises : (name : Draw) (node : ℕ) (r : ReplicaState) → replicas_after scenario front name node ≡ Some r → r.running ≡ false → r.group.core.gone ≡ None → RisesAt (replicas_after scenario front) name r
-  pub rounds : (name : Draw) (node : ℕ) (r : ReplicaState) → view_at (births as_nodes scenario) front name node ≡ Some r → (1 ≤ r.top.round) × (r.top.round ≤ orders front + 1)
+  pub rounds : (name : Draw) (node : ℕ) (r : ReplicaState) → view_at (births as_nodes scenario) front name node ≡ Some r → r.top.round ≤ orders front + 1
+  pub rising : (base : Base) (among : Among base (groups_at as_nodes scenario.groups journal)) → IsRisingOn (logged_sets as_nodes base journal) (tellers_at as_nodes scenario base journal) words (births as_nodes scenario) front base (sent base among).course
   pub clients : List (Bool × ClientState)
   pub answered : Each (λ client. IsAnswered client.0 (route_of first) client.1) clients
   pub players : (asks : Asks) → Among asks scenario.clients → (client : ClientState) × (value player_table (client_seat (route_of first) asks) front ≡ Client client) × (client.me ≡ asks.client) × (client.requests ≡ asks.ops)
@@ -43,4 +46,4 @@ pub record EndsQuietly (words : ℕ → ℕ → ℕ × ℕ) (scenario : Scenario
 
 -- So such a front rests.
 abbrev pub QuietFrontsRest : Type 0
-QuietFrontsRest = (words : ℕ → ℕ → ℕ × ℕ) (scenario : Scenario) (first : Base) (journal front : Rows) → IsQuietFront words scenario journal front → EndsQuietly words scenario first front → RestsAt words scenario first journal front
+QuietFrontsRest = (words : ℕ → ℕ → ℕ × ℕ) (scenario : Scenario) (first : Base) (journal front : Rows) → (q : IsQuietFront words scenario journal front) → EndsQuietly words scenario first journal front q.sent → RestsAt words scenario first journal front

@@ -1,39 +1,44 @@
 -- That a quiet front of a calm journal rests, where its players are as a quiet journal asks it.
-use Rattle.std.specs.Prelude.{◌≡◌, ℕ, ◌+◌, ◌≤◌, false, List, [], ◌∷◌, ◌++◌, Some}
+use Rattle.std.specs.Prelude.{◌≡◌, ℕ, ◌+◌, ◌≤◌, List, ◌∷◌, ◌++◌, Some}
 use Rattle.sc_base.specs.Among.{Each}
 use Rattle.sc_base.specs.declared.names.Draw.{Draw}
 use Rattle.sc_cmd.specs.declared.cores.Base.{Base}
 use Rattle.sc_actor.specs.Mail.{mails}
-use Rattle.sc_orderly_law.specs.Orderly.{orders, is_born}
+use Rattle.sc_orderly_law.specs.Orderly.{orders}
 use Rattle.sc_scenario.specs.declared.scenarios.Scenario.{Scenario}
 use Rattle.sc_node_table.specs.Replica.{ReplicaState}
 use Rattle.sc_sound.specs.Players.{births, as_nodes}
-use Rattle.sc_calm_law.specs.Charts.{players}
 use Rattle.sc_calm_law.specs.Totals.{Rows}
-use Rattle.sc_calm_rows_law.specs.Groups.{view_at, marks_at}
+use Rattle.sc_calm_rows_law.specs.Groups.{view_at}
 use Rattle.sc_calm_scenes_law.specs.Quiet.{GoesToActor}
 use Rattle.sc_calm_charts_law.specs.Charting.{names_at, all_replicas}
 use Rattle.sc_calm_charts_law.specs.Ends.{GoInTurn}
 use Rattle.sc_budget_law.specs.AskingQuiet.{IsQuietJournal}
 use Rattle.sc_calm_answers_law.specs.KnownFronts.{IsQuietFront}
+use Rattle.sc_base.specs.Among.{Among}
+use Rattle.sc_sound.specs.GroupsOf.{groups_at}
+use Rattle.sc_calm_logs_law.specs.Logged.{logged_sets}
+use Rattle.sc_calm_led_law.specs.Tellers.{tellers_at}
+use Rattle.sc_calm_answers_law.specs.RiseRising.{IsRisingOn}
+use Rattle.sc_calm_answers_law.specs.Journal.{AreSent}
 use Rattle.sc_calm_answers_law.specs.Resting.{RestsAt}
 use Rattle.sc_calm_answers_law.specs.Requested.{IsKnownFront, IsRequested}
 
--- Neither errands nor other mail of groups are for who is no player, rounds are counted from 1 on, and no more were begun behind the first than orders told, and groups went one after another.
-pub record RestsBesides (words : ℕ → ℕ → ℕ × ℕ) (scenario : Scenario) (front : Rows) : Type 0 where
-  pub strangers : (name : Draw) (who : ℕ) → is_born (players words (births as_nodes scenario)) who ≡ false → marks_at (players words (births as_nodes scenario)) front name who ≡ []
+-- Errands went to players, no more rounds were begun behind the first than orders told, what becomes of those that left a group is as hints rise by, and groups went one after another.
+pub record RestsBesides (words : ℕ → ℕ → ℕ × ℕ) (scenario : Scenario) (journal front : Rows) (sent : AreSent words scenario journal front) : Type 0 where
   pub errands : Each (GoesToActor words (births as_nodes scenario)) (mails front)
-  pub rounds : (name : Draw) (node : ℕ) (r : ReplicaState) → view_at (births as_nodes scenario) front name node ≡ Some r → (1 ≤ r.top.round) × (r.top.round ≤ orders front + 1)
+  pub rounds : (name : Draw) (node : ℕ) (r : ReplicaState) → view_at (births as_nodes scenario) front name node ≡ Some r → r.top.round ≤ orders front + 1
+  pub rising : (base : Base) (among : Among base (groups_at as_nodes scenario.groups journal)) → IsRisingOn (logged_sets as_nodes base journal) (tellers_at as_nodes scenario base journal) words (births as_nodes scenario) front base (sent base among).course
   pub turn : Draw → ℕ
   pub turns : GoInTurn (names_at (births as_nodes scenario) front) (all_replicas (births as_nodes scenario) front) turn
 
 -- Then it rests.
 abbrev pub QuietJournalsRest : Type 0
 QuietJournalsRest =
-    (words : ℕ → ℕ → ℕ × ℕ) (scenario : Scenario) (first : Base) (journal front : Rows) → IsQuietFront words scenario journal front → IsQuietJournal words scenario first front → RestsBesides words scenario front → RestsAt words scenario first journal front
+    (words : ℕ → ℕ → ℕ × ℕ) (scenario : Scenario) (first : Base) (journal front : Rows) → (q : IsQuietFront words scenario journal front) → IsQuietJournal words scenario first front → RestsBesides words scenario journal front q.sent → RestsAt words scenario first journal front
 
 -- So does one since whose last quiet front clients asked alone.
 abbrev pub RequestsLeaveResting : Type 0
 RequestsLeaveResting =
     (words : ℕ → ℕ → ℕ × ℕ) (scenario : Scenario) (first : Base) (others : List Base) (far sent : ℕ) (journal quiet after : Rows) → scenario.groups ≡ first ∷ others → RestsAt words scenario first journal quiet → IsKnownFront words scenario journal quiet far
-    → IsRequested words scenario first far sent quiet after → IsQuietFront words scenario journal (quiet ++ after) → RestsBesides words scenario (quiet ++ after) → RestsAt words scenario first journal (quiet ++ after)
+    → IsRequested words scenario first far sent quiet after → (q : IsQuietFront words scenario journal (quiet ++ after)) → RestsBesides words scenario journal (quiet ++ after) q.sent → RestsAt words scenario first journal (quiet ++ after)

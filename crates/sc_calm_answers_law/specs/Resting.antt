@@ -23,9 +23,12 @@ use Rattle.sc_budget_law.specs.AskingQuiet.{IsQuietJournal, replicas_after}
 use Rattle.sc_calm_ring_law.specs.Cuts.{AreKnown}
 use Rattle.sc_calm_requests_law.specs.OneLog.{AllMayPump}
 use Rattle.sc_calm_answers_law.specs.Settings.{AreReachable}
+use Rattle.sc_calm_logs_law.specs.Logged.{logged_sets}
+use Rattle.sc_calm_led_law.specs.Tellers.{tellers_at}
+use Rattle.sc_calm_answers_law.specs.RiseRising.{IsRisingOn}
 use Rattle.sc_calm_answers_law.specs.Journal.{IsFront, AreSent}
 
--- The players are as a quiet journal asks it; all groups are well led, and the first members of each that is there have a replica; nothing of an order is left; links and routes name nodes that have replicas; rounds are counted from 1 on, and no more were begun behind the first than orders told; and groups went one after another.
+-- The players are as a quiet journal asks it; all groups are well led, and the first members of each that is there have a replica; nothing of an order is left; links and routes name nodes that have replicas; rounds are counted from 1 on, and no more were begun behind the first than orders told; what becomes of those that left a group is as hints rise by; and groups went one after another.
 pub record RestsAt (words : ℕ → ℕ → ℕ × ℕ) (scenario : Scenario) (first : Base) (journal quiet : Rows) : Type 0 where
   pub front : IsFront journal quiet
   pub calm : is_quiet (players words (births as_nodes scenario)) quiet ≡ true
@@ -38,5 +41,6 @@ pub record RestsAt (words : ℕ → ℕ → ℕ × ℕ) (scenario : Scenario) (f
   pub reach : AreReachable (replicas_after scenario quiet)
   pub pumps : AllMayPump (replicas_after scenario quiet)
   pub rounds : (name : Draw) (node : ℕ) (r : ReplicaState) → view_at (births as_nodes scenario) quiet name node ≡ Some r → (1 ≤ r.top.round) × (r.top.round ≤ orders quiet + 1)
+  pub rising : (base : Base) (among : Among base (groups_at as_nodes scenario.groups journal)) → IsRisingOn (logged_sets as_nodes base journal) (tellers_at as_nodes scenario base journal) words (births as_nodes scenario) quiet base (sent base among).course
   pub turn : Draw → ℕ
   pub turns : GoInTurn (names_at (births as_nodes scenario) quiet) (all_replicas (births as_nodes scenario) quiet) turn

@@ -37,8 +37,9 @@ AsksSeen births rows base (Promises node ballot) = Unit {0}
 abbrev pub RefusesSeen : List (Seat Player) → Rows → Base → Mail → Type 0
 RefusesSeen births rows base mail = (promised : Ballot) → mail.body ≡ Nack base.core.id promised → (mail.to ≡ promised.node) × IsSeen births rows base promised
 
--- each such ballot was seen by its node
+-- each such ballot was seen by its node, and the group's first by all
 pub record AreSeen (words : ℕ → ℕ → ℕ × ℕ) (births : List (Seat Player)) (rows : Rows) (base : Base) : Type 0 where
+  pub first : (who : ℕ) → IsAtLeast (top_in base (view_at births rows base.core.id who)) (first_ballot base.core)
   pub promised : (who : ℕ) → IsSeen births rows base (promise_in base (view_at births rows base.core.id who))
   pub asked : (who : ℕ) → Each (AsksSeen births rows base) (marks_at (players words births) rows base.core.id who)
   pub refused : Each (RefusesSeen births rows base) (mails rows)

@@ -1,4 +1,4 @@
--- Rounds are few: while an order is under way, each group begins one round more at most.
+-- Rounds are few: while an order is under way each group begins one round more at most, and else none.
 use Rattle.std.specs.Prelude.{◌≡◌, ℕ, ◌+◌, ◌≤◌, true, false, List, [], Some, ◌⊎◌}
 use Rattle.sc_base.specs.Among.{Among}
 use Rattle.sc_base.specs.declared.names.Ballot.{Ballot}
@@ -18,12 +18,20 @@ use Rattle.sc_calm_law.specs.Totals.{Rows}
 use Rattle.sc_following_law.specs.Following.{Course, Sets}
 use Rattle.sc_following_law.specs.Hints.{Tellers}
 use Rattle.sc_calm_orders_law.specs.Stages.{Deal, Stage, Still, Asks, leads_of, IsAt}
+use Rattle.sc_calm_orders_law.specs.Parts.{works}
+use Rattle.sc_actor.specs.declared.rows.Event.TheVariants.{Deliver, Told}
+use Rattle.sc_calm_scenes_law.specs.Fresh.{IsThere, AreUntouched}
+use Rattle.sc_calm_answers_law.specs.RiseRising.{IsRisingOn}
 use Rattle.sc_calm_rows_law.specs.Groups.{view_at, marks_at}
 use Rattle.sc_calm_rows_law.specs.Turns.{IsSeat, with_event}
 use Rattle.sc_calm_groups_law.specs.Led.{Ends}
 use Rattle.sc_calm_scenes_law.specs.Kept.{IsTelling, GoesBy}
 use Rattle.sc_calm_scenes_law.specs.Scenes.{scene_at}
 use Rattle.sc_calm_answers_law.specs.SentJournals.{IsSentThrough, IsSentStep}
+
+-- the first members of a group that is there have replicas
+abbrev pub HasMembers : List (Seat Player) → Rows → Base → Type 0
+HasMembers births rows base = IsThere births rows base.core.id → (node : ℕ) → is_member base.core.members node ≡ true → HasReplica (view_at births rows) base.core.id node
 
 -- at a stage something is to come to a group's leader
 abbrev pub MustLead : Stage → Draw → Type 0
@@ -40,16 +48,26 @@ pub record StaysGone (first : Ballot) (course : Course) : Type 0 where
   pub off : course.runs ≡ false
   pub gone : course.gone ≡ true
 
-abbrev pub KeepsRound : Ballot → Stage → Draw → Course → Type 0
-KeepsRound first stage name course = StaysGone first course ⊎ HasOneRound first stage name course
+-- Since a quiet front, by the course that the group had there.
+abbrev pub IsRoundSince : Course → Stage → Draw → Course → Type 0
+IsRoundSince quiet stage name course = (quiet.runs ≡ true → HasOneRound quiet.ballot stage name course) × (quiet.runs ≡ false → StaysGone quiet.ballot course)
 
--- So it is in quiet, where the one that leads runs or the group is gone ..
-abbrev pub QuietKeepsRound : Type 0
-QuietKeepsRound =
-    (words : ℕ → ℕ → ℕ × ℕ) (at : Sets) (over : Ends) (by : Tellers) (scenario : Scenario) (quiet : Rows) (base : Base) (t : IsSentThrough at over by words (births as_nodes scenario) quiet base)
-    → ((who : ℕ) → marks_at (players words (births as_nodes scenario)) quiet base.core.id who ≡ []) → KeepsRound t.course.ballot Still base.core.id t.course
+-- While an order is under way each group begins one round more at most ..
+pub record OrdersKeepRounds : Type 0 where
+  -- .. when the order is told in quiet
+  pub told : (words : ℕ → ℕ → ℕ × ℕ) (at : Sets) (over : Ends) (by : Tellers) (scenario : Scenario) (quiet : Rows) (seat : Seat Player) (line : OrderLine) (base : Base) (stage : Stage)
+      → AreInTime (players words (births as_nodes scenario)) (with_event quiet seat (Told line)) → IsSeat (births as_nodes scenario) seat
+      → (q : IsSentThrough at over by words (births as_nodes scenario) quiet base) → (s : IsSentStep at over by words (births as_nodes scenario) quiet seat (Told line) base q.course)
+      → ((who : ℕ) → marks_at (players words (births as_nodes scenario)) quiet base.core.id who ≡ []) → IsRoundSince q.course stage base.core.id s.through.course
+  -- .. and by each delivery, which leaves the stage or is a step to the next one, where groups that have no part in it are untouched
+  pub delivered : (words : ℕ → ℕ → ℕ × ℕ) (at : Sets) (over : Ends) (by : Tellers) (scenario : Scenario) (quiet rows : Rows) (seat : Seat Player) (number : ℕ) (base : Base) (stage later : Stage)
+      → AreInTime (players words (births as_nodes scenario)) (with_event rows seat (Deliver number)) → IsSeat (births as_nodes scenario) seat
+      → (q : IsSentThrough at over by words (births as_nodes scenario) quiet base) → (t : IsSentThrough at over by words (births as_nodes scenario) rows base) → (s : IsSentStep at over by words (births as_nodes scenario) rows seat (Deliver number) base t.course)
+      → HasMembers (births as_nodes scenario) quiet base → AreUntouched words (births as_nodes scenario) quiet rows stage → (later ≡ stage) ⊎ GoesBy rows (Deliver number) stage later
+      → IsRoundSince q.course stage base.core.id t.course → IsRoundSince q.course later base.core.id s.through.course
+  pub few : (quiet : Course) (stage : Stage) (name : Draw) (course : Course) → IsRoundSince quiet stage name course → course.ballot.round ≤ quiet.ballot.round + 1
 
--- .. and after one row more, at the stage that stands then; where an order is told, and where a group takes a question, that ballot leads
+-- .. by any row where nothing is told, or where its ballot leads
 abbrev pub RowsKeepRound : Type 0
 RowsKeepRound =
     (words : ℕ → ℕ → ℕ × ℕ) (at : Sets) (over : Ends) (by : Tellers) (scenario : Scenario) (rows : Rows) (seat : Seat Player) (event : Event OrderLine) (base : Base) (first : Ballot) (stage later : Stage)
@@ -57,19 +75,34 @@ RowsKeepRound =
     → (t : IsSentThrough at over by words (births as_nodes scenario) rows base) → (s : IsSentStep at over by words (births as_nodes scenario) rows seat event base t.course)
     → IsAt stage (scene_at (births as_nodes scenario) rows) → (later ≡ stage) ⊎ GoesBy rows event stage later
     → (IsTelling event → t.course.ballot ≡ first) → ((deal : Deal) (to : ℕ) → stage ≡ Asks deal to → deal.asked ≡ base.core.id → (t.course.ballot ≡ first) × (t.course.runs ≡ true))
-    → KeepsRound first stage base.core.id t.course → KeepsRound first later base.core.id s.through.course
+    → HasOneRound first stage base.core.id t.course → HasOneRound first later base.core.id s.through.course
+
+-- Since a quiet front the same ballot leads, or the group is gone.
+abbrev pub IsBallotSince : Course → Course → Type 0
+IsBallotSince quiet course = (quiet.runs ≡ true → (course.ballot ≡ quiet.ballot) × (course.runs ≡ true)) × (quiet.runs ≡ false → StaysGone quiet.ballot course)
+
+-- While no order is under way each group keeps its ballot: it has it in quiet, and after each row before which nothing of an order stood at a leader at the node of the row; and nothing stands where the scene is still.
+pub record RequestsKeepBallots : Type 0 where
+  pub begins : (words : ℕ → ℕ → ℕ × ℕ) (at : Sets) (over : Ends) (by : Tellers) (scenario : Scenario) (quiet : Rows) (base : Base) (q : IsSentThrough at over by words (births as_nodes scenario) quiet base)
+      → ((who : ℕ) → marks_at (players words (births as_nodes scenario)) quiet base.core.id who ≡ []) → IsBallotSince q.course q.course
+  pub goes_on : (words : ℕ → ℕ → ℕ × ℕ) (at : Sets) (over : Ends) (by : Tellers) (scenario : Scenario) (rows : Rows) (seat : Seat Player) (event : Event OrderLine) (base : Base) (quiet : Course)
+      → AreInTime (players words (births as_nodes scenario)) (with_event rows seat event) → IsSeat (births as_nodes scenario) seat
+      → (t : IsSentThrough at over by words (births as_nodes scenario) rows base) → (s : IsSentStep at over by words (births as_nodes scenario) rows seat event base t.course)
+      → ((r : ReplicaState) → view_at (births as_nodes scenario) rows base.core.id seat.who ≡ Some r → r.running ≡ true → works r ≡ []) → IsBallotSince quiet t.course → IsBallotSince quiet s.through.course
+  pub still : (words : ℕ → ℕ → ℕ × ℕ) (at : Sets) (over : Ends) (by : Tellers) (scenario : Scenario) (rows : Rows) (base : Base) → IsSentThrough at over by words (births as_nodes scenario) rows base → IsAt Still (scene_at (births as_nodes scenario) rows)
+      → (seat : Seat Player) → IsSeat (births as_nodes scenario) seat → (r : ReplicaState) → view_at (births as_nodes scenario) rows base.core.id seat.who ≡ Some r → r.running ≡ true → works r ≡ []
 
 -- A group whose replicas are as they were in quiet has the ballot that it had, where one leads.
 abbrev pub SameViewsKeepBallot : Type 0
 SameViewsKeepBallot =
     (words : ℕ → ℕ → ℕ × ℕ) (at : Sets) (over : Ends) (by : Tellers) (scenario : Scenario) (quiet rows : Rows) (base : Base) (t : IsSentThrough at over by words (births as_nodes scenario) quiet base) (u : IsSentThrough at over by words (births as_nodes scenario) rows base)
-    → ((node : ℕ) → is_member base.core.members node ≡ true → HasReplica (view_at (births as_nodes scenario) quiet) base.core.id node)
-    → ((who : ℕ) → view_at (births as_nodes scenario) rows base.core.id who ≡ view_at (births as_nodes scenario) quiet base.core.id who) → t.course.runs ≡ true → (u.course.ballot ≡ t.course.ballot) × (u.course.runs ≡ true)
+    → HasMembers (births as_nodes scenario) quiet base → IsThere (births as_nodes scenario) quiet base.core.id → ((who : ℕ) → view_at (births as_nodes scenario) rows base.core.id who ≡ view_at (births as_nodes scenario) quiet base.core.id who) → t.course.runs ≡ true → (u.course.ballot ≡ t.course.ballot) × (u.course.runs ≡ true)
 
--- No replica saw a later round than its group's ballot has; and in quiet one that has its replicas saw that.
+-- No replica saw a later round than its group's ballot has, and each saw the first; and in quiet a group's ballot has no later round than its replicas saw.
 pub record RoundsAreSeen : Type 0 where
   pub most : (at : Sets) (over : Ends) (by : Tellers) (words : ℕ → ℕ → ℕ × ℕ) (births : List (Seat Player)) (rows : Rows) (base : Base) (t : IsSentThrough at over by words births rows base) (node : ℕ) (r : ReplicaState) → view_at births rows base.core.id node ≡ Some r
       → r.top.round ≤ t.course.ballot.round
-  pub some : (words : ℕ → ℕ → ℕ × ℕ) (at : Sets) (over : Ends) (by : Tellers) (scenario : Scenario) (quiet : Rows) (base : Base) (t : IsSentThrough at over by words (births as_nodes scenario) quiet base)
-      → ((who : ℕ) → marks_at (players words (births as_nodes scenario)) quiet base.core.id who ≡ []) → ((node : ℕ) → is_member base.core.members node ≡ true → HasReplica (view_at (births as_nodes scenario) quiet) base.core.id node)
-      → (node : ℕ) × (r : ReplicaState) × (view_at (births as_nodes scenario) quiet base.core.id node ≡ Some r) × (t.course.ballot.round ≤ r.top.round)
+  pub least : (at : Sets) (by : Tellers) (words : ℕ → ℕ → ℕ × ℕ) (births : List (Seat Player)) (rows : Rows) (base : Base) (course : Course) → IsRisingOn at by words births rows base course → (node : ℕ) (r : ReplicaState) → view_at births rows base.core.id node ≡ Some r → 1 ≤ r.top.round
+  pub quiet : (words : ℕ → ℕ → ℕ × ℕ) (at : Sets) (over : Ends) (by : Tellers) (scenario : Scenario) (quiet : Rows) (base : Base) (q : IsSentThrough at over by words (births as_nodes scenario) quiet base)
+      → ((who : ℕ) → marks_at (players words (births as_nodes scenario)) quiet base.core.id who ≡ []) → HasMembers (births as_nodes scenario) quiet base
+      → (most : ℕ) → 1 ≤ most → ((node : ℕ) (r : ReplicaState) → view_at (births as_nodes scenario) quiet base.core.id node ≡ Some r → r.top.round ≤ most) → q.course.ballot.round ≤ most

@@ -3,7 +3,7 @@ ghost use Rattle.sc_calm_answers_law.specs.Asking.{StagesAsk};
 ghost use Rattle.sc_calm_answers_law.specs.Following.{OrderChartsFollow};
 ghost use Rattle.sc_calm_answers_law.specs.KeptFinding.{OrderRowsFindCalm};
 ghost use Rattle.sc_calm_answers_law.specs.KeptRising.{ChartHintsRise};
-ghost use Rattle.sc_calm_answers_law.specs.Telling.{ToldOrdersFindCalm};
+ghost use Rattle.sc_calm_answers_law.specs.KeptTelling.{ToldOrdersFindCalm};
 ghost use Rattle.sc_calm_answers_law.specs.Viewing.{ViewsAgree};
 
 use crate::finding_laws::{journal_mail_finds, mail_is_for_its_node, stray_mail_finds};

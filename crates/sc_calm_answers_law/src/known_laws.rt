@@ -16,11 +16,12 @@ ghost use Rattle.sc_calm_answers_law.specs.KnownFronts.{
   QuietFrontsHaveGroups,
   QuietLogsAreExecuted,
 };
-ghost use Rattle.sc_calm_answers_law.specs.KnownTurns.{FrontsGoInTurn, TurnsGoOn};
+ghost use Rattle.sc_calm_answers_law.specs.KnownMembers.{MembersAreHome};
+ghost use Rattle.sc_calm_answers_law.specs.KnownTurns.{FrontsGoInTurn, FrontsStayInTurn, TurnsGoOn};
 ghost use Rattle.sc_calm_answers_law.specs.Links.{LinksWereMembers};
-ghost use Rattle.sc_calm_answers_law.specs.Members.{MembersAreHome};
 ghost use Rattle.sc_calm_answers_law.specs.Noted.{FrontsAreNoted, IssuedAreBegun};
 ghost use Rattle.sc_calm_answers_law.specs.Offered.{GroupsAreAskedThrough};
+ghost use Rattle.sc_calm_answers_law.specs.Strangers.{NoMailForStrangers};
 ghost use Rattle.sc_calm_answers_law.specs.There.{
   ChildrenAreMade,
   FrontsAreThere,
@@ -87,6 +88,7 @@ pub fn quiet_fronts_have_groups()
     groups_begin_taught();
     groups_are_asked_through();
     fronts_have_members();
+    no_mail_for_strangers();
 }
 
 /// And all that was decided is executed.
@@ -98,6 +100,7 @@ pub fn quiet_logs_are_executed()
     groups_are_asked_through();
     fronts_are_found();
     fronts_have_members();
+    no_mail_for_strangers();
 }
 
 /// Replicas of one group that are gone know the same route in a quiet front.
@@ -252,6 +255,7 @@ pub fn fronts_are_there()
     groups_are_asked_through();
     fronts_are_found();
     children_are_made();
+    no_mail_for_strangers();
 }
 
 /// And what has a replica then has one at each of its first members.
@@ -267,6 +271,7 @@ pub fn fronts_have_members()
     groups_are_asked_through();
     fronts_are_found();
     children_are_made();
+    no_mail_for_strangers();
 }
 
 /// The members of each slot of each group are nodes of the scenario.
@@ -277,4 +282,19 @@ pub fn members_are_home()
     valid_scenarios_begin_well();
     orders_are_allowed();
     names_have_one_owner();
+}
+
+/// So no mail of any group goes to who is no actor, where all groups are well led.
+pub fn no_mail_for_strangers()
+    ensures { NoMailForStrangers }
+{
+    fronts_are_found();
+    members_are_home();
+}
+
+/// And so they do where none went.
+pub fn fronts_stay_in_turn()
+    ensures { FrontsStayInTurn }
+{
+    fronts_go_in_turn();
 }

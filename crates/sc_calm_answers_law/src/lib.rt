@@ -31,7 +31,7 @@ pub use found_laws::{
 
 mod front_laws;
 
-pub use front_laws::journals_begin_resting;
+pub use front_laws::{journals_begin_resting, orders_leave_resting};
 
 mod journal_laws;
 
@@ -50,9 +50,9 @@ pub use known_laws::{
     children_are_made, entries_bear_children, free_groups_have_arcs, fronts_are_found,
     fronts_are_known, fronts_are_linked, fronts_are_noted, fronts_are_reachable,
     fronts_are_taken_in, fronts_are_there, fronts_go_in_turn, fronts_gone_agree,
-    fronts_have_members, groups_are_asked_through, issued_are_begun, links_were_members,
-    members_are_home, quiet_courses_end, quiet_fronts_have_groups, quiet_logs_are_executed,
-    still_fronts_are_free, turns_go_on,
+    fronts_have_members, fronts_stay_in_turn, groups_are_asked_through, issued_are_begun,
+    links_were_members, members_are_home, no_mail_for_strangers, quiet_courses_end,
+    quiet_fronts_have_groups, quiet_logs_are_executed, still_fronts_are_free, turns_go_on,
 };
 
 mod ordered_laws;
@@ -73,8 +73,8 @@ pub use rest_laws::{
 mod rise_laws;
 
 pub use rise_laws::{
-    groups_begin_rising, next_rows_rise, quiet_hints_rise, quiet_keeps_round, rounds_are_seen,
-    rows_keep_round, same_views_keep_ballot,
+    groups_begin_rising, next_rows_rise, orders_keep_rounds, quiet_hints_rise,
+    requests_keep_ballots, rounds_are_seen, rows_keep_round, same_views_keep_ballot,
 };
 
 mod sent_laws;
@@ -103,4 +103,6 @@ pub use work_laws::{deliveries_keep_work, orders_begin_work, work_stands_alone};
 
 mod young_laws;
 
-pub use young_laws::{children_were_nowhere, groups_are_quiet_while_young, young_groups_stay};
+pub use young_laws::{
+    children_are_borne, children_were_nowhere, groups_are_quiet_while_young, young_groups_stay,
+};

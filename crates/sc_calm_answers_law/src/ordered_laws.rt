@@ -5,14 +5,16 @@ ghost use Rattle.sc_calm_answers_law.specs.OrderedEntries.{FlightsAreEntries};
 
 use crate::found_laws::{newest_stay, orders_rows_find, orders_rows_meet, well_led_lead_alone};
 use crate::kept_laws::{order_rows_find_calm, told_orders_find_calm, views_agree};
-use crate::known_laws::fronts_are_found;
+use crate::known_laws::{fronts_are_found, no_mail_for_strangers};
+use crate::rise_laws::{next_rows_rise, orders_keep_rounds};
 use crate::sent_laws::{next_rows_are_sent, sent_replicas};
 use crate::true_laws::{
-    asked_groups_stood, entries_are_true, mail_comes_unsettled, records_are_true, replicas_tell,
-    true_orders_begin, true_orders_go_on,
+    asked_groups_stood, coordinators_are_settled, entries_are_true, mail_comes_unsettled,
+    records_are_true, replicas_tell, settled_orders_begin, settled_orders_go_on, true_orders_begin,
+    true_orders_go_on,
 };
 use crate::work_laws::{deliveries_keep_work, orders_begin_work, work_stands_alone};
-use crate::young_laws::{children_were_nowhere, young_groups_stay};
+use crate::young_laws::{children_are_borne, children_were_nowhere, young_groups_stay};
 use sc_calm_led_law::replicas_run_logs;
 use sc_calm_logs_law::{slots_have_rosters, views_are_replicas};
 use sc_calm_mail_law::{mail_may_come, replicas_last, slots_are_left};
@@ -35,12 +37,16 @@ pub fn deliveries_keep_ordered()
     next_rows_are_sent();
     newest_stay();
     fronts_are_found();
+    no_mail_for_strangers();
     views_agree();
     well_led_lead_alone();
     sent_replicas();
     orders_rows_meet();
     orders_rows_find();
+    next_rows_rise();
+    orders_keep_rounds();
     children_were_nowhere();
+    children_are_borne();
     fresh_groups_stay();
     young_groups_stay();
     mail_comes_unsettled();
@@ -49,6 +55,8 @@ pub fn deliveries_keep_ordered()
     deliveries_keep_work();
     work_stands_alone();
     order_rows_find_calm();
+    settled_orders_go_on();
+    coordinators_are_settled();
     entries_are_true();
     flights_are_entries();
     mail_may_come();
@@ -68,13 +76,18 @@ pub fn orders_begin_ordered()
     next_rows_are_sent();
     newest_stay();
     fronts_are_found();
+    no_mail_for_strangers();
     views_agree();
     sent_replicas();
     orders_rows_find();
     fresh_groups_stay();
     young_groups_stay();
     true_orders_begin();
+    settled_orders_begin();
     orders_begin_work();
+    children_are_borne();
+    next_rows_rise();
+    orders_keep_rounds();
     work_stands_alone();
     told_orders_find_calm();
 }

@@ -5,12 +5,13 @@ ghost use Rattle.sc_calm_answers_law.specs.OverJournals.{QuietJournalsRest, Requ
 use crate::kept_laws::chart_hints_rise;
 use crate::known_laws::{
     fronts_are_found, fronts_are_known, fronts_are_linked, fronts_are_noted, fronts_are_reachable,
-    fronts_are_taken_in, fronts_are_there, fronts_have_members, quiet_fronts_have_groups,
-    quiet_logs_are_executed, still_fronts_are_free,
+    fronts_are_taken_in, fronts_are_there, fronts_have_members, no_mail_for_strangers,
+    quiet_fronts_have_groups, quiet_logs_are_executed, still_fronts_are_free,
 };
 use crate::rest_laws::{
     quiet_groups_are_gone, quiet_groups_stand, quiet_replicas_are_kept, quiet_replicas_rest,
 };
+use crate::rise_laws::{quiet_hints_rise, rounds_are_seen};
 use crate::sent_laws::sent_replicas;
 use crate::setting_laws::{quiet_journals_have_frames, quiet_settings_are_linked};
 use sc_budget_law::quiet_journals_ask;
@@ -43,6 +44,9 @@ pub fn quiet_fronts_rest()
     fronts_are_there();
     fronts_have_members();
     fronts_are_noted();
+    no_mail_for_strangers();
+    quiet_hints_rise();
+    rounds_are_seen();
 }
 
 /// So does one whose players are as a quiet journal asks it.

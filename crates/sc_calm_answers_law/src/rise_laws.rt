@@ -1,13 +1,14 @@
-//! That hints rise in quiet fronts of a calm journal: what is kept of each group row by row, and
-//! what follows of it in quiet. Definitions and laws, no logic.
+//! That hints rise in quiet fronts of a calm journal, and that rounds are few: what is kept of each
+//! group row by row, and what follows of it in quiet. Definitions and laws, no logic.
 ghost use Rattle.sc_calm_answers_law.specs.Hinting.{
   GroupsBeginRising,
   NextRowsRise,
   QuietHintsRise,
 };
 ghost use Rattle.sc_calm_answers_law.specs.RiseRounds.{
-  QuietKeepsRound,
   RowsKeepRound,
+  OrdersKeepRounds,
+  RequestsKeepBallots,
   SameViewsKeepBallot,
   RoundsAreSeen,
 };
@@ -39,16 +40,26 @@ pub fn quiet_hints_rise()
     ensures { QuietHintsRise }
 {}
 
-/// In quiet nothing is to come to a leader: one leads with the ballot that the group has, or the
-/// group is gone.
-pub fn quiet_keeps_round()
-    ensures { QuietKeepsRound }
-{}
-
-/// While an order is under way a group begins one round more at most: its leader stops by an act
+/// By each row a group begins one round more at most since a quiet front: its leader stops by an act
 /// alone, which ends the group's part in the order.
 pub fn rows_keep_round()
     ensures { RowsKeepRound }
+{
+    journals_keep_idle();
+    scenarios_are_well_born();
+}
+
+/// So while an order is under way, which is told in quiet.
+pub fn orders_keep_rounds()
+    ensures { OrdersKeepRounds }
+{
+    journals_keep_idle();
+    scenarios_are_well_born();
+}
+
+/// While no order is under way each group keeps its ballot.
+pub fn requests_keep_ballots()
+    ensures { RequestsKeepBallots }
 {
     journals_keep_idle();
     scenarios_are_well_born();
@@ -59,7 +70,8 @@ pub fn same_views_keep_ballot()
     ensures { SameViewsKeepBallot }
 {}
 
-/// No replica saw a later round than its group's ballot has, and in quiet one saw that.
+/// No replica saw a later round than its group's ballot has, and each saw the first; and in quiet a
+/// group's ballot has no later round than its replicas saw.
 pub fn rounds_are_seen()
     ensures { RoundsAreSeen }
 {}

@@ -1,4 +1,4 @@
-use Rattle.sc_calm_answers_law.proofs.Telling.{told_orders}
+use Rattle.sc_calm_answers_law.proofs.KeptTelling.{told_orders}
 use Rattle.sc_calm_answers_law.proofs.kept_laws.told_orders_find_calm.Goals as goal
 
 pub returns : goal.returns

@@ -1,4 +1,4 @@
-use Rattle.sc_calm_answers_law.proofs.Members.{members_are_home}
+use Rattle.sc_calm_answers_law.proofs.KnownMembers.{members_are_home}
 use Rattle.sc_calm_answers_law.proofs.known_laws.members_are_home.Goals as goal
 
 pub returns : goal.returns

@@ -1,4 +1,4 @@
-use Rattle.sc_calm_answers_law.proofs.Stands.{quiet_groups_stand}
+use Rattle.sc_calm_answers_law.proofs.RestStands.{quiet_groups_stand}
 use Rattle.sc_calm_answers_law.proofs.rest_laws.quiet_groups_stand.Goals as goal
 
 pub returns : goal.returns

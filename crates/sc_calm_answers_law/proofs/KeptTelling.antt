@@ -40,7 +40,7 @@ use Rattle.sc_budget_law.specs.AskingQuiet.{replicas_after}
 use Rattle.sc_calm_answers_law.specs.Settings.{AreAtNodes}
 use Rattle.sc_calm_answers_law.specs.Journal.{IsCalmJournal}
 use Rattle.sc_calm_answers_law.specs.Resting.{RestsAt}
-use Rattle.sc_calm_answers_law.specs.Telling.{ToldOrdersFindCalm}
+use Rattle.sc_calm_answers_law.specs.KeptTelling.{ToldOrdersFindCalm}
 use Rattle.sc_calm_answers_law.specs.Viewing.{ViewsAgree}
 use Rattle.sc_calm_answers_law.proofs.Delivering.{led_there, named_so, gone_leads}
 

@@ -19,7 +19,7 @@ use Rattle.sc_whole_law.specs.Orders.{OrdersAreAllowed}
 use Rattle.sc_whole_law.specs.StartLaws.{ValidScenariosBeginWell}
 use Rattle.sc_whole_law.proofs.Scheduled.{orders_allowed}
 use Rattle.sc_calm_logs_law.specs.Logged.{logged_sets, IsGroupOf}
-use Rattle.sc_calm_answers_law.specs.Members.{MembersAreHome}
+use Rattle.sc_calm_answers_law.specs.KnownMembers.{MembersAreHome}
 use Rattle.sc_calm_answers_law.proofs.HomeNodes.{BringsNodes, HasNodes, slots_have_nodes}
 use Rattle.sc_calm_answers_law.proofs.HomeBringing.{begins_nodes, brings_nodes}
 

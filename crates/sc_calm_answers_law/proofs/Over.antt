@@ -1,0 +1,123 @@
+-- A calm journal rests again once an order is over and it is quiet.
+use Rattle.std.proofs.Common.{◌≡◌, ℕ, ◌+◌, ◌≤◌, true, false, List, [], ◌++◌, Option, Some, None, inl, inr, refl, sym, ◌∙◌, ap, subst, arith}
+use Rattle.std.proofs.lemmas.Bool.{cases_Bool}
+use Rattle.sc_base.specs.Among.{Among, Each}
+use Rattle.sc_base.specs.declared.names.Draw.{Draw}
+use Rattle.sc_cmd.specs.declared.cores.Base.{Base}
+use Rattle.sc_cmd.specs.declared.orders.OrderLine.{OrderLine}
+use Rattle.sc_mail.specs.declared.bodies.Mail.{Mail}
+use Rattle.sc_actor.specs.declared.actors.Seat.{Seat}
+use Rattle.sc_actor.specs.System.{System}
+use Rattle.sc_actor.specs.Walk.{is_quiet}
+use Rattle.sc_orderly_law.specs.Orderly.{is_born, orders, rest}
+use Rattle.sc_orderly_law.specs.Timely.{AreInTime}
+use Rattle.sc_orderly_law.proofs.InTime.{in_time_tidy}
+use Rattle.sc_orderly_law.proofs.Resting.{quiet-empty}
+use Rattle.sc_scenario.specs.declared.scenarios.Scenario.{Scenario}
+use Rattle.sc_node_table.specs.Replica.{ReplicaState, next, last_slot}
+use Rattle.sc_sound.specs.GroupsOf.{groups_at}
+use Rattle.sc_sound.specs.Players.{Player, births, as_nodes}
+use Rattle.sc_following_law.specs.Following.{marks_of}
+use Rattle.sc_calm_law.specs.Charts.{players}
+use Rattle.sc_calm_law.specs.Totals.{Rows}
+use Rattle.sc_calm_orders_law.specs.Parts.{works_in}
+use Rattle.sc_calm_orders_law.specs.Stages.{Still, IsAt}
+use Rattle.sc_calm_rows_law.specs.Groups.{view_at, marks_at}
+use Rattle.sc_calm_mail_law.specs.Few.{SlotsAreLeft}
+use Rattle.sc_calm_groups_law.specs.Kept.{ScenariosAreKeptBorn}
+use Rattle.sc_calm_logs_law.specs.Logged.{IsGroupOf, SlotsHaveRosters, logged_sets}
+use Rattle.sc_calm_led_law.specs.Led.{over_at}
+use Rattle.sc_calm_led_law.specs.Tellers.{tellers_at}
+use Rattle.sc_calm_scenes_law.specs.Fresh.{IsThere}
+use Rattle.sc_calm_scenes_law.specs.Quiet.{HasNothing, QuietScenesAreOver}
+use Rattle.sc_calm_scenes_law.specs.Scenes.{scene_at}
+use Rattle.sc_calm_answers_law.specs.Guided.{QuietLeadersHaveNothing}
+use Rattle.sc_calm_answers_law.specs.RiseRounds.{OrdersKeepRounds, RoundsAreSeen}
+use Rattle.sc_calm_answers_law.specs.KnownFronts.{IsQuietFront, FrontsAreFound}
+use Rattle.sc_calm_answers_law.specs.Strangers.{NoMailForStrangers}
+use Rattle.sc_calm_answers_law.specs.Journal.{IsCalmJournal, IsFront}
+use Rattle.sc_calm_answers_law.specs.Resting.{RestsAt}
+use Rattle.sc_calm_answers_law.specs.JournalUnder.{IsUnder}
+use Rattle.sc_calm_answers_law.proofs.BetweenRequests.{front_timely, front_short}
+use Rattle.sc_calm_answers_law.specs.OverEnding.{QuietFrontsRest}
+use Rattle.sc_calm_answers_law.specs.Ordered.{IsNamedGroup, IsOrderedSince}
+use Rattle.sc_calm_answers_law.proofs.OrderedKnown.{named_there}
+use Rattle.sc_calm_answers_law.specs.Over.{IsOverBesides, OrdersLeaveResting}
+
+module _ (few_law : SlotsAreLeft) (born_law : ScenariosAreKeptBorn) (rosters_law : SlotsHaveRosters) (over_law : QuietScenesAreOver) (nothing_law : QuietLeadersHaveNothing) (rounds_law : OrdersKeepRounds) (seen_law : RoundsAreSeen) (found_law : FrontsAreFound) (no_law : NoMailForStrangers) (rest_law : QuietFrontsRest)
+    (words : ℕ → ℕ → ℕ × ℕ) (scenario : Scenario) (first : Base) (journal quiet rows : Rows) (calm : IsCalmJournal words scenario journal) (o : IsOrderedSince words scenario first journal quiet rows) (still : is_quiet (players words (births as_nodes scenario)) rows ≡ true)
+    (besides : IsOverBesides words scenario first rows) where
+  abbrev all : List (Seat Player)
+  all = births as_nodes scenario
+
+  abbrev s : System Player Mail OrderLine
+  s = players words (births as_nodes scenario)
+
+  abbrev under : IsUnder words scenario first journal quiet rows
+  under = o.under
+
+  timely : AreInTime s rows
+  timely = front_timely words scenario journal rows calm under.front
+
+  named : (name : Draw) → IsThere all rows name → IsNamedGroup scenario journal name
+  named = named_there found_law words scenario journal rows calm under.front
+
+  group : (base : Base) → Among base (groups_at as_nodes scenario.groups journal) → IsGroupOf as_nodes words scenario journal base
+  group base among = record { open_slots = refl; valid = calm.valid; lawful = calm.lawful; stands = among }
+
+  -- nothing is left at a leader
+  nothing : (name : Draw) (node : ℕ) (r : ReplicaState) → view_at all rows name node ≡ Some r → r.running ≡ true → HasNothing r
+  nothing name node r e runs =
+      let g = named name (node, r, e) in
+      let t = under.sent g.0 g.1 in
+      let here : view_at all rows g.0.core.id node ≡ Some r = ap (λ n. view_at all rows n node) g.2 ∙ e in
+      let left = few_law words scenario rows name node r timely (front_short words scenario journal rows calm under.front) e in
+      let low = left.0 in
+      nothing_law (logged_sets as_nodes g.0 journal) (over_at as_nodes g.0 journal) (tellers_at as_nodes scenario g.0 journal) words all rows g.0 t.course node r (born_law scenario) (rosters_law.rosters as_nodes words scenario journal g.0 (group g.0 g.1)) timely still
+      (no_law.strangers words scenario journal rows calm under.front under.sent g.0.core.id) t.led here runs (omega (arith, low))
+      (λ none. (ap works_in (besides.waits name node r e runs none), ap works_in (o.work.replicas name node r e).calls))
+
+  over : IsAt Still (scene_at all rows)
+  over = (over_law.over words all rows timely still besides.errands nothing (under.stage, under.untouched.stands)).0
+
+  -- no mail is under way
+  none_quiet : (name : Draw) (who : ℕ) → marks_at s quiet name who ≡ []
+  none_quiet name who = elim (cases_Bool (is_born s who)) [
+    | inl t ↦ ap (marks_of name) (quiet-empty s quiet who (in_time_tidy s quiet (front_timely words scenario journal quiet calm under.rests.front)) t under.rests.calm)
+    | inr f ↦ no_law.strangers words scenario journal quiet calm under.rests.front under.rests.sent name who f
+  ]
+
+  -- rounds are few
+  few_rounds : (name : Draw) (node : ℕ) (r : ReplicaState) → view_at all rows name node ≡ Some r → r.top.round ≤ orders rows + 1
+  few_rounds name node r e =
+      let g = named name (node, r, e) in
+      let here : view_at all rows g.0.core.id node ≡ Some r = ap (λ n. view_at all rows n node) g.2 ∙ e in
+      let q = under.rests.sent g.0 g.1 in
+      let t = under.sent g.0 g.1 in
+      let top = seen_law.most (logged_sets as_nodes g.0 journal) (over_at as_nodes g.0 journal) (tellers_at as_nodes scenario g.0 journal) words all rows g.0 t node r here in
+      let more = rounds_law.few q.course under.stage g.0.core.id t.course (o.round g.0 g.1) in
+      let was = seen_law.quiet words (logged_sets as_nodes g.0 journal) (over_at as_nodes g.0 journal) (tellers_at as_nodes scenario g.0 journal) scenario quiet g.0 q (none_quiet g.0.core.id) (λ there. under.rests.members g.0 g.1 there)
+      (orders quiet + 1) (omega arith) (λ n x v. (under.rests.rounds g.0.core.id n x v).1) in
+      let one = o.one_order in
+      omega (arith, top, more, was, one)
+
+  q : IsQuietFront words scenario journal rows
+  q = record { calm = calm; begins = under.front; quiet = still; sent = under.sent }
+
+  rests : RestsAt words scenario first journal rows
+  unfolding q
+  rests = rest_law words scenario first journal rows q (record {
+    still = over;
+    done = λ name node r e runs. (let n = nothing name node r e runs in (besides.waits name node r e runs n.flights, (o.work.replicas name node r e).calls));
+    rounds = few_rounds;
+    rising = o.rising;
+    clients = besides.clients;
+    answered = besides.answered;
+    players = besides.players;
+    reached = besides.reached;
+    turn = besides.turn;
+    turns = besides.turns;
+  })
+
+pub orders_leave : SlotsAreLeft → ScenariosAreKeptBorn → SlotsHaveRosters → QuietScenesAreOver → QuietLeadersHaveNothing → OrdersKeepRounds → RoundsAreSeen → FrontsAreFound → NoMailForStrangers → QuietFrontsRest → OrdersLeaveResting
+orders_leave = rests

@@ -1,0 +1,74 @@
+-- The child that an order makes, while it is under way and in the next quiet journal.
+use Rattle.std.specs.Prelude.{◌≡◌, ℕ, true, false, [], ◌++◌, Some}
+use Rattle.std.specs.List.{list_any}
+use Rattle.sc_base.specs.Among.{Among, Each}
+use Rattle.sc_base.specs.Same.{same_draw}
+use Rattle.sc_base.specs.declared.names.Draw.{Draw}
+use Rattle.sc_cmd.specs.declared.cores.Base.{Base}
+use Rattle.sc_cmd.specs.declared.orders.OrderLine.{OrderLine}
+use Rattle.sc_mail.specs.declared.bodies.Mail.{Mail}
+use Rattle.sc_member.specs.Roster.{is_member}
+use Rattle.sc_actor.specs.Walk.{is_quiet}
+use Rattle.sc_actor.specs.declared.actors.Seat.{Seat}
+use Rattle.sc_actor.specs.declared.rows.Event.TheVariants.{Deliver, Told}
+use Rattle.sc_orderly_law.specs.Orderly.{is_born}
+use Rattle.sc_orderly_law.specs.Timely.{AreInTime}
+use Rattle.sc_scenario.specs.declared.scenarios.Scenario.{Scenario}
+use Rattle.sc_node_table.specs.Node.{NodeState, replica_of}
+use Rattle.sc_node_table.specs.Replica.{ReplicaState}
+use Rattle.sc_node_table.specs.Rows.{mailed}
+use Rattle.sc_sound.specs.GroupsOf.{groups_at}
+use Rattle.sc_sound.specs.Players.{Player, births, as_nodes}
+use Rattle.sc_calm_law.specs.Charts.{players}
+use Rattle.sc_calm_law.specs.Quiet.{HasReplica}
+use Rattle.sc_calm_law.specs.Totals.{Rows}
+use Rattle.sc_calm_rows_law.specs.Groups.{view_at, marks_at}
+use Rattle.sc_calm_rows_law.specs.Turns.{IsSeat, with_event}
+use Rattle.sc_calm_scenes_law.specs.Fresh.{IsThere, IsNowhere}
+use Rattle.sc_calm_scenes_law.specs.Taken.{IsTaking}
+use Rattle.sc_calm_answers_law.specs.Missed.{IsYoung}
+use Rattle.sc_calm_answers_law.specs.Tasks.{Task}
+use Rattle.sc_calm_answers_law.specs.Works.{AreAtWork, IsTaskOf, IsGuidedRow}
+use Rattle.sc_calm_answers_law.specs.Journal.{IsCalmJournal, GoesOnBy}
+use Rattle.sc_calm_answers_law.specs.JournalUnder.{IsUnder}
+
+-- a replica's group knows a child of this name
+abbrev pub Knows : Draw → ReplicaState → Type 0
+Knows name r = list_any (λ other. same_draw other name) r.group.core.born ≡ true
+
+-- Of the groups of a journal, one that was nowhere in the quiet is there only if it is the child of an order that splits; where a node has a replica of that, its replica of the parent knows it; and where that knows it, and the node is one of its first members, it has one.
+pub record AreBorneSo (scenario : Scenario) (journal quiet rows : Rows) (task : Task) : Type 0 where
+  pub only : (base : Base) → Among base (groups_at as_nodes scenario.groups journal) → IsNowhere (births as_nodes scenario) quiet base.core.id → IsThere (births as_nodes scenario) rows base.core.id → (task.splits ≡ true) × (base.core.id ≡ task.name)
+  pub known : task.splits ≡ true → (base : Base) → Among base (groups_at as_nodes scenario.groups journal) → base.core.id ≡ task.name → (who : ℕ) (x : ReplicaState) → view_at (births as_nodes scenario) rows task.name who ≡ Some x
+      → (r : ReplicaState) × (view_at (births as_nodes scenario) rows task.group who ≡ Some r) × Knows task.name r
+  pub kept : task.splits ≡ true → (base : Base) → Among base (groups_at as_nodes scenario.groups journal) → base.core.id ≡ task.name → (who : ℕ) (r : ReplicaState) → is_member base.core.members who ≡ true
+      → view_at (births as_nodes scenario) rows task.group who ≡ Some r → Knows task.name r → HasReplica (view_at (births as_nodes scenario) rows) task.name who
+
+-- each replica is of a group of the journal
+abbrev pub AreOfGroups : Scenario → Rows → Rows → Type 0
+AreOfGroups scenario journal rows =
+    (name : Draw) (who : ℕ) (r : ReplicaState) → view_at (births as_nodes scenario) rows name who ≡ Some r → (base : Base) × Among base (groups_at as_nodes scenario.groups journal) × (base.core.id ≡ name)
+
+-- one more delivery, while an order is under way that is to do this
+pub record IsWorkingRow (words : ℕ → ℕ → ℕ × ℕ) (scenario : Scenario) (first : Base) (journal quiet rows : Rows) (line : OrderLine) (task : Task) (seat : Seat Player) (number : ℕ) : Type 0 where
+  pub calm : IsCalmJournal words scenario journal
+  pub under : IsUnder words scenario first journal quiet rows
+  pub goes : GoesOnBy words scenario journal rows seat number
+  pub guided : IsGuidedRow words scenario rows seat number
+  pub named : AreOfGroups scenario journal rows
+  pub of : IsTaskOf (births as_nodes scenario) quiet line task
+  pub work : AreAtWork task words (births as_nodes scenario) rows
+
+-- So it is once an order is told in quiet, and after each delivery; the children that a row makes are young; and in the next quiet journal each group that has a replica has one at each of its first members, where no mail of it is for who is no actor.
+pub record ChildrenAreBorne : Type 0 where
+  pub begins : (words : ℕ → ℕ → ℕ × ℕ) (scenario : Scenario) (journal quiet : Rows) (seat : Seat Player) (line : OrderLine) (task : Task) → IsSeat (births as_nodes scenario) seat → AreInTime (players words (births as_nodes scenario)) (with_event quiet seat (Told line))
+      → IsTaskOf (births as_nodes scenario) quiet line task → AreBorneSo scenario journal quiet (with_event quiet seat (Told line)) task
+  pub keeps : (words : ℕ → ℕ → ℕ × ℕ) (scenario : Scenario) (first : Base) (journal quiet rows : Rows) (line : OrderLine) (task : Task) (seat : Seat Player) (number : ℕ) → IsWorkingRow words scenario first journal quiet rows line task seat number
+      → AreBorneSo scenario journal quiet rows task → AreBorneSo scenario journal quiet (with_event rows seat (Deliver number)) task
+  pub young : (words : ℕ → ℕ → ℕ × ℕ) (scenario : Scenario) (first : Base) (journal quiet rows : Rows) (line : OrderLine) (task : Task) (seat : Seat Player) (number : ℕ) → IsWorkingRow words scenario first journal quiet rows line task seat number
+      → AreBorneSo scenario journal quiet rows task → (mail : Mail) (group : Draw) (node : NodeState) (r : ReplicaState) → IsTaking words (births as_nodes scenario) rows seat number mail group node → replica_of group node.replicas ≡ Some r
+      → Each (IsYoung words (births as_nodes scenario) rows seat) (mailed mail.from mail.body (r, [])).1
+  pub members : (words : ℕ → ℕ → ℕ × ℕ) (scenario : Scenario) (first : Base) (journal quiet rows more : Rows) (line : OrderLine) (task : Task) → IsCalmJournal words scenario journal → IsUnder words scenario first journal quiet rows → rows ≡ quiet ++ more
+      → is_quiet (players words (births as_nodes scenario)) rows ≡ true → AreOfGroups scenario journal rows → IsTaskOf (births as_nodes scenario) quiet line task → AreBorneSo scenario journal quiet rows task
+      → ((base : Base) (who : ℕ) → Among base (groups_at as_nodes scenario.groups journal) → is_born (players words (births as_nodes scenario)) who ≡ false → marks_at (players words (births as_nodes scenario)) rows base.core.id who ≡ [])
+      → (base : Base) → Among base (groups_at as_nodes scenario.groups journal) → IsThere (births as_nodes scenario) rows base.core.id → (node : ℕ) → is_member base.core.members node ≡ true → HasReplica (view_at (births as_nodes scenario) rows) base.core.id node

@@ -1,0 +1,21 @@
+-- That no mail of a group goes to who is no actor.
+use Rattle.std.specs.Prelude.{◌≡◌, ℕ, true, false, []}
+use Rattle.sc_base.specs.Among.{Among}
+use Rattle.sc_base.specs.declared.names.Draw.{Draw}
+use Rattle.sc_cmd.specs.declared.cores.Base.{Base}
+use Rattle.sc_member.specs.Roster.{is_member}
+use Rattle.sc_orderly_law.specs.Orderly.{is_born}
+use Rattle.sc_scenario.specs.declared.scenarios.Scenario.{Scenario}
+use Rattle.sc_sound.specs.GroupsOf.{groups_at}
+use Rattle.sc_sound.specs.Players.{births, as_nodes}
+use Rattle.sc_calm_law.specs.Charts.{players}
+use Rattle.sc_calm_law.specs.Totals.{Rows}
+use Rattle.sc_calm_rows_law.specs.Groups.{marks_at}
+use Rattle.sc_calm_answers_law.specs.Journal.{IsCalmJournal, IsFront, AreSent}
+
+-- In a front of a calm journal whose groups are well led no mail of any group is for who is no actor; and first members of groups are actors.
+pub record NoMailForStrangers : Type 0 where
+  pub strangers : (words : ℕ → ℕ → ℕ × ℕ) (scenario : Scenario) (journal front : Rows) → IsCalmJournal words scenario journal → IsFront journal front → AreSent words scenario journal front
+      → (name : Draw) (who : ℕ) → is_born (players words (births as_nodes scenario)) who ≡ false → marks_at (players words (births as_nodes scenario)) front name who ≡ []
+  pub born : (words : ℕ → ℕ → ℕ × ℕ) (scenario : Scenario) (journal : Rows) → IsCalmJournal words scenario journal
+      → (base : Base) → Among base (groups_at as_nodes scenario.groups journal) → (who : ℕ) → is_member base.core.members who ≡ true → is_born (players words (births as_nodes scenario)) who ≡ true
