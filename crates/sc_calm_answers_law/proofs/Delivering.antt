@@ -73,7 +73,7 @@ use Rattle.sc_calm_answers_law.specs.Leader.{StagesLeaveOneWork}
 use Rattle.sc_budget_law.specs.AskingQuiet.{replicas_after, DoHintsRise}
 use Rattle.sc_calm_answers_law.specs.Journal.{IsCalmJournal, AreSent, GoesOnBy}
 use Rattle.sc_calm_answers_law.specs.JournalUnder.{IsUnder, IsYoungAt}
-use Rattle.sc_calm_answers_law.specs.Asking.{AllLeadAlone, StagesAsk}
+use Rattle.sc_calm_answers_law.specs.KeptAsking.{AllLeadAlone, StagesAsk}
 use Rattle.sc_calm_answers_law.specs.Viewing.{ViewsAgree}
 use Rattle.sc_calm_answers_law.specs.KeptFinding.{CountsEntries, IsKnownMail, IsKnownDelivery, OrderRowsFindCalm}
 use Rattle.sc_calm_answers_law.proofs.KeptCounting.{may_count}

@@ -31,7 +31,7 @@ use Rattle.sc_calm_orders_law.proofs.Lists.{among-left, among-right}
 use Rattle.sc_calm_scenes_law.specs.Kept.{StageAfter, GoesBy}
 use Rattle.sc_calm_scenes_law.specs.Scenes.{left_after, scene_at}
 use Rattle.sc_calm_scenes_law.proofs.Newest.{lead_runs}
-use Rattle.sc_calm_answers_law.specs.Asking.{AllLeadAlone, StagesAsk}
+use Rattle.sc_calm_answers_law.specs.KeptAsking.{AllLeadAlone, StagesAsk}
 use Rattle.sc_calm_answers_law.specs.Following.{OrderChartsFollow}
 use Rattle.sc_calm_answers_law.proofs.Delivering.{among_all, named_so, runs_there}
 use Rattle.sc_calm_answers_law.proofs.Questions.{elsewhere_stage, errand_there}

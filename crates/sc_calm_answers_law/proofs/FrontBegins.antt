@@ -43,8 +43,8 @@ use Rattle.sc_calm_answers_law.proofs.Placing.{place_of}
 use Rattle.sc_calm_answers_law.specs.FrontBegins.{JournalsBeginResting}
 
 step : (b : Bool) (gone later : Option Route) (into : Route) → gone ≡ None → (later ≡ Some into → ⊥) → cond b gone later ≡ Some into → ⊥
-step true gone later into none rest e = none-some into (sym none ∙ e)
-step false gone later into none rest e = rest e
+step true went later into none rest e = none-some into (sym none ∙ e)
+step false went later into none rest e = rest e
 
 -- where none of some replicas is gone, none went anywhere
 none_went : (group : Draw) (into : Route) (replicas : List ReplicaState) → ((r : ReplicaState) → Among r replicas → r.group.core.gone ≡ None) → went_in group replicas ≡ Some into → ⊥

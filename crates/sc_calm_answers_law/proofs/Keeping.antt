@@ -61,7 +61,7 @@ use Rattle.sc_calm_answers_law.specs.Borne.{Knows, AreBorneSo, IsWorkingRow}
 use Rattle.sc_calm_answers_law.proofs.Borne.{IsBorne, borne, knows_made, knows_still}
 use Rattle.sc_calm_answers_law.proofs.Lineage.{child_made}
 use Rattle.sc_calm_answers_law.proofs.Logs.{IsStateless, IsShort, GoesOn, IsRest, kids_of, mailed_goes, rest_leaves}
-use Rattle.sc_calm_answers_law.proofs.Passing.{RowKind, Takes, Makes, row_kind}
+use Rattle.sc_calm_answers_law.proofs.YoungPassing.{RowKind, Takes, Makes, row_kind}
 use Rattle.sc_calm_answers_law.proofs.YoungStands.{OfJournals, all_found, borne_by, state_of}
 
 none_some : {X : Type 0} {x : X} → None ≡ Some x → ⊥

@@ -5,7 +5,6 @@ pub mod Affairs
 pub mod Along
 pub mod Arcs
 pub mod Asked
-pub mod Asking
 pub mod Ballots
 pub mod Bearing
 pub mod BearingLogs
@@ -18,6 +17,7 @@ pub mod BornAsBegun
 pub mod Borne
 pub mod Children
 pub mod Chosen
+pub mod Clients
 pub mod Comers
 mod Covered
 pub mod Delivering
@@ -43,7 +43,9 @@ pub mod FrontBegins
 pub mod Given
 pub mod GoingOn
 pub mod Grants
-pub mod Hinted
+pub mod Hinting
+pub mod Hintless
+pub mod Hints
 pub mod HomeBearing
 pub mod HomeBringing
 pub mod HomeNaming
@@ -51,6 +53,7 @@ pub mod HomeNodes
 pub mod JournalFronts
 pub mod Keeping
 pub mod KeptAll
+pub mod KeptAsking
 pub mod KeptCounting
 pub mod KeptRising
 pub mod KeptSeen
@@ -64,6 +67,7 @@ pub mod KnownGroups
 pub mod KnownHomes
 pub mod KnownLinked
 pub mod KnownMembers
+pub mod KnownReaching
 pub mod KnownTurns
 pub mod Late
 pub mod Leader
@@ -92,6 +96,7 @@ pub mod Ordered
 pub mod OrderedBeginning
 pub mod OrderedGoing
 pub mod OrderedKnown
+pub mod OrderedSending
 pub mod Outcomes
 pub mod Over
 pub mod OverEnding
@@ -99,17 +104,17 @@ pub mod OverJournals
 pub mod OverRequests
 pub mod Parties
 pub mod Parts
-pub mod Passing
 pub mod Pending
 pub mod Places
 pub mod Placing
 pub mod Posted
 pub mod Questions
-pub mod Reaching
+pub mod Reached
 pub mod Records
 pub mod RestStands
 pub mod Resting
 pub mod Ring
+pub mod RiseHinted
 pub mod RiseHomes
 pub mod RiseJournals
 pub mod RiseQuiet
@@ -121,7 +126,6 @@ pub mod SaidNodes
 pub mod SaidParts
 pub mod SaidRows
 pub mod Seeing
-pub mod Sending
 pub mod SentHomes
 pub mod SentJournals
 pub mod SentSaying
@@ -147,11 +151,16 @@ pub mod There
 pub mod Told
 pub mod Took
 pub mod Topped
+pub mod TrueAsking
 pub mod TrueBeginning
 pub mod TrueEntries
 pub mod TrueGoing
+pub mod TrueHinted
+pub mod TruePassing
 pub mod TrueQuiet
+pub mod TrueReaching
 pub mod TrueRounds
+pub mod TrueSending
 pub mod TrueTurns
 pub mod Turned
 pub mod Unborn
@@ -165,5 +174,6 @@ pub mod WorkFronts
 pub mod WorkRows
 pub mod WorkSaying
 pub mod YoungMembers
+pub mod YoungPassing
 pub mod YoungStands
 pub mod YoungTelling

@@ -38,7 +38,7 @@ use Rattle.sc_calm_answers_law.specs.Known.{FrontsAreLinked}
 use Rattle.sc_calm_answers_law.specs.Links.{AreAllFree, LinksWereMembers}
 use Rattle.sc_calm_answers_law.specs.There.{FrontsAreThere}
 use Rattle.sc_calm_answers_law.proofs.Known.{found, most, ends, last_state}
-use Rattle.sc_calm_answers_law.proofs.Reaching.{last, has_replica, link_of}
+use Rattle.sc_calm_answers_law.proofs.KnownReaching.{last, has_replica, link_of}
 
 -- ---- a key at a position
 

@@ -50,7 +50,7 @@ use Rattle.sc_calm_answers_law.proofs.KnownGroups.{front_timely}
 use Rattle.sc_calm_answers_law.proofs.Known.{found}
 use Rattle.sc_calm_answers_law.proofs.LinkFronts.{sources, ready, well, turn}
 use Rattle.sc_calm_answers_law.proofs.Linking.{cut_of}
-use Rattle.sc_calm_answers_law.proofs.Reaching.{newest_of_group}
+use Rattle.sc_calm_answers_law.proofs.KnownReaching.{newest_of_group}
 
 -- ---- where values come from
 

@@ -55,16 +55,18 @@ use Rattle.sc_calm_answers_law.specs.Viewing.{ViewsAgree}
 use Rattle.sc_calm_answers_law.specs.Borne.{ChildrenAreBorne}
 use Rattle.sc_calm_answers_law.specs.Young.{YoungGroupsStay}
 use Rattle.sc_calm_answers_law.specs.TrueBeginning.{TrueOrdersBegin}
+use Rattle.sc_calm_answers_law.specs.TrueHinted.{HintedOrdersBegin}
 use Rattle.sc_calm_answers_law.specs.Settled.{SettledOrdersBegin}
 use Rattle.sc_calm_answers_law.specs.TrueUnder.{AreSeen}
 use Rattle.sc_calm_answers_law.specs.Works.{OrdersBeginWork, WorkStandsAlone}
 use Rattle.sc_calm_answers_law.specs.Ordered.{IsNamedGroup, IsOrderedSince, OrdersBeginOrdered}
 use Rattle.sc_calm_answers_law.proofs.OrderedKnown as at_row
 use Rattle.sc_calm_answers_law.proofs.OrderedKnown.{named_there, reached_even}
-use Rattle.sc_calm_answers_law.proofs.Sending.{known_told}
+use Rattle.sc_calm_answers_law.proofs.Clients.{gone_still, told_stays}
+use Rattle.sc_calm_answers_law.proofs.OrderedSending.{known_told}
 
 module _ (all_bounded : ValidScenariosAreBounded) (few_law : SlotsAreLeft) (logs_law : ReplicasRunLogs) (views_law : ViewsAreReplicas) (rosters_law : SlotsHaveRosters) (next_law : NextRowsAreSent) (newest_law : NewestStay) (found_law : FrontsAreFound) (no_law : NoMailForStrangers)
-    (agree_law : ViewsAgree) (plain_law : SentReplicas) (finds_law : OrdersRowsFind) (fresh_law : FreshGroupsStay) (young_law : YoungGroupsStay) (true_law : TrueOrdersBegin) (settled_law : SettledOrdersBegin) (work_law : OrdersBeginWork) (borne_law : ChildrenAreBorne) (rise_law : NextRowsRise) (rounds_law : OrdersKeepRounds) (stands_law : WorkStandsAlone) (calm_law : ToldOrdersFindCalm)
+    (agree_law : ViewsAgree) (plain_law : SentReplicas) (finds_law : OrdersRowsFind) (fresh_law : FreshGroupsStay) (young_law : YoungGroupsStay) (true_law : TrueOrdersBegin) (settled_law : SettledOrdersBegin) (hinted_law : HintedOrdersBegin) (work_law : OrdersBeginWork) (borne_law : ChildrenAreBorne) (rise_law : NextRowsRise) (rounds_law : OrdersKeepRounds) (stands_law : WorkStandsAlone) (calm_law : ToldOrdersFindCalm)
     (words : ℕ → ℕ → ℕ × ℕ) (scenario : Scenario) (first : Base) (journal quiet : Rows) (seat : Seat Player) (line : OrderLine) (calm : IsCalmJournal words scenario journal) (rests : RestsAt words scenario first journal quiet) (errands : Each (GoesToActor words (births as_nodes scenario)) (mails quiet))
     (seated : IsSeat (births as_nodes scenario) seat) (front : IsFront journal (with_event quiet seat (Told line))) (timely : AreInTime (players words (births as_nodes scenario)) (with_event quiet seat (Told line))) where
   abbrev all : List (Seat Player)
@@ -198,20 +200,22 @@ module _ (all_bounded : ValidScenariosAreBounded) (few_law : SlotsAreLeft) (logs
         round = round_after;
         true_since = true_so;
         settled = settled_law words scenario first journal quiet seat line begun.0 calm rests seen told_so front sent_after strangers begun.1.stands true_so;
+        hinted = hinted_law words scenario quiet seat line begun.0 told_so begun.1.stands;
         line = line;
         task = work.0;
         is_task = work.1;
         work = work.2;
         borne = borne_law.begins words scenario journal quiet seat line work.0 seated timely work.1;
+        clients = λ other client is was. (told_stays all quiet seat other seated is line client was, gone_still quiet row other.who refl);
         known = known_told words scenario journal quiet seat line begun.0 seated timely rests.calm named begun.1;
       }
 
   finds_calm : (far sent : ℕ) → FindsCalm (chart_at far sent s quiet) all quiet seat (Told line)
   finds_calm far sent = calm_law words scenario first journal quiet far sent seat line calm rests (found_law words scenario journal quiet calm rests.front).homes seated
 
-pub orders_begin : ValidScenariosAreBounded → SlotsAreLeft → ReplicasRunLogs → ViewsAreReplicas → SlotsHaveRosters → NextRowsAreSent → NewestStay → FrontsAreFound → NoMailForStrangers → ViewsAgree → SentReplicas → OrdersRowsFind → FreshGroupsStay → YoungGroupsStay → TrueOrdersBegin → SettledOrdersBegin → OrdersBeginWork → ChildrenAreBorne → NextRowsRise → OrdersKeepRounds → WorkStandsAlone
+pub orders_begin : ValidScenariosAreBounded → SlotsAreLeft → ReplicasRunLogs → ViewsAreReplicas → SlotsHaveRosters → NextRowsAreSent → NewestStay → FrontsAreFound → NoMailForStrangers → ViewsAgree → SentReplicas → OrdersRowsFind → FreshGroupsStay → YoungGroupsStay → TrueOrdersBegin → SettledOrdersBegin → HintedOrdersBegin → OrdersBeginWork → ChildrenAreBorne → NextRowsRise → OrdersKeepRounds → WorkStandsAlone
     → ToldOrdersFindCalm → OrdersBeginOrdered
-orders_begin all_bounded few_law logs_law views_law rosters_law next_law newest_law found_law no_law agree_law plain_law finds_law fresh_law young_law true_law settled_law work_law borne_law rise_law rounds_law stands_law calm_law words scenario first journal quiet seat line calm rests errands seated front timely = (
-  begins all_bounded few_law logs_law views_law rosters_law next_law newest_law found_law no_law agree_law plain_law finds_law fresh_law young_law true_law settled_law work_law borne_law rise_law rounds_law stands_law calm_law words scenario first journal quiet seat line calm rests errands seated front timely,
-  finds_calm all_bounded few_law logs_law views_law rosters_law next_law newest_law found_law no_law agree_law plain_law finds_law fresh_law young_law true_law settled_law work_law borne_law rise_law rounds_law stands_law calm_law words scenario first journal quiet seat line calm rests errands seated front timely,
+orders_begin all_bounded few_law logs_law views_law rosters_law next_law newest_law found_law no_law agree_law plain_law finds_law fresh_law young_law true_law settled_law hinted_law work_law borne_law rise_law rounds_law stands_law calm_law words scenario first journal quiet seat line calm rests errands seated front timely = (
+  begins all_bounded few_law logs_law views_law rosters_law next_law newest_law found_law no_law agree_law plain_law finds_law fresh_law young_law true_law settled_law hinted_law work_law borne_law rise_law rounds_law stands_law calm_law words scenario first journal quiet seat line calm rests errands seated front timely,
+  finds_calm all_bounded few_law logs_law views_law rosters_law next_law newest_law found_law no_law agree_law plain_law finds_law fresh_law young_law true_law settled_law hinted_law work_law borne_law rise_law rounds_law stands_law calm_law words scenario first journal quiet seat line calm rests errands seated front timely,
 )

@@ -65,7 +65,7 @@ use Rattle.sc_calm_answers_law.specs.KnownFronts.{FrontsAreFound}
 use Rattle.sc_calm_answers_law.specs.Strangers.{NoMailForStrangers}
 use Rattle.sc_calm_answers_law.specs.Journal.{IsCalmJournal, IsFront, AreSent, GoesOnBy}
 use Rattle.sc_calm_answers_law.specs.JournalUnder.{IsUnder, IsYoungAt}
-use Rattle.sc_calm_answers_law.specs.Asking.{AllLeadAlone}
+use Rattle.sc_calm_answers_law.specs.KeptAsking.{AllLeadAlone}
 use Rattle.sc_calm_answers_law.specs.KeptFinding.{CountsEntries, IsKnownMail, IsKnownDelivery, OrderRowsFindCalm}
 use Rattle.sc_calm_answers_law.specs.Viewing.{ViewsAgree}
 use Rattle.sc_calm_answers_law.specs.Borne.{ChildrenAreBorne, IsWorkingRow}
@@ -75,15 +75,18 @@ use Rattle.sc_calm_answers_law.specs.TrueUnder.{AreSeen, IsTrueSince}
 use Rattle.sc_calm_answers_law.specs.TrueEntries.{LeadsSince}
 use Rattle.sc_calm_answers_law.specs.Finished.{EntriesAreTrue}
 use Rattle.sc_calm_answers_law.specs.Unsettled.{MailComesUnsettled, TakesSince}
+use Rattle.sc_client_table.specs.Client.{Client as ClientState}
+use Rattle.sc_calm_answers_law.specs.TrueHinted.{CoordinatorsAreHinted, HintedOrdersGoOn}
 use Rattle.sc_calm_answers_law.specs.Settled.{AreSettled, CoordinatorsAreSettled, SettledOrdersGoOn}
 use Rattle.sc_calm_answers_law.specs.TrueGoing.{AskedGroupsStood, GoesOnSince, TrueOrdersGoOn}
 use Rattle.sc_calm_answers_law.specs.Works.{IsGuidedRow, DeliveriesKeepWork, WorkStandsAlone}
 use Rattle.sc_calm_answers_law.specs.OrderedEntries.{FlightsAreEntries}
-use Rattle.sc_calm_answers_law.specs.Ordered.{IsNamedGroup, IsOfJournal, IsOrderedSince, IsGivenBesides, DeliveriesKeepOrdered}
+use Rattle.sc_calm_answers_law.specs.Ordered.{IsNamedGroup, IsOfJournal, IsOrderedSince, DeliveriesKeepOrdered}
 use Rattle.sc_calm_answers_law.proofs.OrderedKnown as at_row
 use Rattle.sc_calm_answers_law.proofs.OrderedKnown.{named_there}
+use Rattle.sc_calm_answers_law.proofs.Clients.{gone_still, other_stays}
 use Rattle.sc_calm_answers_law.proofs.Placing.{place_of}
-use Rattle.sc_calm_answers_law.proofs.Sending.{known_after}
+use Rattle.sc_calm_answers_law.proofs.OrderedSending.{known_after}
 use Rattle.sc_calm_requests_law.specs.Starts.{LawfulReplicasAreNamedOnce}
 use Rattle.sc_calm_mail_law.specs.Posted.{MailMayCome}
 use Rattle.sc_orderly_law.specs.Timely.{AreInTime}
@@ -132,8 +135,8 @@ no_request (Told order result) none = tt
 
 module _ (all_bounded : ValidScenariosAreBounded) (few_law : SlotsAreLeft) (logs_law : ReplicasRunLogs) (views_law : ViewsAreReplicas) (rosters_law : SlotsHaveRosters) (last_law : ReplicasLast) (next_law : NextRowsAreSent) (newest_law : NewestStay) (found_law : FrontsAreFound) (no_law : NoMailForStrangers)
     (agree_law : ViewsAgree) (alone_law : WellLedLeadAlone) (plain_law : SentReplicas) (meets_law : OrdersRowsMeet) (finds_law : OrdersRowsFind) (rise_law : NextRowsRise) (rounds_law : OrdersKeepRounds) (nowhere_law : ChildrenWereNowhere) (borne_law : ChildrenAreBorne) (fresh_law : FreshGroupsStay) (young_law : YoungGroupsStay) (unsettled_law : MailComesUnsettled) (asked_law : AskedGroupsStood) (true_law : TrueOrdersGoOn)
-    (work_law : DeliveriesKeepWork) (stands_law : WorkStandsAlone) (calm_law : OrderRowsFindCalm) (settled_law : SettledOrdersGoOn) (settled_at : CoordinatorsAreSettled) (entries_law : EntriesAreTrue) (flights_law : FlightsAreEntries) (come_law : MailMayCome) (once_law : LawfulReplicasAreNamedOnce) (words : ℕ → ℕ → ℕ × ℕ) (scenario : Scenario) (first : Base) (journal quiet rows : Rows) (seat : Seat Player) (number : ℕ) (calm : IsCalmJournal words scenario journal)
-    (o : IsOrderedSince words scenario first journal quiet rows) (on : GoesOnBy words scenario journal rows seat number) (given : IsGivenBesides words scenario rows seat number) where
+    (work_law : DeliveriesKeepWork) (stands_law : WorkStandsAlone) (calm_law : OrderRowsFindCalm) (settled_law : SettledOrdersGoOn) (settled_at : CoordinatorsAreSettled) (hinted_law : HintedOrdersGoOn) (hinted_at : CoordinatorsAreHinted) (entries_law : EntriesAreTrue) (flights_law : FlightsAreEntries) (come_law : MailMayCome) (once_law : LawfulReplicasAreNamedOnce) (words : ℕ → ℕ → ℕ × ℕ) (scenario : Scenario) (first : Base) (journal quiet rows : Rows) (seat : Seat Player) (number : ℕ) (calm : IsCalmJournal words scenario journal)
+    (o : IsOrderedSince words scenario first journal quiet rows) (on : GoesOnBy words scenario journal rows seat number) (nodes : (client : ClientState) → value player_table seat rows ≡ Client client → ⊥) where
   abbrev all : List (Seat Player)
   all = births as_nodes scenario
 
@@ -192,7 +195,7 @@ module _ (all_bounded : ValidScenariosAreBounded) (few_law : SlotsAreLeft) (logs
   unsettled : (mail : Mail) (group : Draw) (node : NodeState) (r : ReplicaState) → IsTaking words all rows seat number mail group node → replica_of group node.replicas ≡ Some r → IsUnsettled r mail.body
   unsettled mail group node r taking here = elim (elsewhere_or mail.body) [
     | inl e ↦ subst (IsUnsettled r) (sym e.3) (λ runs. (
-        let to = given.elsewhere mail group node r e.0 e.1 e.2 taking here e.3 runs in
+        let to = hinted_at words scenario first journal quiet rows seat number mail group node r under.stage e.0 e.1 e.2 (takes mail group node r taking here) o.hinted e.3 in
         (to.0, to.1, settled_at words scenario first journal quiet rows seat number mail group node r under.stage e.0 e.1 e.2 (takes mail group node r taking here) under.front under.sent o.settled e.3 runs)))
     | inr other ↦ unsettled_law words scenario first journal quiet rows seat number mail group node r under.stage (takes mail group node r taking here) other
   ]
@@ -240,7 +243,7 @@ module _ (all_bounded : ValidScenariosAreBounded) (few_law : SlotsAreLeft) (logs
         (let view = viewed group node r taking.is_node here in
         (stands_law.alone o.task group r (o.work.replicas group seat.who r view), entries_law words scenario first journal quiet rows group seat.who r under.stage (leads_since group seat.who r view runs)));
     told = λ line e. cc;
-    clients = λ client is. absurd (given.nodes client is);
+    clients = λ client is. absurd (nodes client is);
   }
 
   -- what is delivered meets what an order needs; and children were nowhere
@@ -324,11 +327,13 @@ module _ (all_bounded : ValidScenariosAreBounded) (few_law : SlotsAreLeft) (logs
     round = round_after;
     true_since = true_after;
     settled = settled_after;
+    hinted = hinted_law words scenario first journal quiet rows seat number under.stage next_stage.0 goes_since (λ name node r e runs. entries_law words scenario first journal quiet rows name node r under.stage (leads_since name node r e runs)) next_stage.1.stands next_stage.2 true_after o.hinted;
     line = o.line;
     task = o.task;
     is_task = o.is_task;
     work = work_law.keeps words scenario rows seat number o.task guided_row o.work;
     borne = borne_law.keeps words scenario first journal quiet rows o.line o.task seat number working o.borne;
+    clients = λ other client is was. (let h = o.clients other client is was in (other_stays all rows seat other on.seated is (Deliver number) client (nodes client) h.0, gone_still rows row other.who refl ∙ h.1));
     known = known_after words scenario journal quiet rows seat number next_stage.0 on.seated on.timely unanswered named_quiet next_stage.1 o.known;
   }
 
@@ -369,11 +374,11 @@ module _ (all_bounded : ValidScenariosAreBounded) (few_law : SlotsAreLeft) (logs
   found : (far sent : ℕ) → quiet_front s rows ≡ quiet → DoHintsRise (replicas_after scenario quiet) (chart_at far sent s rows).ways → FindsCalm (chart_at far sent s rows) all rows seat (Deliver number)
   found far sent front rise =
       calm_law words scenario first journal quiet rows far sent seat number calm under on sent_after
-      (record { alone = alone; homes = (found_law words scenario journal quiet calm under.rests.front).homes; front = front; rise = rise; nodes = given.nodes; mail = mail_so })
+      (record { alone = alone; homes = (found_law words scenario journal quiet calm under.rests.front).homes; front = front; rise = rise; nodes = nodes; mail = mail_so })
 
 pub deliveries_keep : ValidScenariosAreBounded → SlotsAreLeft → ReplicasRunLogs → ViewsAreReplicas → SlotsHaveRosters → ReplicasLast → NextRowsAreSent → NewestStay → FrontsAreFound → NoMailForStrangers → ViewsAgree → WellLedLeadAlone → SentReplicas → OrdersRowsMeet → OrdersRowsFind → NextRowsRise → OrdersKeepRounds → ChildrenWereNowhere → ChildrenAreBorne → FreshGroupsStay → YoungGroupsStay
-    → MailComesUnsettled → AskedGroupsStood → TrueOrdersGoOn → DeliveriesKeepWork → WorkStandsAlone → OrderRowsFindCalm → SettledOrdersGoOn → CoordinatorsAreSettled → EntriesAreTrue → FlightsAreEntries → MailMayCome → LawfulReplicasAreNamedOnce → DeliveriesKeepOrdered
-deliveries_keep all_bounded few_law logs_law views_law rosters_law last_law next_law newest_law found_law no_law agree_law alone_law plain_law meets_law finds_law rise_law rounds_law nowhere_law borne_law fresh_law young_law unsettled_law asked_law true_law work_law stands_law calm_law settled_law settled_at entries_law flights_law come_law once_law words scenario first journal quiet rows seat number calm o on given = (
-  keeps all_bounded few_law logs_law views_law rosters_law last_law next_law newest_law found_law no_law agree_law alone_law plain_law meets_law finds_law rise_law rounds_law nowhere_law borne_law fresh_law young_law unsettled_law asked_law true_law work_law stands_law calm_law settled_law settled_at entries_law flights_law come_law once_law words scenario first journal quiet rows seat number calm o on given,
-  found all_bounded few_law logs_law views_law rosters_law last_law next_law newest_law found_law no_law agree_law alone_law plain_law meets_law finds_law rise_law rounds_law nowhere_law borne_law fresh_law young_law unsettled_law asked_law true_law work_law stands_law calm_law settled_law settled_at entries_law flights_law come_law once_law words scenario first journal quiet rows seat number calm o on given,
+    → MailComesUnsettled → AskedGroupsStood → TrueOrdersGoOn → DeliveriesKeepWork → WorkStandsAlone → OrderRowsFindCalm → SettledOrdersGoOn → CoordinatorsAreSettled → HintedOrdersGoOn → CoordinatorsAreHinted → EntriesAreTrue → FlightsAreEntries → MailMayCome → LawfulReplicasAreNamedOnce → DeliveriesKeepOrdered
+deliveries_keep all_bounded few_law logs_law views_law rosters_law last_law next_law newest_law found_law no_law agree_law alone_law plain_law meets_law finds_law rise_law rounds_law nowhere_law borne_law fresh_law young_law unsettled_law asked_law true_law work_law stands_law calm_law settled_law settled_at hinted_law hinted_at entries_law flights_law come_law once_law words scenario first journal quiet rows seat number calm o on nodes = (
+  keeps all_bounded few_law logs_law views_law rosters_law last_law next_law newest_law found_law no_law agree_law alone_law plain_law meets_law finds_law rise_law rounds_law nowhere_law borne_law fresh_law young_law unsettled_law asked_law true_law work_law stands_law calm_law settled_law settled_at hinted_law hinted_at entries_law flights_law come_law once_law words scenario first journal quiet rows seat number calm o on nodes,
+  found all_bounded few_law logs_law views_law rosters_law last_law next_law newest_law found_law no_law agree_law alone_law plain_law meets_law finds_law rise_law rounds_law nowhere_law borne_law fresh_law young_law unsettled_law asked_law true_law work_law stands_law calm_law settled_law settled_at hinted_law hinted_at entries_law flights_law come_law once_law words scenario first journal quiet rows seat number calm o on nodes,
 )

@@ -1,5 +1,5 @@
 -- A calm journal rests again once an order is over and it is quiet.
-use Rattle.std.proofs.Common.{◌≡◌, ℕ, ◌+◌, ◌≤◌, true, false, List, [], ◌++◌, Option, Some, None, inl, inr, refl, sym, ◌∙◌, ap, subst, arith}
+use Rattle.std.proofs.Common.{◌≡◌, ℕ, ◌+◌, ◌≤◌, true, false, List, [], ◌∷◌, ◌++◌, map, Option, Some, None, inl, inr, refl, sym, ◌∙◌, ap, subst, arith}
 use Rattle.std.proofs.lemmas.Bool.{cases_Bool}
 use Rattle.sc_base.specs.Among.{Among, Each}
 use Rattle.sc_base.specs.declared.names.Draw.{Draw}
@@ -7,7 +7,7 @@ use Rattle.sc_cmd.specs.declared.cores.Base.{Base}
 use Rattle.sc_cmd.specs.declared.orders.OrderLine.{OrderLine}
 use Rattle.sc_mail.specs.declared.bodies.Mail.{Mail}
 use Rattle.sc_actor.specs.declared.actors.Seat.{Seat}
-use Rattle.sc_actor.specs.System.{System}
+use Rattle.sc_actor.specs.System.{System, has_gone}
 use Rattle.sc_actor.specs.Walk.{is_quiet}
 use Rattle.sc_orderly_law.specs.Orderly.{is_born, orders, rest}
 use Rattle.sc_orderly_law.specs.Timely.{AreInTime}
@@ -16,7 +16,19 @@ use Rattle.sc_orderly_law.proofs.Resting.{quiet-empty}
 use Rattle.sc_scenario.specs.declared.scenarios.Scenario.{Scenario}
 use Rattle.sc_node_table.specs.Replica.{ReplicaState, next, last_slot}
 use Rattle.sc_sound.specs.GroupsOf.{groups_at}
-use Rattle.sc_sound.specs.Players.{Player, births, as_nodes}
+use Rattle.sc_scenario.specs.Valid.{ValidScenariosAreBounded}
+use Rattle.sc_scenario.specs.declared.scenarios.Asks.{Asks}
+use Rattle.sc_base.specs.Limits.{client_actor}
+use Rattle.sc_mail.specs.declared.roles.Role.TheVariants.{Client}
+use Rattle.sc_actor.specs.Replay.{value}
+use Rattle.sc_client_table.specs.Client.{Client as ClientState}
+use Rattle.sc_node_table.specs.Slots.{numbers_from}
+use Rattle.sc_orderly_law.proofs.Seats.{seat_found}
+use Rattle.sc_whole_law.proofs.Seats.{all_apart}
+use Rattle.sc_budget_law.proofs.Lists.{map_among}
+use Rattle.sc_calm_orders_law.proofs.Lists.{among-right}
+use Rattle.sc_calm_rows_law.specs.Turns.{IsSeat}
+use Rattle.sc_sound.specs.Players.{Player, player_table, births, as_nodes, node_seat, client_seat, client_seats, route_of}
 use Rattle.sc_following_law.specs.Following.{marks_of}
 use Rattle.sc_calm_law.specs.Charts.{players}
 use Rattle.sc_calm_law.specs.Totals.{Rows}
@@ -44,8 +56,8 @@ use Rattle.sc_calm_answers_law.specs.Ordered.{IsNamedGroup, IsOrderedSince}
 use Rattle.sc_calm_answers_law.proofs.OrderedKnown.{named_there}
 use Rattle.sc_calm_answers_law.specs.Over.{IsOverBesides, OrdersLeaveResting}
 
-module _ (few_law : SlotsAreLeft) (born_law : ScenariosAreKeptBorn) (rosters_law : SlotsHaveRosters) (over_law : QuietScenesAreOver) (nothing_law : QuietLeadersHaveNothing) (rounds_law : OrdersKeepRounds) (seen_law : RoundsAreSeen) (found_law : FrontsAreFound) (no_law : NoMailForStrangers) (rest_law : QuietFrontsRest)
-    (words : ℕ → ℕ → ℕ × ℕ) (scenario : Scenario) (first : Base) (journal quiet rows : Rows) (calm : IsCalmJournal words scenario journal) (o : IsOrderedSince words scenario first journal quiet rows) (still : is_quiet (players words (births as_nodes scenario)) rows ≡ true)
+module _ (all_bounded : ValidScenariosAreBounded) (few_law : SlotsAreLeft) (born_law : ScenariosAreKeptBorn) (rosters_law : SlotsHaveRosters) (over_law : QuietScenesAreOver) (nothing_law : QuietLeadersHaveNothing) (rounds_law : OrdersKeepRounds) (seen_law : RoundsAreSeen) (found_law : FrontsAreFound) (no_law : NoMailForStrangers) (rest_law : QuietFrontsRest)
+    (words : ℕ → ℕ → ℕ × ℕ) (scenario : Scenario) (first : Base) (others : List Base) (journal quiet rows : Rows) (groups : scenario.groups ≡ first ∷ others) (calm : IsCalmJournal words scenario journal) (o : IsOrderedSince words scenario first journal quiet rows) (still : is_quiet (players words (births as_nodes scenario)) rows ≡ true)
     (besides : IsOverBesides words scenario first rows) where
   abbrev all : List (Seat Player)
   all = births as_nodes scenario
@@ -101,6 +113,20 @@ module _ (few_law : SlotsAreLeft) (born_law : ScenariosAreKeptBorn) (rosters_law
       let one = o.one_order in
       omega (arith, top, more, was, one)
 
+  -- clients are as they were
+  seat_is : (asks : Asks) → Among asks scenario.clients → IsSeat all (client_seat (route_of first) asks)
+  seat_is asks a =
+      seat_found all (client_seat (route_of first) asks) (all_apart scenario (all_bounded scenario calm.valid))
+      (among-right (client_seat (route_of first) asks) (map (node_seat as_nodes scenario.groups scenario.policy) (numbers_from 1 scenario.nodes)) (client_seats scenario.groups scenario.clients)
+      (subst (λ bases. Among (client_seat (route_of first) asks) (client_seats bases scenario.clients)) (sym groups) (map_among (client_seat (route_of first)) scenario.clients asks a)))
+
+  players_so : (asks : Asks) → Among asks scenario.clients → (client : ClientState) × (value player_table (client_seat (route_of first) asks) rows ≡ Client client) × (client.me ≡ asks.client) × (client.requests ≡ asks.ops)
+      × Among (has_gone rows (client_actor asks.client), client) under.rests.is.clients
+  players_so asks a =
+      let p = under.rests.is.players asks a in
+      let h = o.clients (client_seat (route_of first) asks) p.0 (seat_is asks a) p.1 in
+      (p.0, h.0, p.2, p.3, subst (λ b. Among (b, p.0) under.rests.is.clients) (sym h.1) p.4)
+
   q : IsQuietFront words scenario journal rows
   q = record { calm = calm; begins = under.front; quiet = still; sent = under.sent }
 
@@ -111,13 +137,13 @@ module _ (few_law : SlotsAreLeft) (born_law : ScenariosAreKeptBorn) (rosters_law
     done = λ name node r e runs. (let n = nothing name node r e runs in (besides.waits name node r e runs n.flights, (o.work.replicas name node r e).calls));
     rounds = few_rounds;
     rising = o.rising;
-    clients = besides.clients;
-    answered = besides.answered;
-    players = besides.players;
+    clients = under.rests.is.clients;
+    answered = under.rests.is.quiet.answered;
+    players = players_so;
     reached = besides.reached;
     turn = besides.turn;
     turns = besides.turns;
   })
 
-pub orders_leave : SlotsAreLeft → ScenariosAreKeptBorn → SlotsHaveRosters → QuietScenesAreOver → QuietLeadersHaveNothing → OrdersKeepRounds → RoundsAreSeen → FrontsAreFound → NoMailForStrangers → QuietFrontsRest → OrdersLeaveResting
+pub orders_leave : ValidScenariosAreBounded → SlotsAreLeft → ScenariosAreKeptBorn → SlotsHaveRosters → QuietScenesAreOver → QuietLeadersHaveNothing → OrdersKeepRounds → RoundsAreSeen → FrontsAreFound → NoMailForStrangers → QuietFrontsRest → OrdersLeaveResting
 orders_leave = rests

@@ -55,7 +55,7 @@ use Rattle.sc_calm_answers_law.proofs.Seeing.{told_idly}
 use Rattle.sc_calm_answers_law.proofs.Turned.{IsTurn, TurnRests, TurnBears, TurnTakes, TurnMakes, TurnTold}
 use Rattle.sc_calm_answers_law.specs.Fates.{AreFated}
 use Rattle.sc_calm_answers_law.proofs.Fates.{idle_fates, takes_fates, leads_fates, elects_fates}
-use Rattle.sc_calm_answers_law.proofs.Hinted.{told_fit, own_body, none_flies, told_or, takes_by}
+use Rattle.sc_calm_answers_law.proofs.RiseHinted.{told_fit, own_body, none_flies, told_or, takes_by}
 use Rattle.sc_calm_answers_law.proofs.Lists.{round_most, member_open}
 
 some_is : {X : Type 0} (x y : X) → Some x ≡ Some y → x ≡ y

@@ -24,7 +24,7 @@ use Rattle.sc_calm_answers_law.specs.KnownFronts.{IsQuietFront, FrontsAreFound, 
 use Rattle.sc_calm_answers_law.specs.Known.{AreAllThere, StillFrontsAreFree}
 use Rattle.sc_calm_answers_law.specs.There.{FrontsAreThere}
 use Rattle.sc_calm_answers_law.proofs.Known.{most, last_state}
-use Rattle.sc_calm_answers_law.proofs.Reaching.{last}
+use Rattle.sc_calm_answers_law.proofs.KnownReaching.{last}
 
 -- what is bound by nothing is free
 unbound_free : (l : Lock) (core : Core) → bond_in l core ≡ Unbound → l ≡ Free

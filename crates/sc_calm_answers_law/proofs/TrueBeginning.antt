@@ -63,7 +63,7 @@ one_none : (work : Work) (xs : List Work) → xs ≡ work ∷ [] → xs ≡ [] �
 one_none work xs e none = cc
 
 -- an order leads from nothing to its command, or nowhere
-begun_so : (group : Draw) (later : Stage) → IsStepOf group Still later → (later ≡ Still) ⊎ ((chief : ℕ) × (work : Work) × (later ≡ Ordered group chief work))
+pub begun_so : (group : Draw) (later : Stage) → IsStepOf group Still later → (later ≡ Still) ⊎ ((chief : ℕ) × (work : Work) × (later ≡ Ordered group chief work))
 begun_so group later (ByRest e) = inl e
 begun_so group later (ByOrder s) = inr (s.chief, s.work, s.after_is)
 begun_so group later (ByChange s) = (let e = s.before_is in absurd cc)
@@ -83,10 +83,10 @@ begun_so group later (ByEnd (LastFreed tx party e l g a)) = absurd cc
 begun_so group later (ByEnd (OneFreed tx one two e l g a)) = absurd cc
 begun_so group later (ByEnd (TwoFreed tx one two e l g a)) = absurd cc
 
-still_unbound : (now : Scene) → IsAt Still now → (name : Draw) → (now.at name).bond ≡ Unbound
+pub still_unbound : (now : Scene) → IsAt Still now → (name : Draw) → (now.at name).bond ≡ Unbound
 still_unbound now a name = ap (λ (h : Here). h.bond) (a.parties.1 name tt)
 
-ordered_unbound : (now : Scene) (group : Draw) (chief : ℕ) (work : Work) → IsAt (Ordered group chief work) now → (name : Draw) → (now.at name).bond ≡ Unbound
+pub ordered_unbound : (now : Scene) (group : Draw) (chief : ℕ) (work : Work) → IsAt (Ordered group chief work) now → (name : Draw) → (now.at name).bond ≡ Unbound
 ordered_unbound now group chief work a name = elim (cases-draw name group) [
   | inl is ↦ ap (λ n. (now.at n).bond) is ∙ ap (λ (h : Here). h.bond) a.parties.0.0
   | inr ne ↦ ap (λ (h : Here). h.bond) (a.parties.1 name (ne, tt))

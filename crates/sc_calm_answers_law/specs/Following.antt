@@ -19,7 +19,7 @@ use Rattle.sc_calm_charts_law.specs.Following.{WaitsForNone}
 use Rattle.sc_calm_orders_law.specs.Stages.{Stage, IsAt}
 use Rattle.sc_calm_scenes_law.specs.Kept.{StageAfter}
 use Rattle.sc_calm_scenes_law.specs.Scenes.{scene_at}
-use Rattle.sc_calm_answers_law.specs.Asking.{AllLeadAlone}
+use Rattle.sc_calm_answers_law.specs.KeptAsking.{AllLeadAlone}
 
 -- The chart after a row of an order follows that before it, where the stage after the row is that before it or one to which the row leads, each replica that runs leads alone, before it and after it, and no client waits once it is quiet.
 abbrev pub OrderChartsFollow : Type 0

@@ -30,7 +30,7 @@ use Rattle.sc_calm_answers_law.specs.Beside.{IsUnsettled}
 use Rattle.sc_calm_answers_law.specs.Votes.{IsOrdersAlone}
 use Rattle.sc_calm_answers_law.specs.Journal.{IsCalmJournal, AreSent, GoesOnBy}
 use Rattle.sc_calm_answers_law.specs.JournalUnder.{IsUnder}
-use Rattle.sc_calm_answers_law.specs.Asking.{AllLeadAlone}
+use Rattle.sc_calm_answers_law.specs.KeptAsking.{AllLeadAlone}
 
 -- what is in flight or ready at a leader is work alone; each command in flight is an entry of an order that leaves at most nine members; and no call waits while one is in flight
 pub record CountsEntries (r : ReplicaState) : Type 0 where

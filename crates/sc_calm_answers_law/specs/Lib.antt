@@ -1,7 +1,6 @@
 pub mod Above
 pub mod Along
 pub mod Arcs
-pub mod Asking
 pub mod Bearing
 pub mod Begins
 pub mod Beside
@@ -20,6 +19,7 @@ pub mod Guided
 pub mod Hinting
 pub mod Journal
 pub mod JournalUnder
+pub mod KeptAsking
 pub mod KeptFinding
 pub mod KeptRising
 pub mod KeptTelling
@@ -41,6 +41,7 @@ pub mod Outcomes
 pub mod Over
 pub mod OverEnding
 pub mod OverJournals
+pub mod Reached
 pub mod Recorded
 pub mod Requested
 pub mod Resting
@@ -62,6 +63,7 @@ pub mod Told
 pub mod TrueBeginning
 pub mod TrueEntries
 pub mod TrueGoing
+pub mod TrueHinted
 pub mod TrueUnder
 pub mod Unsettled
 pub mod Viewing

@@ -5,18 +5,17 @@ use Rattle.sc_base.specs.declared.names.Draw.{Draw}
 use Rattle.sc_cmd.specs.declared.cores.Base.{Base}
 use Rattle.sc_cmd.specs.declared.orders.OrderLine.{OrderLine}
 use Rattle.sc_mail.specs.declared.bodies.Mail.{Mail}
-use Rattle.sc_mail.specs.declared.bodies.MailBody.TheVariants.{TxElsewhere}
 use Rattle.sc_mail.specs.declared.roles.Role.TheVariants.{Client}
 use Rattle.sc_actor.specs.declared.actors.Seat.{Seat}
 use Rattle.sc_actor.specs.declared.rows.Event.TheVariants.{Deliver, Told}
 use Rattle.sc_actor.specs.Mail.{mails}
 use Rattle.sc_actor.specs.Replay.{value}
+use Rattle.sc_actor.specs.System.{has_gone}
 use Rattle.sc_client_table.specs.Client.{Client as ClientState}
 use Rattle.sc_orderly_law.specs.Orderly.{is_born, orders, rest}
 use Rattle.sc_orderly_law.specs.Timely.{AreInTime}
 use Rattle.sc_scenario.specs.declared.scenarios.Scenario.{Scenario}
-use Rattle.sc_node_table.specs.Node.{NodeState, replica_of, group_of_mail}
-use Rattle.sc_node_table.specs.Replica.{ReplicaState}
+use Rattle.sc_node_table.specs.Node.{group_of_mail}
 use Rattle.sc_sound.specs.GroupsOf.{groups_at}
 use Rattle.sc_sound.specs.Players.{Player, player_table, births, as_nodes}
 use Rattle.sc_calm_law.specs.Charts.{players}
@@ -24,7 +23,6 @@ use Rattle.sc_calm_law.specs.Keeping.{FindsCalm}
 use Rattle.sc_calm_law.specs.Totals.{Rows}
 use Rattle.sc_calm_rows_law.specs.Turns.{IsSeat, with_event}
 use Rattle.sc_calm_scenes_law.specs.Quiet.{GoesToActor}
-use Rattle.sc_calm_scenes_law.specs.Taken.{IsTaking}
 use Rattle.sc_calm_charts_law.specs.Charting.{chart_at}
 use Rattle.sc_calm_charts_law.specs.Fronts.{quiet_front}
 use Rattle.sc_budget_law.specs.AskingQuiet.{replicas_after, DoHintsRise}
@@ -35,6 +33,7 @@ use Rattle.sc_calm_answers_law.specs.RiseRounds.{IsRoundSince}
 use Rattle.sc_calm_answers_law.specs.Journal.{IsCalmJournal, IsFront, GoesOnBy}
 use Rattle.sc_calm_answers_law.specs.Resting.{RestsAt}
 use Rattle.sc_calm_answers_law.specs.JournalUnder.{IsUnder}
+use Rattle.sc_calm_answers_law.specs.TrueHinted.{IsHinted}
 use Rattle.sc_calm_answers_law.specs.Settled.{AreSettled}
 use Rattle.sc_calm_answers_law.specs.TrueUnder.{IsTrueSince}
 use Rattle.sc_calm_answers_law.specs.Borne.{AreBorneSo}
@@ -49,7 +48,7 @@ IsNamedGroup scenario journal name = (base : Base) × Among base (groups_at as_n
 abbrev pub IsOfJournal : Scenario → Rows → Mail → Type 0
 IsOfJournal scenario journal mail = (name : Draw) → group_of_mail mail.body ≡ Some name → IsNamedGroup scenario journal name
 
--- An order is under way since a quiet front that rests: what is known of its stage, of the groups that it has not touched, of those that left a group, of rounds, of its transaction, of its coordinator, of what stands at groups, and of the child that it makes; and each mail under way is of a group of the journal.
+-- An order is under way since a quiet front that rests: what is known of its stage, of the groups that it has not touched, of those that left a group, of rounds, of its transaction, of its coordinator, of what stands at groups, and of the child that it makes; clients are as they were; and each mail under way is of a group of the journal.
 pub record IsOrderedSince (words : ℕ → ℕ → ℕ × ℕ) (scenario : Scenario) (first : Base) (journal quiet rows : Rows) : Type 0 where
   pub behind : Rows
   pub rows_are : rows ≡ quiet ++ behind
@@ -59,11 +58,13 @@ pub record IsOrderedSince (words : ℕ → ℕ → ℕ × ℕ) (scenario : Scena
   pub round : (base : Base) (among : Among base (groups_at as_nodes scenario.groups journal)) → IsRoundSince (under.rests.sent base among).course under.stage base.core.id (under.sent base among).course
   pub true_since : IsTrueSince scenario quiet rows under.stage
   pub settled : AreSettled words scenario rows under.stage
+  pub hinted : IsHinted scenario quiet rows under.stage
   pub line : OrderLine
   pub task : Task
   pub is_task : IsTaskOf (births as_nodes scenario) quiet line task
   pub work : AreAtWork task words (births as_nodes scenario) rows
   pub borne : AreBorneSo scenario journal quiet rows task
+  pub clients : (other : Seat Player) (client : ClientState) → IsSeat (births as_nodes scenario) other → value player_table other quiet ≡ Client client → (value player_table other rows ≡ Client client) × (has_gone rows other.who ≡ has_gone quiet other.who)
   pub known : (who : ℕ) → is_born (players words (births as_nodes scenario)) who ≡ true → Each (IsOfJournal scenario journal) (rest (players words (births as_nodes scenario)) rows who)
 
 -- So it is from an order on that is told in a quiet front that rests, where errands went to players, which finds what keeps the journal calm.
@@ -74,17 +75,11 @@ OrdersBeginOrdered =
     → IsOrderedSince words scenario first journal quiet (with_event quiet seat (Told line))
     × ((far sent : ℕ) → FindsCalm (chart_at far sent (players words (births as_nodes scenario)) quiet) (births as_nodes scenario) quiet seat (Told line))
 
--- What is asked besides of a delivery: a node takes it; and a coordinator that is to ask elsewhere is told whom.
-pub record IsGivenBesides (words : ℕ → ℕ → ℕ × ℕ) (scenario : Scenario) (rows : Rows) (seat : Seat Player) (number : ℕ) : Type 0 where
-  pub nodes : (client : ClientState) → value player_table seat rows ≡ Client client → ⊥
-  pub elsewhere : (mail : Mail) (group : Draw) (node : NodeState) (r : ReplicaState) (tx coord : Draw) (hint : Option ℕ) → IsTaking words (births as_nodes scenario) rows seat number mail group node → replica_of group node.replicas ≡ Some r
-      → mail.body ≡ TxElsewhere tx coord hint → r.running ≡ true → (to : ℕ) × (hint ≡ Some to)
-
--- Then all this holds after it, and it finds what keeps the journal calm, by the chart of the rows before it.
+-- All this holds after a delivery that a node takes, which finds what keeps the journal calm, by the chart of the rows before it.
 abbrev pub DeliveriesKeepOrdered : Type 0
 DeliveriesKeepOrdered =
     (words : ℕ → ℕ → ℕ × ℕ) (scenario : Scenario) (first : Base) (journal quiet rows : Rows) (seat : Seat Player) (number : ℕ) → IsCalmJournal words scenario journal
-    → IsOrderedSince words scenario first journal quiet rows → GoesOnBy words scenario journal rows seat number → IsGivenBesides words scenario rows seat number
+    → IsOrderedSince words scenario first journal quiet rows → GoesOnBy words scenario journal rows seat number → ((client : ClientState) → value player_table seat rows ≡ Client client → ⊥)
     → IsOrderedSince words scenario first journal quiet (with_event rows seat (Deliver number))
     × ((far sent : ℕ) → quiet_front (players words (births as_nodes scenario)) rows ≡ quiet → DoHintsRise (replicas_after scenario quiet) (chart_at far sent (players words (births as_nodes scenario)) rows).ways
     → FindsCalm (chart_at far sent (players words (births as_nodes scenario)) rows) (births as_nodes scenario) rows seat (Deliver number))

@@ -1,22 +1,16 @@
 -- That a calm journal rests again once an order is over.
-use Rattle.std.specs.Prelude.{◌≡◌, ℕ, Bool, true, List, [], Some}
-use Rattle.sc_base.specs.Among.{Among, Each}
-use Rattle.sc_base.specs.Limits.{client_actor}
+use Rattle.std.specs.Prelude.{◌≡◌, ℕ, true, List, [], ◌∷◌, Some}
+use Rattle.sc_base.specs.Among.{Each}
 use Rattle.sc_base.specs.declared.names.Draw.{Draw}
 use Rattle.sc_cmd.specs.declared.cores.Base.{Base}
-use Rattle.sc_mail.specs.declared.roles.Role.TheVariants.{Client}
 use Rattle.sc_member.specs.Roster.{least_of}
 use Rattle.sc_actor.specs.Mail.{mails}
-use Rattle.sc_actor.specs.Replay.{value}
-use Rattle.sc_actor.specs.System.{has_gone}
 use Rattle.sc_actor.specs.Walk.{is_quiet}
-use Rattle.sc_client_table.specs.Client.{Client as ClientState}
-use Rattle.sc_scenario.specs.declared.scenarios.Asks.{Asks}
 use Rattle.sc_scenario.specs.declared.scenarios.Scenario.{Scenario}
 use Rattle.sc_node_table.specs.Replica.{ReplicaState}
-use Rattle.sc_sound.specs.Players.{player_table, births, client_seat, route_of, as_nodes}
+use Rattle.sc_sound.specs.Players.{births, route_of, as_nodes}
 use Rattle.sc_calm_law.specs.Charts.{players}
-use Rattle.sc_calm_law.specs.Quiet.{HasReplica, IsAnswered}
+use Rattle.sc_calm_law.specs.Quiet.{HasReplica}
 use Rattle.sc_calm_law.specs.Totals.{Rows}
 use Rattle.sc_calm_rows_law.specs.Groups.{view_at}
 use Rattle.sc_calm_scenes_law.specs.Quiet.{GoesToActor}
@@ -27,14 +21,10 @@ use Rattle.sc_calm_answers_law.specs.Journal.{IsCalmJournal}
 use Rattle.sc_calm_answers_law.specs.Resting.{RestsAt}
 use Rattle.sc_calm_answers_law.specs.Ordered.{IsOrderedSince}
 
--- Errands went to players; where nothing is in flight at a leader, no act waits; clients are as they were before the order, and groups went one after another.
+-- Errands went to players; where nothing is in flight at a leader, no act waits; the scenario's first group has a replica where clients ask first, and groups went one after another.
 pub record IsOverBesides (words : ℕ → ℕ → ℕ × ℕ) (scenario : Scenario) (first : Base) (rows : Rows) : Type 0 where
   pub errands : Each (GoesToActor words (births as_nodes scenario)) (mails rows)
   pub waits : (name : Draw) (node : ℕ) (r : ReplicaState) → view_at (births as_nodes scenario) rows name node ≡ Some r → r.running ≡ true → r.leader.flights ≡ [] → r.acts ≡ []
-  pub clients : List (Bool × ClientState)
-  pub answered : Each (λ client. IsAnswered client.0 (route_of first) client.1) clients
-  pub players : (asks : Asks) → Among asks scenario.clients → (client : ClientState) × (value player_table (client_seat (route_of first) asks) rows ≡ Client client) × (client.me ≡ asks.client) × (client.requests ≡ asks.ops)
-      × Among (has_gone rows (client_actor asks.client), client) clients
   pub reached : HasReplica (replicas_after scenario rows) (route_of first).group (least_of (route_of first).members)
   pub turn : Draw → ℕ
   pub turns : GoInTurn (names_at (births as_nodes scenario) rows) (all_replicas (births as_nodes scenario) rows) turn
@@ -42,5 +32,5 @@ pub record IsOverBesides (words : ℕ → ℕ → ℕ × ℕ) (scenario : Scenar
 -- Then the journal rests again once it is quiet.
 abbrev pub OrdersLeaveResting : Type 0
 OrdersLeaveResting =
-    (words : ℕ → ℕ → ℕ × ℕ) (scenario : Scenario) (first : Base) (journal quiet rows : Rows) → IsCalmJournal words scenario journal → IsOrderedSince words scenario first journal quiet rows → is_quiet (players words (births as_nodes scenario)) rows ≡ true
+    (words : ℕ → ℕ → ℕ × ℕ) (scenario : Scenario) (first : Base) (others : List Base) (journal quiet rows : Rows) → scenario.groups ≡ first ∷ others → IsCalmJournal words scenario journal → IsOrderedSince words scenario first journal quiet rows → is_quiet (players words (births as_nodes scenario)) rows ≡ true
     → IsOverBesides words scenario first rows → RestsAt words scenario first journal rows

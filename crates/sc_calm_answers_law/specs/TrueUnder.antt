@@ -4,7 +4,7 @@ use Rattle.sc_base.specs.Among.{Each}
 use Rattle.sc_base.specs.declared.names.Draw.{Draw}
 use Rattle.sc_scenario.specs.declared.scenarios.Scenario.{Scenario}
 use Rattle.sc_sound.specs.Players.{as_nodes, births}
-use Rattle.sc_calm_law.specs.Quiet.{HasReplica, StandsQuiet}
+use Rattle.sc_calm_law.specs.Quiet.{StandsQuiet}
 use Rattle.sc_calm_law.specs.Totals.{Rows}
 use Rattle.sc_calm_orders_law.specs.Stages.{Stage, Still, Ordered, Asks, SentOn, Weighs, Replied, Recorded, Closes, ClosesBoth}
 use Rattle.sc_calm_rows_law.specs.Groups.{view_at}
@@ -27,18 +27,6 @@ asked_of (Replied deal agreed host) = deal.asked ∷ []
 asked_of (Recorded deal agreed host) = deal.asked ∷ []
 asked_of (Closes tx party) = []
 asked_of (ClosesBoth tx one two) = []
-
--- a question that is under way goes to a node that has a replica of its group
-abbrev pub GoesToReplica : Scenario → Rows → Stage → Type 0
-GoesToReplica scenario quiet (Asks deal to) = HasReplica (replicas_after scenario quiet) deal.asked to
-GoesToReplica scenario quiet Still = Unit {0}
-GoesToReplica scenario quiet (Ordered group chief work) = Unit {0}
-GoesToReplica scenario quiet (SentOn deal) = Unit {0}
-GoesToReplica scenario quiet (Weighs deal host) = Unit {0}
-GoesToReplica scenario quiet (Replied deal agreed host) = Unit {0}
-GoesToReplica scenario quiet (Recorded deal agreed host) = Unit {0}
-GoesToReplica scenario quiet (Closes tx party) = Unit {0}
-GoesToReplica scenario quiet (ClosesBoth tx one two) = Unit {0}
 
 -- Of an order at a stage after some rows, since a quiet journal: its transaction has a name that was not in use then; its leaders have executed what the stage says, and no more; and the group that is asked stood then.
 pub record IsTrueSince (scenario : Scenario) (quiet rows : Rows) (stage : Stage) : Type 0 where

@@ -38,6 +38,7 @@ pub fn journals_begin_resting()
 pub fn orders_leave_resting()
     ensures { OrdersLeaveResting }
 {
+    valid_scenarios_are_bounded();
     slots_are_left();
     scenarios_are_kept_born();
     slots_have_rosters();

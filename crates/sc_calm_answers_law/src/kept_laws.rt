@@ -1,6 +1,6 @@
 //! That rows of a calm journal find what keeps it calm. Definitions and laws, no logic.
-ghost use Rattle.sc_calm_answers_law.specs.Asking.{StagesAsk};
 ghost use Rattle.sc_calm_answers_law.specs.Following.{OrderChartsFollow};
+ghost use Rattle.sc_calm_answers_law.specs.KeptAsking.{StagesAsk};
 ghost use Rattle.sc_calm_answers_law.specs.KeptFinding.{OrderRowsFindCalm};
 ghost use Rattle.sc_calm_answers_law.specs.KeptRising.{ChartHintsRise};
 ghost use Rattle.sc_calm_answers_law.specs.KeptTelling.{ToldOrdersFindCalm};

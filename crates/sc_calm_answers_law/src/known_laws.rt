@@ -21,6 +21,7 @@ ghost use Rattle.sc_calm_answers_law.specs.KnownTurns.{FrontsGoInTurn, FrontsSta
 ghost use Rattle.sc_calm_answers_law.specs.Links.{LinksWereMembers};
 ghost use Rattle.sc_calm_answers_law.specs.Noted.{FrontsAreNoted, IssuedAreBegun};
 ghost use Rattle.sc_calm_answers_law.specs.Offered.{GroupsAreAskedThrough};
+ghost use Rattle.sc_calm_answers_law.specs.Reached.{FirstGroupsAreReached};
 ghost use Rattle.sc_calm_answers_law.specs.Strangers.{NoMailForStrangers};
 ghost use Rattle.sc_calm_answers_law.specs.There.{
   ChildrenAreMade,
@@ -297,4 +298,12 @@ pub fn fronts_stay_in_turn()
     ensures { FrontsStayInTurn }
 {
     fronts_go_in_turn();
+}
+
+/// The groups of the scenario have replicas at their first members in each front of a calm journal.
+pub fn first_groups_are_reached()
+    ensures { FirstGroupsAreReached }
+{
+    valid_scenarios_are_bounded();
+    fronts_are_found();
 }

@@ -47,8 +47,8 @@ pub use kept_laws::{
 mod known_laws;
 
 pub use known_laws::{
-    children_are_made, entries_bear_children, free_groups_have_arcs, fronts_are_found,
-    fronts_are_known, fronts_are_linked, fronts_are_noted, fronts_are_reachable,
+    children_are_made, entries_bear_children, first_groups_are_reached, free_groups_have_arcs,
+    fronts_are_found, fronts_are_known, fronts_are_linked, fronts_are_noted, fronts_are_reachable,
     fronts_are_taken_in, fronts_are_there, fronts_go_in_turn, fronts_gone_agree,
     fronts_have_members, fronts_stay_in_turn, groups_are_asked_through, issued_are_begun,
     links_were_members, members_are_home, no_mail_for_strangers, quiet_courses_end,
@@ -91,10 +91,10 @@ pub use setting_laws::{quiet_charts_count, quiet_journals_have_frames, quiet_set
 mod true_laws;
 
 pub use true_laws::{
-    asked_groups_stood, coordinators_are_settled, entries_are_true, finishes_are_true,
-    mail_comes_unsettled, outcomes_are_taken, records_are_true, replicas_tell,
-    settled_orders_begin, settled_orders_go_on, true_orders_begin, true_orders_go_on,
-    votes_are_true,
+    asked_groups_stood, coordinators_are_hinted, coordinators_are_settled, entries_are_true,
+    finishes_are_true, hinted_orders_begin, hinted_orders_go_on, mail_comes_unsettled,
+    outcomes_are_taken, records_are_true, replicas_tell, settled_orders_begin,
+    settled_orders_go_on, true_orders_begin, true_orders_go_on, votes_are_true,
 };
 
 mod work_laws;

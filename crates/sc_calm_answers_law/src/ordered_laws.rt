@@ -9,8 +9,9 @@ use crate::known_laws::{fronts_are_found, no_mail_for_strangers};
 use crate::rise_laws::{next_rows_rise, orders_keep_rounds};
 use crate::sent_laws::{next_rows_are_sent, sent_replicas};
 use crate::true_laws::{
-    asked_groups_stood, coordinators_are_settled, entries_are_true, mail_comes_unsettled,
-    records_are_true, replicas_tell, settled_orders_begin, settled_orders_go_on, true_orders_begin,
+    asked_groups_stood, coordinators_are_hinted, coordinators_are_settled, entries_are_true,
+    hinted_orders_begin, hinted_orders_go_on, mail_comes_unsettled, records_are_true,
+    replicas_tell, settled_orders_begin, settled_orders_go_on, true_orders_begin,
     true_orders_go_on,
 };
 use crate::work_laws::{deliveries_keep_work, orders_begin_work, work_stands_alone};
@@ -57,6 +58,8 @@ pub fn deliveries_keep_ordered()
     order_rows_find_calm();
     settled_orders_go_on();
     coordinators_are_settled();
+    hinted_orders_go_on();
+    coordinators_are_hinted();
     entries_are_true();
     flights_are_entries();
     mail_may_come();
@@ -84,6 +87,7 @@ pub fn orders_begin_ordered()
     young_groups_stay();
     true_orders_begin();
     settled_orders_begin();
+    hinted_orders_begin();
     orders_begin_work();
     children_are_borne();
     next_rows_rise();

@@ -12,6 +12,11 @@ ghost use Rattle.sc_calm_answers_law.specs.Told.{ReplicasTell};
 ghost use Rattle.sc_calm_answers_law.specs.TrueBeginning.{TrueOrdersBegin};
 ghost use Rattle.sc_calm_answers_law.specs.TrueEntries.{VotesAreTrue};
 ghost use Rattle.sc_calm_answers_law.specs.TrueGoing.{AskedGroupsStood, TrueOrdersGoOn};
+ghost use Rattle.sc_calm_answers_law.specs.TrueHinted.{
+  CoordinatorsAreHinted,
+  HintedOrdersBegin,
+  HintedOrdersGoOn,
+};
 ghost use Rattle.sc_calm_answers_law.specs.Unsettled.{MailComesUnsettled};
 
 use sc_names_law::{
@@ -148,3 +153,21 @@ pub fn coordinators_are_settled()
 {
     replicas_tell();
 }
+
+/// Since a quiet journal each question of an order goes to a node that has a replica of its group,
+/// and one that sends it on names such a node: an order that is told asks nobody yet.
+pub fn hinted_orders_begin()
+    ensures { HintedOrdersBegin }
+{}
+
+/// And a leader asks the least member by a link, or whom it is told.
+pub fn hinted_orders_go_on()
+    ensures { HintedOrdersGoOn }
+{
+    replicas_tell();
+}
+
+/// So a coordinator that is to ask elsewhere is told whom.
+pub fn coordinators_are_hinted()
+    ensures { CoordinatorsAreHinted }
+{}

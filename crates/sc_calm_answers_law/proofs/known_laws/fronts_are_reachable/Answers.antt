@@ -1,4 +1,4 @@
-use Rattle.sc_calm_answers_law.proofs.Reaching.{fronts_are_reachable}
+use Rattle.sc_calm_answers_law.proofs.KnownReaching.{fronts_are_reachable}
 use Rattle.sc_calm_answers_law.proofs.known_laws.fronts_are_reachable.Goals as goal
 
 pub returns : goal.returns

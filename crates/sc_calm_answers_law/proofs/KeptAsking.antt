@@ -24,7 +24,7 @@ use Rattle.sc_calm_orders_law.specs.Stages.{Leg, Mailed, Filed, closing, heard, 
 use Rattle.sc_calm_orders_law.proofs.Lists.{tokens, tagged, found}
 use Rattle.sc_calm_scenes_law.specs.Scenes.{scene_at}
 use Rattle.sc_calm_scenes_law.specs.Turns.{LeadsAlone, ScenesTell}
-use Rattle.sc_calm_answers_law.specs.Asking.{AllLeadAlone, StagesAsk}
+use Rattle.sc_calm_answers_law.specs.KeptAsking.{AllLeadAlone, StagesAsk}
 
 -- ---- who asks in a stage
 

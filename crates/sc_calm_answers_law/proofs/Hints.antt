@@ -1,0 +1,123 @@
+-- Whom a question goes to has a replica, and whom a replica of its group names that does not lead.
+use Rattle.std.proofs.Common.{◌≡◌, ℕ, Bool, true, List, [], ◌∷◌, ◌++◌, Option, Some, inl, inr, refl, sym, ◌∙◌, ap, subst, append_assoc}
+use Rattle.std.proofs.lemmas.Bool.{cases_eq}
+use Rattle.sc_base.specs.Among.{Among}
+use Rattle.sc_base.specs.declared.names.Draw.{Draw}
+use Rattle.sc_actor.specs.declared.actors.Seat.{Seat}
+use Rattle.sc_actor.specs.declared.rows.Event.TheVariants.{Deliver}
+use Rattle.sc_actor.specs.System.{row_of}
+use Rattle.sc_cmd.specs.declared.commands.Command.{Command}
+use Rattle.sc_cmd.specs.declared.cores.Base.{Base}
+use Rattle.sc_machine_table.specs.Group.{Group}
+use Rattle.sc_machine_table.specs.Logs.{state_after}
+use Rattle.sc_mail.specs.declared.bodies.MailBody.{MailBody}
+use Rattle.sc_mail.specs.declared.bodies.MailBody.TheVariants.{Accepted, TxElsewhere}
+use Rattle.sc_member.specs.Roster.{least_of}
+use Rattle.sc_node_table.specs.Node.{group_of_mail}
+use Rattle.sc_node_table.specs.Replica.{ReplicaState}
+use Rattle.sc_paxos_words.specs.declared.flights.Flight.{Flight}
+use Rattle.sc_scenario.specs.declared.scenarios.Scenario.{Scenario}
+use Rattle.sc_sound.specs.Players.{Player, as_nodes, births, player_table}
+use Rattle.sc_budget_law.specs.AskingQuiet.{replicas_after}
+use Rattle.sc_calm_law.specs.Quiet.{HasReplica}
+use Rattle.sc_calm_law.specs.Totals.{Rows}
+use Rattle.sc_calm_orders_law.specs.Parts.{errands_for, work_by, works}
+use Rattle.sc_calm_orders_law.specs.Scenes.{Errand, Here, Question, Work, is_watch}
+use Rattle.sc_calm_orders_law.specs.Stages.{Asks, Deal, IsAt, Stage}
+use Rattle.sc_calm_rows_law.specs.Groups.{view_at}
+use Rattle.sc_calm_rows_law.specs.Turns.{with_event}
+use Rattle.sc_calm_rows_law.proofs.Viewing.{view_others}
+use Rattle.sc_calm_scenes_law.specs.Scenes.{left_after, scene_at}
+use Rattle.sc_calm_answers_law.specs.Deeds.{AreDeeds, Doer, HasDone}
+use Rattle.sc_calm_answers_law.specs.TrueGoing.{GoesOnSince}
+use Rattle.sc_calm_answers_law.specs.Told.{ReplicasTell}
+use Rattle.sc_calm_answers_law.proofs.TrueAsking.{Nothing, Sending, Sends, errand_was, errands_are, leader_row, one}
+use Rattle.sc_calm_answers_law.proofs.Doers.{lead_works}
+use Rattle.sc_calm_answers_law.proofs.Hinting.{among_split}
+use Rattle.sc_calm_answers_law.proofs.Pending.{question_at}
+use Rattle.sc_calm_answers_law.proofs.TrueQuiet.{link_least}
+use Rattle.sc_calm_answers_law.proofs.TrueSending.{AsksOn, Enters, IsSending, Mute}
+use Rattle.sc_calm_answers_law.proofs.Since.{led_first}
+
+one_none : (work : Work) (xs : List Work) → xs ≡ work ∷ [] → xs ≡ [] → ⊥
+one_none work xs e none = cc
+
+pub no_deeds : (entries : List Command) (group made : Group) → AreDeeds [] entries → made ≡ state_after group entries → made ≡ group
+no_deeds [] group made are e = e
+no_deeds (c ∷ cs) group made are e = absurd are
+
+pub some_same : (a b : ReplicaState) → Some a ≡ Some b → a ≡ b
+some_same a b e = cc
+
+pub not_both : (tx coord : Draw) (hint : Option ℕ) (named : Draw) (ballot : _) (slot : ℕ) → TxElsewhere tx coord hint ≡ Accepted named ballot slot → ⊥
+not_both tx coord hint named ballot slot e = cc
+
+pub same_hint : (t tx c coord : Draw) (h hint : Option ℕ) → TxElsewhere t c h ≡ TxElsewhere tx coord hint → h ≡ hint
+same_hint t tx c coord h hint e = cc
+
+pub the_work : (work other : Work) → Among work (other ∷ []) → other ≡ work
+the_work work other (inl e) = e
+the_work work other (inr a) = absurd a
+
+module _ (tells : ReplicasTell) (words : ℕ → ℕ → ℕ × ℕ) (scenario : Scenario) (first : Base) (journal quiet rows : Rows) (seat : Seat Player) (number : ℕ) (stage : Stage) (g : GoesOnSince words scenario first journal quiet rows seat number stage) where
+  abbrev all : List (Seat Player)
+  all = births as_nodes scenario
+
+  abbrev next : Rows
+  next = with_event rows seat (Deliver number)
+
+  abbrev more : Rows
+  more = row_of player_table seat rows (Deliver number) ∷ g.goes.front.more
+
+  pub front : journal ≡ rows ++ (row_of player_table seat rows (Deliver number) ∷ g.goes.front.more)
+  front = g.goes.front.is ∙ append_assoc rows (row_of player_table seat rows (Deliver number) ∷ []) g.goes.front.more
+
+  -- the least member by a link of one that did something
+  pub least_at : (it : Doer) (d : HasDone (births as_nodes scenario) quiet (with_event rows seat (Deliver number)) it) → HasReplica (replicas_after scenario quiet) d.first.group.core.succ.group (least_of d.first.group.core.succ.members)
+  least_at it d =
+      let s = led_first tells words scenario first journal quiet next g.goes.front.more g.goes.front.is g.calm g.rests g.seen it d in
+      subst (λ (x : ReplicaState). HasReplica (replicas_after scenario quiet) x.group.core.succ.group (least_of x.group.core.succ.members)) (sym s.1) (link_least scenario quiet _ _ g.rests.is.quiet g.rests.known g.rests.reach it.group s.0)
+
+  -- a leader that has done its work took the mail
+  pub at_seat : (name : Draw) (host : ℕ) (r : ReplicaState) (work : Work) → view_at (births as_nodes scenario) rows name host ≡ Some r → (scene_at (births as_nodes scenario) rows).lead name ≡ Some host → ((scene_at (births as_nodes scenario) rows).at name).work ≡ work ∷ []
+      → (scene_at (births as_nodes scenario) (with_event rows seat (Deliver number))).lead name ≡ Some host → ((scene_at (births as_nodes scenario) (with_event rows seat (Deliver number))).at name).work ≡ [] → host ≡ seat.who
+  at_seat name host r work has lead had lead_then none = elim (cases_eq host seat.who) [
+    | inl e ↦ e
+    | inr ne ↦ absurd (one_none work (works r) (lead_works all rows name host r lead has ∙ had)
+        (lead_works all next name host r lead_then (view_others all rows (row_of player_table seat rows (Deliver number)) name host ne ∙ has) ∙ none))
+  ]
+
+  -- a question that was not there is sent
+  module _ (deal : Deal) (to : ℕ) (stands : IsAt (Asks deal to) (scene_at (births as_nodes scenario) (with_event rows seat (Deliver number)))) (new : (other : Deal) (n : ℕ) → stage ≡ Asks other n → ⊥) where
+    abbrev question : Errand
+    question = Question deal.tx deal.coord (is_watch deal.turn) deal.chief to
+
+    pub sent_question : Among (Question deal.tx deal.coord (is_watch deal.turn) deal.chief to) (errands_for deal.asked (row_of player_table seat rows (Deliver number)).sent)
+    sent_question =
+        let there : Among question (errands_for deal.asked (left_after next)) = subst (Among question) (sym (ap (λ (h : Here). h.errands) stands.parties.0.1.0)) (inl refl) in
+        elim (among_split question (errands_for deal.asked ((one words scenario first journal quiet rows seat number stage g).takes.before ++ (one words scenario first journal quiet rows seat number stage g).takes.behind)) (errands_for deal.asked (row_of player_table seat rows (Deliver number)).sent) (subst (Among question) (errands_are words scenario first journal quiet rows seat number stage g deal.asked) there)) [
+          | inl old ↦ (
+              let a = question_at (scene_at all rows) stage g.untouched.stands deal.asked deal.tx deal.coord (is_watch deal.turn) deal.chief to (errand_was words scenario first journal quiet rows seat number stage g deal.asked question old) in
+              absurd (new a.deal a.to a.is))
+          | inr fresh ↦ fresh
+        ]
+
+    -- .. by a leader that takes the mail
+    module _ (name : Draw) (r : ReplicaState) (has : view_at (births as_nodes scenario) rows name seat.who ≡ Some r) (runs : r.running ≡ true) (named : group_of_mail (one words scenario first journal quiet rows seat number stage g).mail.body ≡ Some name)
+        (P : ℕ → Type 0)
+        (asks_on : (tx coord : Draw) (n : ℕ) → (one words scenario first journal quiet rows seat number stage g).mail.body ≡ TxElsewhere tx coord (Some n) → P n)
+        (enters : (flight : Flight Command) → Among flight r.leader.flights → (work : Work) → work_by flight.value ≡ Some work → (body : MailBody) → (named : Draw) (ballot : _) (slot : ℕ) → (one words scenario first journal quiet rows seat number stage g).mail.body ≡ Accepted named ballot slot
+        → (asked tx coord : Draw) (watch : Bool) (by node : ℕ) (bond : _) → Rattle.sc_calm_orders_law.specs.Entries.EntryLeaves bond ((asked, Question tx coord watch by node ∷ []) ∷ []) flight.value r.me r.group → P node) where
+      pub goes_to : P to
+      goes_to = by (leader_row words scenario first journal quiet rows seat number stage g name r has runs named)
+        where
+          sending : (place : _) → IsSending (one words scenario first journal quiet rows seat number stage g).mail r place → (row_of player_table seat rows (Deliver number)).sent ≡ place.1 → P to
+          sending place (Mute k) e = absurd (k deal.asked question (subst (λ ms. Among question (errands_for deal.asked ms)) e sent_question))
+          sending place (AsksOn tx coord n body k) e = subst P (sym (k deal.asked question (subst (λ ms. Among question (errands_for deal.asked ms)) e sent_question))) (asks_on tx coord n body)
+          sending place (Enters flight among work is named ballot slot body asked tx coord watch b node bond leaves k) e =
+              subst P (sym (k deal.asked question (subst (λ ms. Among question (errands_for deal.asked ms)) e sent_question)))
+              (enters flight among work is (one words scenario first journal quiet rows seat number stage g).mail.body named ballot slot body asked tx coord watch b node bond leaves)
+
+          by : Sends words scenario first journal quiet rows seat number stage g name r has runs named → P to
+          by (Nothing e) = absurd (subst (λ ms. Among question (errands_for deal.asked ms)) e sent_question)
+          by (Sending place is e) = sending place is e

@@ -1,0 +1,18 @@
+-- That the groups of a scenario have replicas at their first members in each front of a calm journal.
+use Rattle.std.specs.Prelude.{◌≡◌, ℕ, true, List, ◌∷◌}
+use Rattle.sc_base.specs.Among.{Among}
+use Rattle.sc_cmd.specs.declared.cores.Base.{Base}
+use Rattle.sc_member.specs.Roster.{is_member, least_of}
+use Rattle.sc_scenario.specs.declared.scenarios.Scenario.{Scenario}
+use Rattle.sc_sound.specs.Players.{route_of}
+use Rattle.sc_calm_law.specs.Quiet.{HasReplica}
+use Rattle.sc_calm_law.specs.Totals.{Rows}
+use Rattle.sc_budget_law.specs.AskingQuiet.{replicas_after}
+use Rattle.sc_calm_answers_law.specs.Journal.{IsCalmJournal, IsFront}
+
+-- Each first member of a group of the scenario has a replica of it; so has the one whom clients ask first.
+pub record FirstGroupsAreReached : Type 0 where
+  pub members : (words : ℕ → ℕ → ℕ × ℕ) (scenario : Scenario) (journal front : Rows) (base : Base) → IsCalmJournal words scenario journal → IsFront journal front → Among base scenario.groups
+      → (node : ℕ) → is_member base.core.members node ≡ true → HasReplica (replicas_after scenario front) base.core.id node
+  pub first : (words : ℕ → ℕ → ℕ × ℕ) (scenario : Scenario) (journal front : Rows) (first : Base) (others : List Base) → IsCalmJournal words scenario journal → IsFront journal front → scenario.groups ≡ first ∷ others
+      → HasReplica (replicas_after scenario front) (route_of first).group (least_of (route_of first).members)

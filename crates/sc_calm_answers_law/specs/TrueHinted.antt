@@ -1,0 +1,65 @@
+-- That a coordinator that is to ask elsewhere is told whom: each question goes to a node that has a replica of its group, and one that sends it on names such a node.
+use Rattle.std.specs.Prelude.{◌≡◌, ℕ, true, Option, Some, ◌⊎◌}
+use Rattle.sc_actor.specs.declared.actors.Seat.{Seat}
+use Rattle.sc_actor.specs.declared.rows.Event.TheVariants.{Deliver, Told}
+use Rattle.sc_base.specs.Among.{Among, Each}
+use Rattle.sc_base.specs.declared.names.Draw.{Draw}
+use Rattle.sc_cmd.specs.declared.commands.Command.{Command}
+use Rattle.sc_cmd.specs.declared.cores.Base.{Base}
+use Rattle.sc_cmd.specs.declared.orders.OrderLine.{OrderLine}
+use Rattle.sc_mail.specs.declared.bodies.Mail.{Mail}
+use Rattle.sc_mail.specs.declared.bodies.MailBody.TheVariants.{TxElsewhere}
+use Rattle.sc_node_table.specs.Node.{NodeState}
+use Rattle.sc_node_table.specs.Replica.{ReplicaState}
+use Rattle.sc_paxos_words.specs.declared.flights.Flight.{Flight}
+use Rattle.sc_scenario.specs.declared.scenarios.Scenario.{Scenario}
+use Rattle.sc_sound.specs.Players.{Player, as_nodes, births}
+use Rattle.sc_budget_law.specs.AskingQuiet.{replicas_after}
+use Rattle.sc_calm_law.specs.Quiet.{HasReplica}
+use Rattle.sc_calm_law.specs.Totals.{Rows}
+use Rattle.sc_calm_answers_law.specs.Votes.{IsTrueEntry}
+use Rattle.sc_calm_orders_law.specs.Stages.{Asks, Closes, ClosesBoth, IsAt, Ordered, Recorded, Replied, SentOn, Stage, Still, Weighs}
+use Rattle.sc_calm_rows_law.specs.Groups.{view_at}
+use Rattle.sc_calm_rows_law.specs.Turns.{with_event}
+use Rattle.sc_calm_scenes_law.specs.Fresh.{IsToldInQuiet}
+use Rattle.sc_calm_scenes_law.specs.Kept.{GoesBy}
+use Rattle.sc_calm_scenes_law.specs.Scenes.{left_after, scene_at}
+use Rattle.sc_calm_answers_law.specs.TrueGoing.{GoesOnSince}
+use Rattle.sc_calm_answers_law.specs.TrueUnder.{IsTrueSince}
+use Rattle.sc_calm_answers_law.specs.Unsettled.{TakesSince}
+
+-- a mail that names whom to ask instead names a node that has a replica of this group
+abbrev pub IsHintedAt : Scenario → Rows → Draw → Mail → Type 0
+IsHintedAt scenario quiet asked mail = (tx coord : Draw) (hint : Option ℕ) → mail.body ≡ TxElsewhere tx coord hint → (to : ℕ) × (hint ≡ Some to) × HasReplica (replicas_after scenario quiet) asked to
+
+-- at a stage: a question that is under way goes to such a node, and so does each that is to be asked elsewhere
+abbrev pub IsHinted : Scenario → Rows → Rows → Stage → Type 0
+IsHinted scenario quiet rows Still = Unit {0}
+IsHinted scenario quiet rows (Ordered group chief work) = Unit {0}
+IsHinted scenario quiet rows (Asks deal to) = HasReplica (replicas_after scenario quiet) deal.asked to
+IsHinted scenario quiet rows (SentOn deal) = (mail : Mail) → Among mail (left_after rows) → IsHintedAt scenario quiet deal.asked mail
+IsHinted scenario quiet rows (Weighs deal host) = Unit {0}
+IsHinted scenario quiet rows (Replied deal agreed host) = Unit {0}
+IsHinted scenario quiet rows (Recorded deal agreed host) = Unit {0}
+IsHinted scenario quiet rows (Closes tx party) = Unit {0}
+IsHinted scenario quiet rows (ClosesBoth tx one two) = Unit {0}
+
+-- So it is from an order on that is told in a quiet front ..
+abbrev pub HintedOrdersBegin : Type 0
+HintedOrdersBegin =
+    (words : ℕ → ℕ → ℕ × ℕ) (scenario : Scenario) (quiet : Rows) (seat : Seat Player) (line : OrderLine) (stage : Stage) → IsToldInQuiet words (births as_nodes scenario) quiet seat line
+    → IsAt stage (scene_at (births as_nodes scenario) (with_event quiet seat (Told line))) → IsHinted scenario quiet (with_event quiet seat (Told line)) stage
+
+-- .. and after each delivery, where what leaders have in flight is true.
+abbrev pub HintedOrdersGoOn : Type 0
+HintedOrdersGoOn =
+    (words : ℕ → ℕ → ℕ × ℕ) (scenario : Scenario) (first : Base) (journal quiet rows : Rows) (seat : Seat Player) (number : ℕ) (stage later : Stage) → GoesOnSince words scenario first journal quiet rows seat number stage
+    → ((name : Draw) (node : ℕ) (r : ReplicaState) → view_at (births as_nodes scenario) rows name node ≡ Some r → r.running ≡ true → Each (λ (flight : Flight Command). IsTrueEntry r.me r.group flight.value) r.leader.flights)
+    → IsAt later (scene_at (births as_nodes scenario) (with_event rows seat (Deliver number))) → (later ≡ stage) ⊎ GoesBy rows (Deliver number) stage later
+    → IsTrueSince scenario quiet (with_event rows seat (Deliver number)) later → IsHinted scenario quiet rows stage → IsHinted scenario quiet (with_event rows seat (Deliver number)) later
+
+-- Then one that is to ask elsewhere is told whom.
+abbrev pub CoordinatorsAreHinted : Type 0
+CoordinatorsAreHinted =
+    (words : ℕ → ℕ → ℕ × ℕ) (scenario : Scenario) (first : Base) (journal quiet rows : Rows) (seat : Seat Player) (number : ℕ) (mail : Mail) (group : Draw) (node : NodeState) (r : ReplicaState) (stage : Stage) (tx coord : Draw) (hint : Option ℕ)
+    → TakesSince words scenario first journal quiet rows seat number mail group node r stage → IsHinted scenario quiet rows stage → mail.body ≡ TxElsewhere tx coord hint → (to : ℕ) × (hint ≡ Some to)
