@@ -18,7 +18,7 @@ use Rattle.sc_calm_answers_law.specs.Fates.{IsPassed, IsFated, EndsGone, AreFate
 use Rattle.sc_calm_answers_law.proofs.Lists.{round_most, Silent, none_silent, counts_silent, pledged_rises, fit_behind, open_or, member_open, told_nothing, told_all, offered_nothing}
 
 -- a group begins so, with all nodes taking its first leader for that
-pub fates_begin : (at : Sets) (by : Tellers) (now : Progress) (hints : ℕ → Option ℕ) → now.course.runs ≡ true → ((who : ℕ) → now.promise who ≡ now.course.ballot) → ((who : ℕ) → hints who ≡ Some now.course.ballot.node) → AreFated at by now hints (λ node. [])
+fates_begin : (at : Sets) (by : Tellers) (now : Progress) (hints : ℕ → Option ℕ) → now.course.runs ≡ true → ((who : ℕ) → now.promise who ≡ now.course.ballot) → ((who : ℕ) → hints who ≡ Some now.course.ballot.node) → AreFated at by now hints (λ node. [])
 fates_begin at by now hints runs promises hint = record {
   fates = λ who prem. inr (record { hint_is = hint who ∙ ap (λ (b : Ballot). Some b.node) (sym (promises who)); passed = inl (promises who) });
   last = λ off. absurd (true≢false (sym runs ∙ off));

@@ -34,10 +34,9 @@ use Rattle.sc_calm_answers_law.specs.SentJournals.{GroupsBeginSent, GroupsAreBor
 use Rattle.sc_calm_answers_law.specs.Begins.{QuietJournalsBegin}
 use Rattle.sc_calm_answers_law.specs.Hinting.{GroupsBeginRising}
 use Rattle.sc_calm_answers_law.specs.KnownFronts.{IsQuietFront, IsFoundFront, FrontsAreFound}
-use Rattle.sc_calm_answers_law.specs.Journal.{IsCalmJournal, IsFront, AreSent}
+use Rattle.sc_calm_answers_law.specs.Journal.{IsCalmJournal, IsFront, AreSent, IsNamedGroup}
 use Rattle.sc_calm_answers_law.specs.Viewing.{ViewsAgree}
 use Rattle.sc_calm_answers_law.specs.OverJournals.{QuietJournalsRest}
-use Rattle.sc_calm_answers_law.specs.Ordered.{IsNamedGroup}
 use Rattle.sc_calm_answers_law.proofs.OrderedKnown.{named_there}
 use Rattle.sc_calm_answers_law.proofs.Placing.{place_of}
 use Rattle.sc_calm_answers_law.specs.FrontBegins.{JournalsBeginResting}

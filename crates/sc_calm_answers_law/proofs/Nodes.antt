@@ -17,7 +17,7 @@ node_step : (node : NodeState) (o : Option (Input Mail OrderLine)) → (later : 
 node_step node None = (node, refl)
 node_step node (Some input) = ((node_table node input).0, refl)
 
-node_replays : (who : ℕ) (sent : List Mail) (rows : Rows) (node : NodeState) → (later : NodeState) × (replay player_table who (Node node) sent rows ≡ Node later)
+pub node_replays : (who : ℕ) (sent : List Mail) (rows : Rows) (node : NodeState) → (later : NodeState) × (replay player_table who (Node node) sent rows ≡ Node later)
 node_replays who sent [] node = (node, refl)
 node_replays who sent (row ∷ rows) node = by (eqb row.who who) (λ later. node_replays who (sent ++ row.sent) rows later)
   where

@@ -146,7 +146,7 @@ module _ (a : Affair) (begins : BeginsFree a) (g : Draw) (r : ReplicaState) (res
         (slot_of (next r) (λ found. Fine a g (then_ set sets found))
         (from_pumps a g (next r + 1) sets (offered (next r) set command rested) (slot_offered a g (next r) set command rested does ((without_calls, tt), plain running))).0))
 
-    pub pump_offers : Fine a g (pumped (asked, []))
+    pump_offers : Fine a g (pumped (asked, []))
     unfolding pumped
     pump_offers =
         subst (λ b. Fine a g (cond b (pumped_from (next r) r.sets (asked, [])) (asked, []))) (sym (and_from (settled r) (nat_le (next r) last_slot) on (le-leb (next r) last_slot low)))

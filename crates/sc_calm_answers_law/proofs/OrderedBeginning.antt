@@ -47,7 +47,7 @@ use Rattle.sc_calm_answers_law.specs.KnownFronts.{FrontsAreFound, IsFoundFront}
 use Rattle.sc_calm_answers_law.specs.Strangers.{NoMailForStrangers}
 use Rattle.sc_calm_scenes_law.specs.Quiet.{GoesToActor}
 use Rattle.sc_actor.specs.Mail.{mails}
-use Rattle.sc_calm_answers_law.specs.Journal.{IsCalmJournal, IsFront, AreSent}
+use Rattle.sc_calm_answers_law.specs.Journal.{IsCalmJournal, IsFront, AreSent, IsNamedGroup}
 use Rattle.sc_calm_answers_law.specs.Resting.{RestsAt}
 use Rattle.sc_calm_answers_law.specs.JournalUnder.{IsUnder, IsYoungAt}
 use Rattle.sc_calm_answers_law.specs.KeptTelling.{ToldOrdersFindCalm}
@@ -59,7 +59,7 @@ use Rattle.sc_calm_answers_law.specs.TrueHinted.{HintedOrdersBegin}
 use Rattle.sc_calm_answers_law.specs.Settled.{SettledOrdersBegin}
 use Rattle.sc_calm_answers_law.specs.TrueUnder.{AreSeen}
 use Rattle.sc_calm_answers_law.specs.Works.{OrdersBeginWork, WorkStandsAlone}
-use Rattle.sc_calm_answers_law.specs.Ordered.{IsNamedGroup, IsOrderedSince, OrdersBeginOrdered}
+use Rattle.sc_calm_answers_law.specs.Ordered.{IsOrderedSince, OrdersBeginOrdered}
 use Rattle.sc_calm_answers_law.proofs.OrderedKnown as at_row
 use Rattle.sc_calm_answers_law.proofs.OrderedKnown.{named_there, reached_even}
 use Rattle.sc_calm_answers_law.proofs.Clients.{gone_still, told_stays}

@@ -63,7 +63,7 @@ use Rattle.sc_calm_answers_law.specs.RiseRising.{IsRisingOn}
 use Rattle.sc_calm_answers_law.specs.RiseRounds.{IsRoundSince, OrdersKeepRounds}
 use Rattle.sc_calm_answers_law.specs.KnownFronts.{FrontsAreFound}
 use Rattle.sc_calm_answers_law.specs.Strangers.{NoMailForStrangers}
-use Rattle.sc_calm_answers_law.specs.Journal.{IsCalmJournal, IsFront, AreSent, GoesOnBy}
+use Rattle.sc_calm_answers_law.specs.Journal.{IsCalmJournal, IsFront, AreSent, GoesOnBy, IsNamedGroup}
 use Rattle.sc_calm_answers_law.specs.JournalUnder.{IsUnder, IsYoungAt}
 use Rattle.sc_calm_answers_law.specs.KeptAsking.{AllLeadAlone}
 use Rattle.sc_calm_answers_law.specs.KeptFinding.{CountsEntries, IsKnownMail, IsKnownDelivery, OrderRowsFindCalm}
@@ -81,7 +81,7 @@ use Rattle.sc_calm_answers_law.specs.Settled.{AreSettled, CoordinatorsAreSettled
 use Rattle.sc_calm_answers_law.specs.TrueGoing.{AskedGroupsStood, GoesOnSince, TrueOrdersGoOn}
 use Rattle.sc_calm_answers_law.specs.Works.{IsGuidedRow, DeliveriesKeepWork, WorkStandsAlone}
 use Rattle.sc_calm_answers_law.specs.OrderedEntries.{FlightsAreEntries}
-use Rattle.sc_calm_answers_law.specs.Ordered.{IsNamedGroup, IsOfJournal, IsOrderedSince, DeliveriesKeepOrdered}
+use Rattle.sc_calm_answers_law.specs.Ordered.{IsOfJournal, IsOrderedSince, DeliveriesKeepOrdered}
 use Rattle.sc_calm_answers_law.proofs.OrderedKnown as at_row
 use Rattle.sc_calm_answers_law.proofs.OrderedKnown.{named_there}
 use Rattle.sc_calm_answers_law.proofs.Clients.{gone_still, other_stays}

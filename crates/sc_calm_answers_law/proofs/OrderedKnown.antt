@@ -47,10 +47,9 @@ use Rattle.sc_calm_answers_law.specs.Guided.{AreBoundBy, IsGuided, IsNamedGuide,
 use Rattle.sc_calm_answers_law.specs.SentJournals.{IsQuietWhileYoung, IsSentThrough, IsSentStep, NextRowsAreSent}
 use Rattle.sc_calm_answers_law.specs.KnownFronts.{FrontsAreFound}
 use Rattle.sc_calm_answers_law.specs.Strangers.{NoMailForStrangers}
-use Rattle.sc_calm_answers_law.specs.Journal.{IsCalmJournal, IsFront, AreSent, GoesOnBy}
+use Rattle.sc_calm_answers_law.specs.Journal.{IsCalmJournal, IsFront, AreSent, GoesOnBy, IsNamedGroup}
 use Rattle.sc_calm_answers_law.specs.JournalUnder.{IsUnder, IsYoungAt}
 use Rattle.sc_calm_answers_law.proofs.Delivering.{there_or}
-use Rattle.sc_calm_answers_law.specs.Ordered.{IsNamedGroup}
 
 -- ---- marks
 

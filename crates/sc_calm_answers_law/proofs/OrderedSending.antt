@@ -47,10 +47,11 @@ use Rattle.sc_calm_scenes_law.specs.Fresh.{IsThere, IsNowhere, IsErrandFor, AreU
 use Rattle.sc_calm_scenes_law.proofs.Fresh.{client_leaves, got_nothing, quiet_errands, unknown_apart}
 use Rattle.sc_calm_scenes_law.proofs.Taking.{all_sent}
 use Rattle.sc_calm_scenes_law.proofs.Turning.{calm_is}
+use Rattle.sc_calm_answers_law.specs.Journal.{IsNamedGroup}
 use Rattle.sc_calm_answers_law.proofs.Delivering.{there_or}
 use Rattle.sc_calm_answers_law.specs.Young.{IsUnanswered}
 use Rattle.sc_calm_answers_law.proofs.Staying.{IsNoneFor, sends_none}
-use Rattle.sc_calm_answers_law.specs.Ordered.{IsNamedGroup, IsOfJournal}
+use Rattle.sc_calm_answers_law.specs.Ordered.{IsOfJournal}
 
 each_filter : {X : Type 0} (P : X → Type 0) (test : X → Bool) (xs : List X) → Each P xs → Each P (filter test xs)
 each_filter P test [] e = tt

@@ -47,12 +47,12 @@ use Rattle.sc_calm_answers_law.specs.Guided.{QuietLeadersHaveNothing}
 use Rattle.sc_calm_answers_law.specs.RiseRounds.{OrdersKeepRounds, RoundsAreSeen}
 use Rattle.sc_calm_answers_law.specs.KnownFronts.{IsQuietFront, FrontsAreFound}
 use Rattle.sc_calm_answers_law.specs.Strangers.{NoMailForStrangers}
-use Rattle.sc_calm_answers_law.specs.Journal.{IsCalmJournal, IsFront}
+use Rattle.sc_calm_answers_law.specs.Journal.{IsCalmJournal, IsFront, IsNamedGroup}
 use Rattle.sc_calm_answers_law.specs.Resting.{RestsAt}
 use Rattle.sc_calm_answers_law.specs.JournalUnder.{IsUnder}
 use Rattle.sc_calm_answers_law.proofs.BetweenRequests.{front_timely, front_short}
 use Rattle.sc_calm_answers_law.specs.OverEnding.{QuietFrontsRest}
-use Rattle.sc_calm_answers_law.specs.Ordered.{IsNamedGroup, IsOrderedSince}
+use Rattle.sc_calm_answers_law.specs.Ordered.{IsOrderedSince}
 use Rattle.sc_calm_answers_law.proofs.OrderedKnown.{named_there}
 use Rattle.sc_calm_answers_law.specs.Over.{IsOverBesides, OrdersLeaveResting}
 

@@ -28,19 +28,10 @@ use Rattle.sc_calm_answers_law.specs.Settings.{AreAtNodes}
 use Rattle.sc_budget_law.specs.AskingQuiet.{replicas_after}
 use Rattle.sc_budget_law.proofs.BetweenSteps.{in_numbers}
 use Rattle.sc_calm_answers_law.specs.Viewing.{ViewsAgree}
+use Rattle.sc_calm_answers_law.proofs.Nodes.{node_replays}
 use Rattle.sc_calm_answers_law.proofs.KeptSeen.{from_map, found_once, split_among, nodes_numbered}
 
--- ---- players stay what they are
-
-node_stays : (who : ℕ) (sent : List Mail) (rows : Rows) (node : NodeState) → (later : NodeState) × (replay player_table who (Node node) sent rows ≡ Node later)
-node_stays who sent [] node = (node, refl)
-node_stays who sent (row ∷ rows) node = by (eqb row.who who) (input_of sent row.event) (λ later. node_stays who (sent ++ row.sent) rows later)
-  where
-    by : (b : Bool) (o : Option (Input Mail OrderLine)) → ((later : NodeState) → (last : NodeState) × (replay player_table who (Node later) (sent ++ row.sent) rows ≡ Node last))
-        → (last : NodeState) × (replay player_table who (cond b (acted player_table (Node node) o).0 (Node node)) (sent ++ row.sent) rows ≡ Node last)
-    by true None more = more node
-    by true (Some input) more = more (node_table node input).0
-    by false o more = more node
+-- ---- a client stays a client
 
 client_stays : (who : ℕ) (sent : List Mail) (rows : Rows) (client : ClientState) → (later : ClientState) × (replay player_table who (Client client) sent rows ≡ Client later)
 client_stays who sent [] client = (client, refl)
@@ -82,7 +73,7 @@ module _ (all_bounded : ValidScenariosAreBounded) (once_law : LawfulReplicasAreN
             let within = in_numbers 1 scenario.nodes m.0 m.1 in
             let low = within.0 in
             let high = within.1 in
-            let n = node_stays m.0 [] rows (born_node slots_ahead m.0 scenario.groups scenario.policy) in
+            let n = node_replays m.0 [] rows (born_node slots_ahead m.0 scenario.groups scenario.policy) in
             let here : Among r n.0.replicas = subst (λ player. Among r (chart_replicas player)) (ap (λ x. value player_table x rows) (sym m.2) ∙ n.1) f.2 in
             let most : m.0 ≤ scenario.nodes = omega (arith, high) in
             let once = once_law words scenario rows m.0 n.0 valid lawful low most n.1 in

@@ -184,7 +184,7 @@ module _ (go_on : LedRowsGoOn) (words : ℕ → ℕ → ℕ × ℕ) (scenario : 
   standing rows more is =
       by_time (players words all) Standing (λ more e. tt) after_row rows (λ before row after e. front_in_time before row (after ++ more) (is ∙ (ap (λ l. l ++ more) e ∙ append_assoc before (row ∷ after) more))) more is
 
-  pub stands_sent : (rows : Rows) (seat : Seat Player) (number : ℕ) (mail : Mail) → Delivers front rows seat number mail → IsStanding mail
+  stands_sent : (rows : Rows) (seat : Seat Player) (number : ℕ) (mail : Mail) → Delivers front rows seat number mail → IsStanding mail
   stands_sent rows seat number mail d =
       let this : Row Mail OrderLine = row_of player_table seat rows (Deliver number) in
       Each-among IsStanding (mails rows) mail (standing rows (this ∷ d.row.more) (d.row.is ∙ append_assoc rows (this ∷ []) d.row.more)) (number_among (mails rows) number mail d.sent)

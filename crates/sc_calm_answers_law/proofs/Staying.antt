@@ -171,7 +171,7 @@ module _ (words : ℕ → ℕ → ℕ × ℕ) (births : List (Seat Player)) (qui
           sym (errands-append name (left_by words births rows event) row.sent)
           ∙ (ap (errands_for name) (sym (left_row words births rows row)) ∙ ap (λ (h : Here). h.errands) (u.stands.parties.1 name (no_party name nowhere u)))
 
-  pub passes_young : (base : Base) → IsNowhere births quiet base.core.id → AreUntouched words births quiet (with_event rows seat event) later → Passes base → IsYoungAt words births rows base → IsYoungAt words births (with_event rows seat event) base
+  passes_young : (base : Base) → IsNowhere births quiet base.core.id → AreUntouched words births quiet (with_event rows seat event) later → Passes base → IsYoungAt words births rows base → IsYoungAt words births (with_event rows seat event) base
   passes_young base nowhere u p y = record {
     born = λ who. elim (who_or who) [
       | inl is ↦ subst (λ n. Young n (view_at births (with_event rows seat event) base.core.id n)) (sym is) (own p.view (y.born seat.who))

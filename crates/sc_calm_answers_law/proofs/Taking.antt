@@ -369,7 +369,7 @@ module _ (a : Affair) (g : Draw) where
 
   -- ---- births, and a replica that is made of a state
 
-  pub born_held : (ahead me : ℕ) (base : Base) → base.core.id ≡ g → a.Is g base.core → Held a g (born_replica ahead me base)
+  born_held : (ahead me : ℕ) (base : Base) → base.core.id ≡ g → a.Is g base.core → Held a g (born_replica ahead me base)
   born_held ahead me base named s = (named, refl, tt, tt, tt, s, (λ on. refl))
 
   installed_held : (me slot : ℕ) (base : Base) (sets : List (List ℕ)) → a.Is g base.core → Held a g (installed_replica me slot (named g base) sets)

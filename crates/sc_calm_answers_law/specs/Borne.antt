@@ -29,7 +29,7 @@ use Rattle.sc_calm_scenes_law.specs.Taken.{IsTaking}
 use Rattle.sc_calm_answers_law.specs.Missed.{IsYoung}
 use Rattle.sc_calm_answers_law.specs.Tasks.{Task}
 use Rattle.sc_calm_answers_law.specs.Works.{AreAtWork, IsTaskOf, IsGuidedRow}
-use Rattle.sc_calm_answers_law.specs.Journal.{IsCalmJournal, GoesOnBy}
+use Rattle.sc_calm_answers_law.specs.Journal.{IsCalmJournal, GoesOnBy, IsNamedGroup}
 use Rattle.sc_calm_answers_law.specs.JournalUnder.{IsUnder}
 
 -- a replica's group knows a child of this name
@@ -47,7 +47,7 @@ pub record AreBorneSo (scenario : Scenario) (journal quiet rows : Rows) (task : 
 -- each replica is of a group of the journal
 abbrev pub AreOfGroups : Scenario → Rows → Rows → Type 0
 AreOfGroups scenario journal rows =
-    (name : Draw) (who : ℕ) (r : ReplicaState) → view_at (births as_nodes scenario) rows name who ≡ Some r → (base : Base) × Among base (groups_at as_nodes scenario.groups journal) × (base.core.id ≡ name)
+    (name : Draw) (who : ℕ) (r : ReplicaState) → view_at (births as_nodes scenario) rows name who ≡ Some r → IsNamedGroup scenario journal name
 
 -- one more delivery, while an order is under way that is to do this
 pub record IsWorkingRow (words : ℕ → ℕ → ℕ × ℕ) (scenario : Scenario) (first : Base) (journal quiet rows : Rows) (line : OrderLine) (task : Task) (seat : Seat Player) (number : ℕ) : Type 0 where

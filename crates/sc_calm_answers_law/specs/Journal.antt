@@ -1,6 +1,7 @@
 -- A calm journal and its fronts, and that all its groups are well led.
 use Rattle.std.specs.Prelude.{◌≡◌, ℕ, ◌≤◌, ◌^◌, ◌++◌, length}
 use Rattle.sc_base.specs.Among.{Among}
+use Rattle.sc_base.specs.declared.names.Draw.{Draw}
 use Rattle.sc_cmd.specs.declared.cores.Base.{Base}
 use Rattle.sc_actor.specs.declared.actors.Seat.{Seat}
 use Rattle.sc_actor.specs.declared.rows.Event.TheVariants.{Deliver}
@@ -46,3 +47,7 @@ pub record GoesOnBy (words : ℕ → ℕ → ℕ × ℕ) (scenario : Scenario) (
 -- what a front begins with is a front
 abbrev pub FrontsOfFronts : Type 0
 FrontsOfFronts = (journal rows more : Rows) → IsFront journal (rows ++ more) → IsFront journal rows
+
+-- a group of the journal has this name
+abbrev pub IsNamedGroup : Scenario → Rows → Draw → Type 0
+IsNamedGroup scenario journal name = (base : Base) × Among base (groups_at as_nodes scenario.groups journal) × (base.core.id ≡ name)

@@ -30,7 +30,7 @@ use Rattle.sc_calm_logs_law.specs.Logged.{logged_sets}
 use Rattle.sc_calm_led_law.specs.Tellers.{tellers_at}
 use Rattle.sc_calm_answers_law.specs.RiseRising.{IsRisingOn}
 use Rattle.sc_calm_answers_law.specs.RiseRounds.{IsRoundSince}
-use Rattle.sc_calm_answers_law.specs.Journal.{IsCalmJournal, IsFront, GoesOnBy}
+use Rattle.sc_calm_answers_law.specs.Journal.{IsCalmJournal, IsFront, GoesOnBy, IsNamedGroup}
 use Rattle.sc_calm_answers_law.specs.Resting.{RestsAt}
 use Rattle.sc_calm_answers_law.specs.JournalUnder.{IsUnder}
 use Rattle.sc_calm_answers_law.specs.TrueHinted.{IsHinted}
@@ -39,10 +39,6 @@ use Rattle.sc_calm_answers_law.specs.TrueUnder.{IsTrueSince}
 use Rattle.sc_calm_answers_law.specs.Borne.{AreBorneSo}
 use Rattle.sc_calm_answers_law.specs.Tasks.{Task}
 use Rattle.sc_calm_answers_law.specs.Works.{AreAtWork, IsTaskOf}
-
--- a group of the journal has this name
-abbrev pub IsNamedGroup : Scenario → Rows → Draw → Type 0
-IsNamedGroup scenario journal name = (base : Base) × Among base (groups_at as_nodes scenario.groups journal) × (base.core.id ≡ name)
 
 -- the group of a mail is one of the journal
 abbrev pub IsOfJournal : Scenario → Rows → Mail → Type 0
