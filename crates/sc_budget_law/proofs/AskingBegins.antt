@@ -9,7 +9,7 @@ use Rattle.sc_cmd.specs.declared.links.Route.{Route}
 use Rattle.sc_lookup.specs.Ways.{new_way}
 use Rattle.sc_mail.specs.declared.bodies.Mail.{Mail}
 use Rattle.sc_mail.specs.declared.roles.Role.TheVariants.{Node}
-use Rattle.sc_member.specs.Roster.{is_member}
+use Rattle.sc_base.specs.Roster.{is_member}
 use Rattle.sc_client_table.specs.Client.{Client as ClientState}
 use Rattle.sc_node_table.specs.Node.{NodeState, replica_of}
 use Rattle.sc_node_table.specs.Replica.{ReplicaState, name_of}

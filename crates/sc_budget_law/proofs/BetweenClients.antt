@@ -21,7 +21,7 @@ use Rattle.sc_actor.specs.Mail.{mails, is_delivery}
 use Rattle.sc_actor.specs.Replay.{value, acted, input_of}
 use Rattle.sc_actor.specs.System.{System, row_of, has_gone, is_go, waiting, kth}
 use Rattle.sc_actor.proofs.ReplayLemmas.{value-snoc}
-use Rattle.sc_member.specs.Roster.{is_member}
+use Rattle.sc_base.specs.Roster.{is_member}
 use Rattle.sc_node_table.specs.Node.{is_node}
 use Rattle.sc_node_table.specs.Slots.{slots_ahead}
 use Rattle.sc_client_table.specs.Table.{ClientStep, table}

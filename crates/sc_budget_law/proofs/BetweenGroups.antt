@@ -12,7 +12,7 @@ use Rattle.sc_mail.specs.declared.bodies.MailBody.TheVariants.{Request, Answer, 
 use Rattle.sc_actor.specs.declared.rows.Row.{Row}
 use Rattle.sc_actor.specs.Mail.{is_delivery}
 use Rattle.sc_actor.specs.Replay.{value}
-use Rattle.sc_member.specs.Roster.{is_member}
+use Rattle.sc_base.specs.Roster.{is_member}
 use Rattle.sc_node_table.specs.Node.{NodeState, replica_of, is_node}
 use Rattle.sc_node_table.specs.Replica.{ReplicaState, next}
 use Rattle.sc_node_table.specs.Slots.{numbers_from}

@@ -5,7 +5,7 @@ use Rattle.sc_base.specs.Among.{Among}
 use Rattle.sc_base.specs.Limits.{most_nodes}
 use Rattle.sc_base.specs.declared.names.Draw.{Draw}
 use Rattle.sc_cmd.specs.declared.cores.Base.{Base}
-use Rattle.sc_member.specs.Roster.{is_member, least_of}
+use Rattle.sc_base.specs.Roster.{is_member, least_of}
 use Rattle.sc_actor.specs.System.{are_apart}
 use Rattle.sc_paxos_words.proofs.ListLemmas.{Each-among, Each-from_All, one_of_name}
 use Rattle.sc_node_table.specs.Slots.{numbers_from}

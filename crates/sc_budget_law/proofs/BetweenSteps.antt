@@ -18,7 +18,7 @@ use Rattle.sc_actor.specs.Replay.{value, acted, input_of}
 use Rattle.sc_actor.specs.System.{System, has_gone, is_go}
 use Rattle.sc_actor.proofs.ReplayLemmas.{value-snoc, mails-snoc}
 use Rattle.sc_paxos_words.proofs.ListLemmas.{Each-append, Each-weaker, find_found}
-use Rattle.sc_member.specs.Roster.{is_member}
+use Rattle.sc_base.specs.Roster.{is_member}
 use Rattle.sc_node_table.specs.Node.{replica_of, is_node}
 use Rattle.sc_node_table.specs.Replica.{ReplicaState, name_of, next, last_slot}
 use Rattle.sc_node_table.specs.Slots.{numbers_from, slots_ahead}

@@ -16,7 +16,7 @@ use Rattle.sc_mail.specs.declared.bodies.Mail.{Mail}
 use Rattle.sc_mail.specs.declared.bodies.MailBody.{MailBody}
 use Rattle.sc_mail.specs.declared.bodies.MailBody.TheVariants.{Request, Answer, Prepare, Promise, Accept, Accepted, Nack, Learn, Ask, Install, TxPrepare, TxVote, TxOutcome, TxElsewhere, TxWatch, TxWatched, Told}
 use Rattle.sc_machine_table.specs.Group.{Group}
-use Rattle.sc_member.specs.Roster.{is_member}
+use Rattle.sc_base.specs.Roster.{is_member}
 use Rattle.sc_paxos_words.proofs.ListLemmas.{Each-weaker, find_found}
 use Rattle.sc_node_table.specs.Node.{NodeState, replica_of, with_replica, node_table}
 use Rattle.sc_node_table.specs.Replica.{ReplicaState, Executed, childless, name_of}

@@ -10,7 +10,7 @@ use Rattle.sc_base.specs.Arc.{holds, end_of}
 use Rattle.sc_base.specs.Same.{same_draw}
 use Rattle.sc_base.specs.declared.names.Draw.{Draw}
 use Rattle.sc_base.proofs.NameLemmas.{draw_is, same_name}
-use Rattle.sc_member.specs.Roster.{least_of}
+use Rattle.sc_base.specs.Roster.{least_of}
 use Rattle.sc_paxos_words.proofs.ListLemmas.{Each-among}
 use Rattle.sc_lookup.specs.declared.ways.Way.{Way}
 use Rattle.sc_lookup.specs.Ways.{far, target_of}

@@ -13,7 +13,7 @@ use Rattle.sc_mail.specs.declared.bodies.AnswerBody.{AnswerBody}
 use Rattle.sc_mail.specs.declared.bodies.Mail.{Mail}
 use Rattle.sc_mail.specs.declared.bodies.MailBody.{MailBody}
 use Rattle.sc_mail.specs.declared.bodies.MailBody.TheVariants.{Answer, Accept, Learn}
-use Rattle.sc_member.specs.Roster.{is_member}
+use Rattle.sc_base.specs.Roster.{is_member}
 use Rattle.sc_paxos_words.specs.declared.flights.Flight.{Flight}
 use Rattle.sc_paxos_words.specs.Leaders.{flight_at}
 use Rattle.sc_paxos_words.proofs.ListLemmas.{Each-among, find_found}

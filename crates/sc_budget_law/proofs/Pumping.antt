@@ -19,7 +19,7 @@ use Rattle.sc_mail.specs.declared.bodies.AnswerBody.{AnswerBody}
 use Rattle.sc_mail.specs.declared.bodies.Mail.{Mail}
 use Rattle.sc_mail.specs.declared.bodies.MailBody.{MailBody}
 use Rattle.sc_mail.specs.declared.bodies.MailBody.TheVariants.{Accept}
-use Rattle.sc_member.specs.Majority.{votes_of, is_majority}
+use Rattle.sc_base.specs.Majority.{votes_of, is_majority}
 use Rattle.sc_paxos_words.specs.declared.answers.Must.{Must}
 use Rattle.sc_paxos_words.specs.declared.flights.Flight.{Flight}
 use Rattle.sc_paxos_words.proofs.ListLemmas.{Each-push, Each-weaker}

@@ -20,7 +20,7 @@ use Rattle.sc_actor.specs.System.{System, has_gone}
 use Rattle.sc_actor.specs.Walk.{IsLawful, is_quiet}
 use Rattle.sc_actor.proofs.ReplayLemmas.{value-snoc}
 use Rattle.sc_actor.proofs.WalkLemmas.{lawful-prefix}
-use Rattle.sc_member.specs.Roster.{is_member}
+use Rattle.sc_base.specs.Roster.{is_member}
 use Rattle.sc_node_table.specs.Node.{replica_of}
 use Rattle.sc_node_table.specs.Replica.{ReplicaState, last_slot}
 use Rattle.sc_node_table.specs.Slots.{slots_ahead, numbers_from}

@@ -5,8 +5,8 @@ use Rattle.std.proofs.lemmas.Bool.{cases_lt, eqb-true, eq-eqb, lt-ltb, both_ways
 use Rattle.sc_base.specs.Among.{Among}
 use Rattle.sc_cmd.specs.declared.commands.Command.{Command}
 use Rattle.sc_cmd.specs.declared.commands.Command.TheVariants.{Call}
-use Rattle.sc_member.specs.Roster.{is_member}
-use Rattle.sc_member.specs.Majority.{votes_of, is_majority}
+use Rattle.sc_base.specs.Roster.{is_member}
+use Rattle.sc_base.specs.Majority.{votes_of, is_majority}
 use Rattle.sc_paxos_words.specs.declared.flights.Flight.{Flight}
 use Rattle.sc_paxos_words.specs.Votes.{kept_voters}
 use Rattle.sc_paxos_words.proofs.ListLemmas.{Each-among, find_found}

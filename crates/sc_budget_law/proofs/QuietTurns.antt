@@ -21,7 +21,7 @@ use Rattle.sc_actor.proofs.ReplayLemmas.{mails-snoc}
 use Rattle.sc_node_table.specs.Node.{is_node, node_table}
 use Rattle.sc_node_table.specs.Replica.{last_slot}
 use Rattle.sc_node_table.specs.Slots.{slots_ahead}
-use Rattle.sc_member.specs.Roster.{is_member}
+use Rattle.sc_base.specs.Roster.{is_member}
 use Rattle.sc_client_table.specs.Client.{Client as ClientState}
 use Rattle.sc_client_table.specs.Table.{ClientStep, table}
 use Rattle.sc_paxos_words.proofs.ListLemmas.{Each-among}

@@ -6,7 +6,7 @@ use Rattle.std.proofs.lemmas.List.{length-map}
 use Rattle.sc_base.specs.Among.{Each}
 use Rattle.sc_base.specs.declared.names.Draw.{Draw}
 use Rattle.sc_cmd.specs.declared.cores.Base.{Base}
-use Rattle.sc_member.specs.Roster.{least_of}
+use Rattle.sc_base.specs.Roster.{least_of}
 use Rattle.sc_scenario.specs.Groups.{group_at, name_at, place_right, way, arc_at, base_at, bases_up_to}
 use Rattle.sc_scenario.specs.Valid.{IsBounded}
 use Rattle.sc_scenario.specs.declared.drafts.GroupLine.{GroupLine}

@@ -9,7 +9,7 @@ use Rattle.sc_cmd.specs.declared.commands.Command.TheVariants.{Call}
 use Rattle.sc_cmd.specs.declared.cores.Core.{Core}
 use Rattle.sc_mail.specs.declared.bodies.Mail.{Mail}
 use Rattle.sc_mail.specs.declared.bodies.MailBody.TheVariants.{Answer, Learn}
-use Rattle.sc_member.specs.Roster.{is_member, IsRoster}
+use Rattle.sc_base.specs.Roster.{is_member, IsRoster}
 use Rattle.sc_paxos_words.specs.declared.flights.Flight.{Flight}
 use Rattle.sc_paxos_words.specs.Leaders.{without_flight}
 use Rattle.sc_paxos_words.proofs.ListLemmas.{Each-among, Each-push, Each-weaker}

@@ -14,8 +14,8 @@ use Rattle.sc_cmd.specs.declared.commands.Command.{Command}
 use Rattle.sc_mail.specs.declared.bodies.Mail.{Mail}
 use Rattle.sc_mail.specs.declared.bodies.MailBody.{MailBody}
 use Rattle.sc_mail.specs.declared.bodies.MailBody.TheVariants.{Request, Answer, Prepare, Promise, Accept, Accepted, Nack, Learn, Ask, Install, TxPrepare, TxVote, TxOutcome, TxElsewhere, TxWatch, TxWatched, Told}
-use Rattle.sc_member.specs.Roster.{is_member, IsRoster}
-use Rattle.sc_member.proofs.Pairs.{AllPairs-head, AllPairs-tail}
+use Rattle.sc_base.specs.Roster.{is_member, IsRoster}
+use Rattle.sc_base.proofs.Pairs.{AllPairs-head, AllPairs-tail}
 use Rattle.sc_paxos_words.proofs.ListLemmas.{Each-push, Each-from_All}
 use Rattle.sc_node_table.specs.Mails.{sent, sent_all, sent_others}
 use Rattle.sc_node_table.specs.Slots.{numbers_from}

@@ -10,7 +10,7 @@ use Rattle.sc_mail.specs.declared.roles.Role.TheVariants.{Client}
 use Rattle.sc_actor.specs.declared.rows.Row.{Row}
 use Rattle.sc_actor.specs.Replay.{value}
 use Rattle.sc_actor.specs.System.{has_gone}
-use Rattle.sc_member.specs.Roster.{is_member}
+use Rattle.sc_base.specs.Roster.{is_member}
 use Rattle.sc_client_table.specs.Client.{Client as ClientState}
 use Rattle.sc_scenario.specs.declared.scenarios.Asks.{Asks}
 use Rattle.sc_scenario.specs.declared.scenarios.Scenario.{Scenario}

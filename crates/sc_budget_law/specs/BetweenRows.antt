@@ -1,7 +1,7 @@
 -- What one row does to what stands between the leader of a group and its nodes.
 use Rattle.std.specs.Prelude.{◌≡◌, ℕ, ◌+◌, ◌<◌, ◌≤◌, true, List, [], ◌∷◌, Some, ◌⊎◌}
 use Rattle.sc_base.specs.Among.{Among, Each}
-use Rattle.sc_member.specs.Roster.{is_member}
+use Rattle.sc_base.specs.Roster.{is_member}
 use Rattle.sc_mail.specs.declared.bodies.Mail.{Mail}
 use Rattle.sc_node_table.specs.Replica.{ReplicaState, next}
 use Rattle.sc_node_table.specs.Slots.{numbers_from}

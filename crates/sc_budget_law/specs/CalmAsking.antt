@@ -12,7 +12,7 @@ use Rattle.sc_lookup.specs.Known.{KnownGroups}
 use Rattle.sc_lookup.specs.Ways.{target_of}
 use Rattle.sc_lookup.specs.declared.ways.Way.{Way}
 use Rattle.sc_mail.specs.declared.bodies.Mail.{Mail}
-use Rattle.sc_member.specs.Roster.{least_of}
+use Rattle.sc_base.specs.Roster.{least_of}
 use Rattle.sc_client_table.specs.Client.{Client as ClientState}
 use Rattle.sc_client_table.specs.Table.{ClientStep, table}
 use Rattle.sc_scenario.specs.declared.scenarios.Asks.{Asks}

@@ -7,8 +7,8 @@ use Rattle.sc_base.specs.declared.ops.Op.{Op}
 use Rattle.sc_cmd.specs.declared.commands.Command.{Command}
 use Rattle.sc_mail.specs.declared.bodies.MailBody.{MailBody}
 use Rattle.sc_mail.specs.declared.bodies.MailBody.TheVariants.{Request, Answer, Prepare, Promise, Accept, Accepted, Nack, Learn, Ask, Install, TxPrepare, TxVote, TxOutcome, TxElsewhere, TxWatch, TxWatched, Told}
-use Rattle.sc_member.specs.Majority.{votes_of, is_majority}
-use Rattle.sc_member.specs.Roster.{is_member}
+use Rattle.sc_base.specs.Majority.{votes_of, is_majority}
+use Rattle.sc_base.specs.Roster.{is_member}
 use Rattle.sc_paxos_words.specs.declared.answers.Must.TheVariants.{Free as Open}
 use Rattle.sc_paxos_words.specs.declared.flights.Flight.{Flight}
 use Rattle.sc_paxos_words.specs.Ballots.{IsAtLeast}

@@ -3,8 +3,8 @@ use Rattle.std.proofs.Common.{[], ap, append-nil, append_assoc, sym, ◌++◌, �
 use Rattle.sc_calm_answers_law.specs.Along.{RowsAreGuided}
 use Rattle.sc_calm_groups_law.specs.Through.{EventsGoOn, ScenariosAreWellBorn}
 use Rattle.sc_calm_law.specs.Charts.{players}
-use Rattle.sc_calm_led_law.specs.Led.{LedLogsAreOne, over_at}
-use Rattle.sc_calm_led_law.specs.Tellers.{GroupsAreLed, tellers_at}
+use Rattle.sc_calm_answers_law.specs.Led.{LedLogsAreOne, over_at}
+use Rattle.sc_calm_answers_law.specs.Tellers.{GroupsAreLed, tellers_at}
 use Rattle.sc_calm_logs_law.specs.Logged.{logged_sets}
 use Rattle.sc_calm_rows_law.specs.Turns.{with_event}
 use Rattle.sc_orderly_law.specs.Timely.{AreInTime}

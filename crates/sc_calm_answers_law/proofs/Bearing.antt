@@ -7,7 +7,7 @@ use Rattle.sc_base.specs.declared.names.Ballot.{Ballot}
 use Rattle.sc_cmd.specs.declared.commands.Command.{Command}
 use Rattle.sc_cmd.specs.declared.cores.Base.{Base}
 use Rattle.sc_mail.specs.declared.bodies.Mail.{Mail}
-use Rattle.sc_member.specs.Roster.{IsRoster, is_member}
+use Rattle.sc_base.specs.Roster.{IsRoster, is_member}
 use Rattle.sc_machine_table.specs.Children.{child_by}
 use Rattle.sc_machine_table.specs.Group.{Group, group_of}
 use Rattle.sc_machine_table.specs.Logs.{state_after}
@@ -37,7 +37,7 @@ use Rattle.sc_following_law.proofs.Counted.{told_state, landed_is, entered_keeps
 use Rattle.sc_following_law.proofs.Spoken.{announced_keeps, spoken_same}
 use Rattle.sc_calm_logs_law.proofs.Along.{at, IsAlong, is_next, by_log, next_ready_is, one_past}
 use Rattle.sc_calm_logs_law.proofs.Counting.{counted_learnt, each_with_slot}
-use Rattle.sc_calm_led_law.proofs.Pumping.{pump_next}
+use Rattle.sc_calm_answers_law.proofs.Pumping.{pump_next}
 use Rattle.sc_calm_answers_law.specs.Bearing.{IsBirth}
 
 -- the last of two lists that go on the same

@@ -9,7 +9,7 @@ use Rattle.sc_cmd.specs.declared.links.Route.{Route}
 use Rattle.sc_mail.specs.declared.bodies.Mail.{Mail}
 use Rattle.sc_mail.specs.declared.bodies.MailBody.{MailBody}
 use Rattle.sc_mail.specs.declared.bodies.MailBody.TheVariants.{Accepted as AcceptedMail, Learn}
-use Rattle.sc_member.specs.Roster.{IsRoster, is_member}
+use Rattle.sc_base.specs.Roster.{IsRoster, is_member}
 use Rattle.sc_actor.specs.declared.actors.Seat.{Seat}
 use Rattle.sc_actor.specs.Mail.{mails, numbered}
 use Rattle.sc_paxos_law.specs.Chosen.{IsLog}

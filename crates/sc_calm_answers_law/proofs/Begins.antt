@@ -8,7 +8,7 @@ use Rattle.sc_base.proofs.NameLemmas.{draw_is}
 use Rattle.sc_cmd.specs.declared.cores.Base.{Base}
 use Rattle.sc_cmd.specs.declared.cores.Core.{Core}
 use Rattle.sc_client_table.specs.Client.{Client as ClientState, born_client}
-use Rattle.sc_member.specs.Roster.{is_member, least_of}
+use Rattle.sc_base.specs.Roster.{is_member, least_of}
 use Rattle.sc_paxos_words.proofs.BallotLemmas.{at_least_itself}
 use Rattle.sc_paxos_words.proofs.ListLemmas.{Each-among, find_found}
 use Rattle.sc_paxos_law.proofs.Among.{from_map}

@@ -12,7 +12,7 @@ use Rattle.sc_cmd.specs.declared.orders.OrderLine.{OrderLine}
 use Rattle.sc_mail.specs.declared.bodies.Mail.{Mail}
 use Rattle.sc_mail.specs.declared.bodies.MailBody.{MailBody}
 use Rattle.sc_mail.specs.declared.bodies.MailBody.TheVariants.{Request, Answer, Prepare, Promise, Accept, Accepted, Nack, Learn, Ask, Install, TxPrepare, TxVote, TxOutcome, TxElsewhere, TxWatch, TxWatched, Told}
-use Rattle.sc_member.specs.Roster.{is_member}
+use Rattle.sc_base.specs.Roster.{is_member}
 use Rattle.sc_actor.specs.declared.actors.Seat.{Seat}
 use Rattle.sc_actor.specs.declared.rows.Event.{Event}
 use Rattle.sc_actor.specs.declared.rows.Row.{Row}
@@ -49,11 +49,11 @@ use Rattle.sc_budget_law.specs.CalmNode.{Setting, IsSetting, IsHome, HasGoneTo, 
 use Rattle.sc_budget_law.specs.Frames.{Frame}
 use Rattle.sc_budget_law.specs.PlainClient.{IsBegun}
 use Rattle.sc_budget_law.specs.PlainMail.{IsPlainBody, IsPlainMail}
-use Rattle.sc_calm_requests_law.specs.Finding.{CountsAs}
-use Rattle.sc_calm_requests_law.specs.Rows.{AreNear, MayBegin, RequestRowsFindCalm}
-use Rattle.sc_calm_requests_law.specs.Starts.{QuietJournalsKnowOne, LawfulQuietJournalsCountOnce}
-use Rattle.sc_calm_ring_law.specs.Cuts.{QuietGroupsHaveCuts}
-use Rattle.sc_calm_ring_law.specs.Round.{StandingGroupsAreRound}
+use Rattle.sc_calm_answers_law.specs.RequestsFinding.{CountsAs}
+use Rattle.sc_calm_answers_law.specs.Rows.{AreNear, MayBegin, RequestRowsFindCalm}
+use Rattle.sc_calm_answers_law.specs.Starts.{QuietJournalsKnowOne, LawfulQuietJournalsCountOnce}
+use Rattle.sc_calm_answers_law.specs.Cuts.{QuietGroupsHaveCuts}
+use Rattle.sc_calm_answers_law.specs.Round.{StandingGroupsAreRound}
 use Rattle.sc_calm_answers_law.specs.SettingCounting.{QuietChartsCount}
 use Rattle.sc_calm_answers_law.specs.Settings.{frames_after, QuietJournalsHaveFrames, QuietSettingsAreLinked}
 use Rattle.sc_calm_answers_law.specs.Journal.{IsCalmJournal, IsFront}

@@ -3,7 +3,7 @@ use Rattle.std.proofs.Common.{◌≡◌, Bool, true, false, cond, [], Option, So
 use Rattle.std.proofs.lemmas.Bool.{cond-true}
 use Rattle.sc_base.specs.Among.{Among}
 use Rattle.sc_cmd.specs.declared.cores.Base.{Base}
-use Rattle.sc_member.specs.Roster.{is_member}
+use Rattle.sc_base.specs.Roster.{is_member}
 use Rattle.sc_node_table.specs.Replica.{born_replica}
 use Rattle.sc_node_table.specs.Slots.{slots_ahead}
 use Rattle.sc_scenario.specs.Valid.{IsBounded, ValidScenariosAreBounded}
@@ -12,7 +12,7 @@ use Rattle.sc_sound.specs.Players.{births, as_nodes}
 use Rattle.sc_calm_mail_law.specs.Lasting.{ReplicasLast}
 use Rattle.sc_calm_rows_law.specs.Groups.{view_at}
 use Rattle.sc_calm_rows_law.proofs.Beginning.{view_born}
-use Rattle.sc_calm_led_law.specs.Tellers.{GroupsAreBornOrNot}
+use Rattle.sc_calm_answers_law.specs.Tellers.{GroupsAreBornOrNot}
 use Rattle.sc_calm_answers_law.specs.SentJournals.{AreBornAsBegun, GroupsAreBornAsBegun, FirstGroupsAreNeverYoung}
 
 one_or_none : {X : Type 0} (b : Bool) (x : X) (o : Option X) → o ≡ cond b (Some x) None → (o ≡ None) ⊎ ((o ≡ Some x) × (b ≡ true))

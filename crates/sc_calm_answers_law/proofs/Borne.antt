@@ -10,7 +10,7 @@ use Rattle.sc_cmd.specs.declared.orders.OrderLine.{OrderLine}
 use Rattle.sc_mail.specs.declared.bodies.Mail.{Mail}
 use Rattle.sc_mail.specs.declared.bodies.MailBody.{MailBody}
 use Rattle.sc_mail.specs.declared.bodies.MailBody.TheVariants.{Request, Answer, Prepare, Promise, Accept, Accepted, Nack, Learn, Ask, Install, TxPrepare, TxVote, TxOutcome, TxElsewhere, TxWatch, TxWatched, Told as ToldMail}
-use Rattle.sc_member.specs.Roster.{is_member}
+use Rattle.sc_base.specs.Roster.{is_member}
 use Rattle.sc_actor.specs.declared.actors.Seat.{Seat}
 use Rattle.sc_actor.specs.declared.rows.Event.TheVariants.{Deliver, Go}
 use Rattle.sc_mail.specs.declared.roles.Role.TheVariants.{Node}
@@ -31,7 +31,7 @@ use Rattle.sc_calm_rows_law.proofs.Turning.{rows_replicas}
 use Rattle.sc_calm_rows_law.proofs.Viewing.{view_was}
 use Rattle.sc_calm_orders_law.specs.Parts.{bond_of}
 use Rattle.sc_calm_orders_law.specs.Scenes.{Unbound}
-use Rattle.sc_calm_led_law.specs.Led.{ChildrenAreBegun}
+use Rattle.sc_calm_answers_law.specs.Led.{ChildrenAreBegun}
 use Rattle.sc_calm_scenes_law.specs.Fresh.{IsNowhere}
 use Rattle.sc_calm_scenes_law.specs.Taken.{IsTaking}
 use Rattle.sc_calm_answers_law.specs.Missed.{IsYoung}

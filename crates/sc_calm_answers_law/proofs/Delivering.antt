@@ -47,7 +47,7 @@ use Rattle.sc_calm_mail_law.specs.Few.{SlotsAreLeft}
 use Rattle.sc_calm_logs_law.specs.Logged.{IsGroupOf, SlotsHaveRosters}
 use Rattle.sc_calm_groups_law.specs.Kept.{ScenariosAreKeptBorn, ReplicasAreKept}
 use Rattle.sc_calm_groups_law.specs.Through.{Delivers}
-use Rattle.sc_calm_led_law.specs.Tellers.{AreFew}
+use Rattle.sc_calm_answers_law.specs.Tellers.{AreFew}
 use Rattle.sc_calm_charts_law.specs.Charting.{replicas_of as chart_replicas, all_replicas, asked_in, names_at, chart_at}
 use Rattle.sc_calm_charts_law.specs.Following.{LedStandOnce}
 use Rattle.sc_calm_charts_law.specs.Fronts.{quiet_upto, quiet_front}

@@ -19,8 +19,8 @@ use Rattle.sc_cmd.specs.declared.effects.Effect.{Effect}
 use Rattle.sc_cmd.specs.declared.votes.Heard.{Heard}
 use Rattle.sc_cmd.specs.declared.votes.Past.{Past}
 use Rattle.sc_cmd.specs.declared.votes.Past.TheVariants as Cast
-use Rattle.sc_member.specs.Roster.{IsRoster, is_member, with_member}
-use Rattle.sc_member.specs.Union.{united, with_any}
+use Rattle.sc_base.specs.Roster.{IsRoster, is_member, with_member}
+use Rattle.sc_base.specs.Union.{united, with_any}
 use Rattle.sc_machine_table.specs.Group.{Group, group_of}
 use Rattle.sc_machine_table.specs.Machine.{applied}
 use Rattle.sc_machine_table.specs.Plans.{can_split, split_plan, merge_plan, may_merge}
@@ -43,7 +43,7 @@ use Rattle.sc_calm_orders_law.specs.Scenes.{Work, Opens, Records, GivesUp, Here,
 use Rattle.sc_calm_orders_law.specs.Stages.{Stage, IsAt, IsVote}
 use Rattle.sc_calm_rows_law.specs.Groups.{view_at}
 use Rattle.sc_calm_logs_law.specs.Logged.{SlotsHaveRosters, ViewsAreReplicas}
-use Rattle.sc_calm_led_law.specs.States.{ReplicasRunLogs}
+use Rattle.sc_calm_answers_law.specs.States.{ReplicasRunLogs}
 use Rattle.sc_following_law.proofs.Polled.{with_kept}
 use Rattle.sc_calm_scenes_law.specs.Quiet.{IsWork, QuietScenesAreOver}
 use Rattle.sc_calm_scenes_law.specs.Scenes.{scene_at}

@@ -3,7 +3,7 @@ use Rattle.std.proofs.Common.{◌≡◌, ℕ, ◌+◌, ◌<◌, ◌≤◌, Bool,
 use Rattle.std.proofs.lemmas.Bool.{cases_Bool, cases_lt}
 use Rattle.sc_base.specs.Among.{Among}
 use Rattle.sc_cmd.specs.declared.cores.Base.{Base}
-use Rattle.sc_member.specs.Roster.{is_member}
+use Rattle.sc_base.specs.Roster.{is_member}
 use Rattle.sc_actor.specs.declared.actors.Seat.{Seat}
 use Rattle.sc_orderly_law.specs.Orderly.{is_born}
 use Rattle.sc_orderly_law.proofs.InTime.{in_time_tidy}
@@ -30,8 +30,8 @@ use Rattle.sc_calm_groups_law.specs.Logged.{IsOfLog}
 use Rattle.sc_calm_groups_law.specs.Slots.{IsSlotKept}
 use Rattle.sc_calm_groups_law.specs.Tops.{IsTopKept}
 use Rattle.sc_calm_groups_law.proofs.Keeping.{replicas_kept, scenarios_kept_born}
-use Rattle.sc_calm_led_law.specs.Led.{over_at}
-use Rattle.sc_calm_led_law.specs.States.{state_at, ReplicasRunLogs}
+use Rattle.sc_calm_answers_law.specs.Led.{over_at}
+use Rattle.sc_calm_answers_law.specs.States.{state_at, ReplicasRunLogs}
 use Rattle.sc_calm_answers_law.specs.Rests.{replicas_at, IsQuietGroup, MembersHaveReplicas}
 
 -- the members of as many slots from one on are the same

@@ -15,8 +15,8 @@ use Rattle.sc_cmd.specs.declared.orders.OrderRefusal.{OrderRefusal}
 use Rattle.sc_base.specs.declared.names.Draw.{Draw}
 use Rattle.sc_base.specs.Arc.{holds}
 use Rattle.sc_base.specs.Same.{same_draw}
-use Rattle.sc_member.specs.Roster.{is_member}
-use Rattle.sc_member.specs.Union.{united}
+use Rattle.sc_base.specs.Roster.{is_member}
+use Rattle.sc_base.specs.Union.{united}
 use Rattle.sc_cmd.specs.declared.bodies.Body.{Body}
 use Rattle.sc_cmd.specs.declared.bodies.Body.TheVariants as Does
 use Rattle.sc_cmd.specs.declared.bodies.Offer.{Offer}

@@ -14,7 +14,7 @@ use Rattle.sc_calm_law.specs.Charts.{players}
 use Rattle.sc_calm_mail_law.proofs.Posting.{mail_comes}
 use Rattle.sc_calm_logs_law.specs.Logged.{logged_sets}
 use Rattle.sc_calm_groups_law.proofs.BornWell.{scenarios_well_born}
-use Rattle.sc_calm_led_law.specs.Led.{over_at}
+use Rattle.sc_calm_answers_law.specs.Led.{over_at}
 use Rattle.sc_group_law.proofs.RowSteps.{number_among}
 use Rattle.sc_whole_law.proofs.Seats.{all_apart}
 use Rattle.sc_calm_answers_law.specs.Finding.{GroupMailFinds}

@@ -9,8 +9,8 @@ use Rattle.sc_orderly_law.specs.Timely.{AreInTime}
 use Rattle.sc_sound.specs.Players.{births, as_nodes, player_table}
 use Rattle.sc_calm_law.specs.Charts.{players}
 use Rattle.sc_calm_rows_law.specs.Turns.{with_event}
-use Rattle.sc_calm_led_law.specs.Led.{LedLogsAreOne}
-use Rattle.sc_calm_led_law.specs.Tellers.{tellers_at, GroupsAreLed, LedRowsGoOn}
+use Rattle.sc_calm_answers_law.specs.Led.{LedLogsAreOne}
+use Rattle.sc_calm_answers_law.specs.Tellers.{tellers_at, GroupsAreLed, LedRowsGoOn}
 use Rattle.sc_calm_answers_law.specs.Finding.{GroupMailFinds, JournalMailFinds, StatesStand}
 use Rattle.sc_calm_answers_law.proofs.Strays.{calm_here}
 

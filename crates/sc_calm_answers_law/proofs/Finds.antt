@@ -15,7 +15,7 @@ use Rattle.sc_mail.specs.declared.bodies.Mail.{Mail}
 use Rattle.sc_mail.specs.declared.bodies.MailBody.{MailBody}
 use Rattle.sc_mail.specs.declared.bodies.MailBody.TheVariants.{Request, Answer, Prepare, Promise, Accept, Accepted, Nack, Learn, Ask, Install, TxPrepare, TxVote, TxOutcome, TxElsewhere, TxWatch, TxWatched, Told as ToldMail}
 use Rattle.sc_mail.specs.declared.roles.Role.TheVariants.{Node, Client}
-use Rattle.sc_member.specs.Roster.{is_member}
+use Rattle.sc_base.specs.Roster.{is_member}
 use Rattle.sc_actor.specs.declared.actors.Seat.{Seat}
 use Rattle.sc_actor.specs.declared.rows.Event.{Event}
 use Rattle.sc_actor.specs.declared.rows.Event.TheVariants.{Deliver}
@@ -51,7 +51,7 @@ use Rattle.sc_calm_groups_law.specs.Led.{Ends, IsWellLed}
 use Rattle.sc_calm_groups_law.specs.Logged.{IsLogOf}
 use Rattle.sc_calm_groups_law.specs.Through.{Delivers, IsSentSo}
 use Rattle.sc_calm_mail_law.proofs.Posting.{mail_comes, clients_stay}
-use Rattle.sc_calm_led_law.proofs.Telling.{last_parts}
+use Rattle.sc_calm_answers_law.proofs.Telling.{last_parts}
 use Rattle.sc_calm_answers_law.specs.SentHomes.{FindsOne, IsStranger}
 use Rattle.sc_calm_answers_law.specs.SentJournals.{IsSentOn, IsQuietWhileYoung, NextMailIsSentSo}
 use Rattle.sc_calm_answers_law.specs.Sent.{SaysWell}

@@ -18,8 +18,8 @@ use Rattle.sc_machine_table.specs.Group.{Group}
 use Rattle.sc_machine_table.specs.Orders.{limit_refused, locked_in, migrate_refused, repart_refused}
 use Rattle.sc_machine_table.specs.Plans.{can_cut, can_join, can_merge, can_migrate, can_repart, frozen_of, has_key_of, may_merge, taken}
 use Rattle.sc_machine_table.specs.Votes.{body_no, no_of, offer_no, place_no, size_no, vote_of}
-use Rattle.sc_member.specs.Roster.{is_member}
-use Rattle.sc_member.specs.Union.{united}
+use Rattle.sc_base.specs.Roster.{is_member}
+use Rattle.sc_base.specs.Union.{united}
 use Rattle.sc_ring_law.proofs.Insides.{InsideOf, inside_part, no_shared, outside_next}
 use Rattle.sc_ring_law.proofs.View.{IsOnRing}
 use Rattle.sc_calm_answers_law.proofs.Opened.{opening_refused}

@@ -28,7 +28,7 @@ use Rattle.sc_budget_law.specs.BetweenJournal.{replicas_of}
 use Rattle.sc_budget_law.specs.Frames.{Frame}
 use Rattle.sc_budget_law.proofs.BetweenSteps.{in_numbers, to_numbers}
 use Rattle.sc_budget_law.proofs.Lists.{map_among}
-use Rattle.sc_calm_requests_law.specs.Starts.{AreNamedOnce, LawfulReplicasAreNamedOnce}
+use Rattle.sc_calm_answers_law.specs.Starts.{AreNamedOnce, LawfulReplicasAreNamedOnce}
 use Rattle.sc_calm_answers_law.specs.Settings.{nodes_replicas, frames_after, AreAtNodes, QuietJournalsHaveFrames}
 
 -- ---- lists

@@ -24,9 +24,9 @@ use Rattle.sc_calm_law.specs.Totals.{Rows}
 use Rattle.sc_calm_rows_law.specs.Groups.{view_at}
 use Rattle.sc_calm_mail_law.specs.Few.{SlotsAreLeft}
 use Rattle.sc_calm_logs_law.specs.Logged.{IsGroupOf}
-use Rattle.sc_calm_led_law.specs.Led.{GroupsBeginStanding}
-use Rattle.sc_calm_led_law.specs.Tellers.{AreFew}
-use Rattle.sc_calm_requests_law.specs.Starts.{LawfulReplicasAreNamedOnce}
+use Rattle.sc_calm_answers_law.specs.Led.{GroupsBeginStanding}
+use Rattle.sc_calm_answers_law.specs.Tellers.{AreFew}
+use Rattle.sc_calm_answers_law.specs.Starts.{LawfulReplicasAreNamedOnce}
 use Rattle.sc_calm_scenes_law.specs.Fresh.{IsThere}
 use Rattle.sc_calm_charts_law.specs.Charting.{names_at, all_replicas, went_in}
 use Rattle.sc_calm_charts_law.specs.Ends.{GoInTurn}

@@ -22,12 +22,12 @@ use Rattle.sc_calm_rows_law.specs.Groups.{view_at}
 use Rattle.sc_calm_mail_law.specs.Lasting.{ReplicasLast}
 use Rattle.sc_calm_mail_law.specs.Over.{IsOver, EntriesLeaveOver}
 use Rattle.sc_calm_logs_law.specs.Logged.{IsGroupOf, ViewsAreReplicas}
-use Rattle.sc_calm_led_law.specs.States.{state_at, ReplicasRunLogs}
+use Rattle.sc_calm_answers_law.specs.States.{state_at, ReplicasRunLogs}
 use Rattle.sc_calm_charts_law.specs.Charting.{all_replicas, names_at, went_in}
 use Rattle.sc_calm_charts_law.specs.Ends.{GoInTurn}
 use Rattle.sc_calm_charts_law.specs.Following.{LedStandOnce}
 use Rattle.sc_calm_charts_law.proofs.Names.{names_grow}
-use Rattle.sc_calm_requests_law.specs.Starts.{LawfulReplicasAreNamedOnce}
+use Rattle.sc_calm_answers_law.specs.Starts.{LawfulReplicasAreNamedOnce}
 use Rattle.sc_calm_answers_law.specs.SettingCounting.{GoneAgree}
 use Rattle.sc_calm_answers_law.specs.KnownFronts.{IsQuietFront, FrontsAreFound, QuietLogsAreExecuted}
 use Rattle.sc_calm_answers_law.specs.Known.{FrontsGoneAgree}

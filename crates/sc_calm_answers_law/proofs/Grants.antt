@@ -26,7 +26,7 @@ use Rattle.sc_machine_table.specs.Machine.{applied}
 use Rattle.sc_machine_table.specs.Plans.{can_migrate, can_repart, can_split, closing_group, closing_plan, giving_group, giving_plan, has_key_of, may_merge, merged_group, merged_route, migrated_group, part_gift, taken, taking_group, taking_plan}
 use Rattle.sc_machine_table.specs.Splits.{left_group}
 use Rattle.sc_machine_table.specs.Transactions.{committed, granted, heard_group, watch_answered, vote_recorded, watch_recorded}
-use Rattle.sc_member.specs.Roster.{is_member}
+use Rattle.sc_base.specs.Roster.{is_member}
 use Rattle.sc_calm_scenes_law.specs.Counted.{StaysIn}
 
 -- it decides

@@ -16,7 +16,7 @@ use Rattle.sc_machine_table.specs.Machine.{applied}
 use Rattle.sc_mail.specs.declared.bodies.Mail.{Mail}
 use Rattle.sc_mail.specs.declared.bodies.MailBody.{MailBody}
 use Rattle.sc_mail.specs.declared.bodies.MailBody.TheVariants.{Accept, Accepted, Answer, Ask, Install, Learn, Nack, Prepare, Promise, Request, TxElsewhere, TxOutcome, TxPrepare, TxVote, TxWatch, TxWatched, Told as ToldMail}
-use Rattle.sc_member.specs.Roster.{least_of}
+use Rattle.sc_base.specs.Roster.{least_of}
 use Rattle.sc_node_table.specs.Node.{group_of_mail}
 use Rattle.sc_node_table.specs.Replica.{ReplicaState}
 use Rattle.sc_node_table.specs.Spoken.{before_of, went_on}

@@ -33,8 +33,8 @@ use Rattle.sc_cmd.specs.declared.votes.Vote.TheVariants as Says
 use Rattle.sc_cmd.specs.Cores.{is_alone}
 use Rattle.sc_cmd.specs.Effects.{decided_in}
 use Rattle.sc_machine_table.specs.Logs.{state_after}
-use Rattle.sc_member.specs.Roster.{is_member, with_member}
-use Rattle.sc_member.specs.Union.{with_any, united}
+use Rattle.sc_base.specs.Roster.{is_member, with_member}
+use Rattle.sc_base.specs.Union.{with_any, united}
 use Rattle.sc_machine_table.specs.Group.{Group, group_of}
 use Rattle.sc_machine_table.specs.Machine.{served_by_note, served, called, ordered_by, split_group, applied}
 use Rattle.sc_machine_table.specs.Orders.{refusal_of, with_node, without_node}

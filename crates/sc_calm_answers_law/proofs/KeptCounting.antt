@@ -6,7 +6,7 @@ use Rattle.sc_base.specs.Among.{Among, Each}
 use Rattle.sc_cmd.specs.declared.cores.Base.{Base}
 use Rattle.sc_cmd.specs.declared.commands.Command.{Command}
 use Rattle.sc_cmd.specs.declared.links.Route.{Route}
-use Rattle.sc_member.specs.Roster.{is_member, IsRoster}
+use Rattle.sc_base.specs.Roster.{is_member, IsRoster}
 use Rattle.sc_paxos_words.specs.Leaders.{flight_at}
 use Rattle.sc_paxos_words.specs.declared.flights.Flight.{Flight}
 use Rattle.sc_paxos_words.proofs.ListLemmas.{find_found, Each-among, Each-from}

@@ -26,8 +26,8 @@ use Rattle.sc_budget_law.specs.AskingQuiet.{replicas_after, setting_at, DoHintsR
 use Rattle.sc_budget_law.specs.AtRest.{frame_at_rest}
 use Rattle.sc_budget_law.specs.Frames.{Frame}
 use Rattle.sc_budget_law.proofs.Lists.{some_is}
-use Rattle.sc_calm_requests_law.specs.Hearing.{AreReached}
-use Rattle.sc_calm_requests_law.specs.Starts.{LawfulReplicasAreNamedOnce}
+use Rattle.sc_calm_answers_law.specs.Hearing.{AreReached}
+use Rattle.sc_calm_answers_law.specs.Starts.{LawfulReplicasAreNamedOnce}
 use Rattle.sc_calm_answers_law.specs.Settings.{AreAtNodes}
 use Rattle.sc_calm_answers_law.specs.Resting.{RestsAt}
 use Rattle.sc_calm_answers_law.specs.KeptRising.{ChartHintsRise}

@@ -28,7 +28,7 @@ use Rattle.sc_budget_law.specs.AskingQuiet.{replicas_after, IsQuietJournal}
 use Rattle.sc_budget_law.specs.BetweenJournal.{replicas_of}
 use Rattle.sc_budget_law.proofs.BetweenSteps.{in_numbers, to_numbers}
 use Rattle.sc_budget_law.proofs.Lists.{map_among}
-use Rattle.sc_calm_requests_law.specs.Starts.{AreNamedOnce, LawfulReplicasAreNamedOnce}
+use Rattle.sc_calm_answers_law.specs.Starts.{AreNamedOnce, LawfulReplicasAreNamedOnce}
 use Rattle.sc_calm_answers_law.specs.Settings.{AreAtNodes}
 
 -- what a mapped list has comes of one of its things

@@ -9,7 +9,7 @@ use Rattle.sc_cmd.specs.declared.cores.Base.{Base}
 use Rattle.sc_cmd.specs.declared.links.Route.{Route}
 use Rattle.sc_machine_table.specs.Group.{Group, group_of}
 use Rattle.sc_machine_table.specs.Logs.{state_after}
-use Rattle.sc_member.specs.Roster.{is_member}
+use Rattle.sc_base.specs.Roster.{is_member}
 use Rattle.sc_scenario.specs.declared.scenarios.Scenario.{Scenario}
 use Rattle.sc_node_table.specs.Replica.{ReplicaState, next}
 use Rattle.sc_sound.specs.GroupsOf.{groups_at}
@@ -21,7 +21,7 @@ use Rattle.sc_log_law.specs.Descent.{Rows}
 use Rattle.sc_following_law.specs.Following.{Course, members_at}
 use Rattle.sc_following_law.specs.Hints.{Tellers}
 use Rattle.sc_calm_logs_law.specs.Logged.{logged_sets}
-use Rattle.sc_calm_led_law.specs.States.{state_at}
+use Rattle.sc_calm_answers_law.specs.States.{state_at}
 use Rattle.sc_calm_answers_law.specs.Rests.{replicas_at, IsQuietGroup}
 use Rattle.sc_calm_answers_law.proofs.Facts.{even, members_have, place, states}
 use Rattle.sc_budget_law.specs.AskingQuiet.{replicas_after}

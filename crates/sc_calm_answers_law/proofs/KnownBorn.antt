@@ -7,7 +7,7 @@ use Rattle.sc_base.specs.declared.names.Draw.{Draw}
 use Rattle.sc_cmd.specs.declared.cores.Base.{Base}
 use Rattle.sc_cmd.specs.declared.orders.OrderLine.{OrderLine}
 use Rattle.sc_mail.specs.declared.bodies.Mail.{Mail}
-use Rattle.sc_member.specs.Roster.{is_member}
+use Rattle.sc_base.specs.Roster.{is_member}
 use Rattle.sc_machine_table.specs.Group.{group_of}
 use Rattle.sc_machine_table.specs.Logs.{state_after}
 use Rattle.sc_actor.specs.declared.actors.Seat.{Seat}
@@ -42,8 +42,8 @@ use Rattle.sc_calm_groups_law.specs.Led.{IsWellLed}
 use Rattle.sc_calm_groups_law.specs.Through.{ScenariosAreWellBorn, IsRowOf, HasOneLog, IsSentSo}
 use Rattle.sc_calm_groups_law.proofs.Beginning.{scenarios_begin_led, children_begin_led}
 use Rattle.sc_calm_groups_law.proofs.Events.{events_go_on}
-use Rattle.sc_calm_led_law.specs.Led.{over_at}
-use Rattle.sc_calm_led_law.specs.Tellers.{GroupsAreBornOrNot}
+use Rattle.sc_calm_answers_law.specs.Led.{over_at}
+use Rattle.sc_calm_answers_law.specs.Tellers.{GroupsAreBornOrNot}
 use Rattle.sc_calm_answers_law.specs.Bearing.{IsBirth, EntriesBearChildren}
 use Rattle.sc_calm_answers_law.specs.There.{AreBorn, IsBornOn, ChildrenAreMade}
 use Rattle.sc_calm_answers_law.proofs.BearingRows.{told_bears, lead_bears}

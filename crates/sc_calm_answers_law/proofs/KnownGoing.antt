@@ -30,7 +30,7 @@ use Rattle.sc_calm_rows_law.specs.Groups.{replicas_of as view_replicas, replica_
 use Rattle.sc_calm_charts_law.specs.Charting.{replicas_of, all_replicas, names_at, went_in}
 use Rattle.sc_calm_charts_law.specs.Following.{LedStandOnce}
 use Rattle.sc_calm_charts_law.proofs.Names.{led_by}
-use Rattle.sc_calm_requests_law.specs.Starts.{AreNamedOnce, LawfulReplicasAreNamedOnce}
+use Rattle.sc_calm_answers_law.specs.Starts.{AreNamedOnce, LawfulReplicasAreNamedOnce}
 use Rattle.sc_calm_answers_law.specs.SettingCounting.{GoneAgree}
 use Rattle.sc_calm_answers_law.specs.KnownFronts.{IsQuietFront, IsFoundFront, FrontsAreFound}
 use Rattle.sc_calm_answers_law.proofs.KnownFronts.{IsClient, replayed_client, client_among, seat_in, node_among}

@@ -6,7 +6,7 @@ use Rattle.std.proofs.lemmas.Bool.{cases_Bool, cases_lt}
 use Rattle.sc_base.specs.Among.{Among}
 use Rattle.sc_cmd.specs.declared.commands.Command.{Command}
 use Rattle.sc_cmd.specs.declared.cores.Base.{Base}
-use Rattle.sc_member.specs.Roster.{is_member, least_of}
+use Rattle.sc_base.specs.Roster.{is_member, least_of}
 use Rattle.sc_paxos_words.specs.declared.flights.Flight.{Flight}
 use Rattle.sc_paxos_words.specs.Leaders.{flight_at}
 use Rattle.sc_orderly_law.specs.Timely.{AreInTime}
@@ -28,9 +28,9 @@ use Rattle.sc_calm_rows_law.specs.Groups.{view_at}
 use Rattle.sc_calm_groups_law.specs.Through.{ScenariosAreWellBorn}
 use Rattle.sc_calm_groups_law.proofs.Keeping.{kept_leaders_rest, scenarios_kept_born}
 use Rattle.sc_calm_groups_law.proofs.Resting.{quiet_groups_led}
-use Rattle.sc_calm_led_law.specs.Led.{over_at}
-use Rattle.sc_calm_led_law.specs.Taught.{GroupsBeginTaught}
-use Rattle.sc_calm_led_law.specs.Tellers.{tellers_at}
+use Rattle.sc_calm_answers_law.specs.Led.{over_at}
+use Rattle.sc_calm_answers_law.specs.Taught.{GroupsBeginTaught}
+use Rattle.sc_calm_answers_law.specs.Tellers.{tellers_at}
 use Rattle.sc_calm_answers_law.specs.Rests.{IsQuietGroup}
 use Rattle.sc_calm_answers_law.proofs.Facts.{at, over, all, view, members_have, newest_next, place, room}
 use Rattle.sc_calm_answers_law.specs.KnownFronts.{IsQuietFront, IsKnownGroup, IsFoundFront, FrontsAreFound, QuietFrontsHaveGroups, QuietLogsAreExecuted}

@@ -3,7 +3,7 @@ use Rattle.std.proofs.Common.{◌≡◌, ℕ, ◌≤◌, true}
 use Rattle.sc_base.specs.Among.{Each}
 use Rattle.sc_cmd.specs.declared.cores.Base.{Base}
 use Rattle.sc_cmd.specs.declared.links.Route.{Route}
-use Rattle.sc_member.specs.Roster.{is_member}
+use Rattle.sc_base.specs.Roster.{is_member}
 use Rattle.sc_paxos_words.proofs.ListLemmas.{Each-among}
 use Rattle.sc_paxos_law.proofs.Among.{member-among}
 use Rattle.sc_scenario.specs.Valid.{IsUpTo, ValidScenariosAreBounded}

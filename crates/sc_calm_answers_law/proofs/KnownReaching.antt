@@ -7,7 +7,7 @@ use Rattle.sc_cmd.specs.declared.cores.Base.{Base}
 use Rattle.sc_cmd.specs.declared.links.Route.{Route}
 use Rattle.sc_machine_table.specs.Group.{Group, group_of}
 use Rattle.sc_machine_table.specs.Logs.{state_after}
-use Rattle.sc_member.specs.Roster.{is_member}
+use Rattle.sc_base.specs.Roster.{is_member}
 use Rattle.sc_scenario.specs.declared.scenarios.Scenario.{Scenario}
 use Rattle.sc_node_table.specs.Replica.{ReplicaState, next}
 use Rattle.sc_sound.specs.GroupsOf.{groups_at}
@@ -17,10 +17,10 @@ use Rattle.sc_calm_law.specs.Quiet.{HasReplica, IsNewest, StandsQuiet}
 use Rattle.sc_log_law.specs.Descent.{Rows}
 use Rattle.sc_following_law.specs.Following.{Course}
 use Rattle.sc_following_law.specs.Hints.{Tellers}
-use Rattle.sc_calm_led_law.specs.States.{state_at}
+use Rattle.sc_calm_answers_law.specs.States.{state_at}
 use Rattle.sc_calm_answers_law.specs.Rests.{replicas_at, IsQuietGroup, IsTakenIn}
 use Rattle.sc_budget_law.specs.AskingQuiet.{replicas_after}
-use Rattle.sc_calm_ring_law.specs.Cuts.{AreKnown}
+use Rattle.sc_calm_answers_law.specs.Cuts.{AreKnown}
 use Rattle.sc_calm_answers_law.specs.Settings.{AreReachable}
 use Rattle.sc_calm_answers_law.specs.Arcs.{FreeGroupsHaveArcs}
 use Rattle.sc_calm_answers_law.specs.KnownFronts.{IsQuietFront, IsKnownGroup, IsOfGroup, FrontsAreFound, QuietLogsAreExecuted}

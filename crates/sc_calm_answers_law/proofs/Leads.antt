@@ -5,7 +5,7 @@ use Rattle.sc_base.specs.declared.names.Draw.{Draw}
 use Rattle.sc_cmd.specs.declared.commands.Command.{Command}
 use Rattle.sc_cmd.specs.declared.cores.Base.{Base}
 use Rattle.sc_cmd.specs.declared.links.Route.{Route}
-use Rattle.sc_member.specs.Roster.{is_member}
+use Rattle.sc_base.specs.Roster.{is_member}
 use Rattle.sc_node_table.specs.Replica.{ReplicaState, listed, members}
 use Rattle.sc_orderly_law.specs.Timely.{AreInTime}
 use Rattle.sc_paxos_words.specs.declared.flights.Flight.{Flight}
@@ -13,7 +13,7 @@ use Rattle.sc_scenario.specs.declared.scenarios.Scenario.{Scenario}
 use Rattle.sc_sound.specs.Players.{as_nodes, births}
 use Rattle.sc_calm_law.specs.Charts.{players}
 use Rattle.sc_calm_law.specs.Totals.{Rows}
-use Rattle.sc_calm_led_law.specs.Led.{over_at}
+use Rattle.sc_calm_answers_law.specs.Led.{over_at}
 use Rattle.sc_calm_logs_law.specs.Logged.{IsGroupOf, logged_sets}
 use Rattle.sc_following_law.specs.Following.{members_at}
 use Rattle.sc_calm_mail_law.proofs.FewJournals.{journals_idle}

@@ -13,18 +13,26 @@ mod Begins
 pub mod Begun
 pub mod Beside
 pub mod BetweenRequests
+pub mod Born
 pub mod BornAsBegun
 pub mod Borne
+mod Calls
 pub mod Children
 pub mod Chosen
 pub mod Clients
 pub mod Comers
 mod Covered
+mod Cuts
+pub mod Cycle
 pub mod Delivering
 pub mod Desk
 pub mod Doers
 pub mod Drawn
 pub mod Elsewhere
+mod EndAll
+mod EndGroups
+mod EndStands
+pub mod Ends
 pub mod Entering
 pub mod Even
 pub mod Facts
@@ -34,15 +42,19 @@ pub mod FindingGroups
 pub mod FindingJournals
 pub mod FindingRows
 pub mod Finds
+mod FindsRows
 pub mod Finishes
 pub mod Fits
 pub mod Following
 pub mod FoundRows
 mod Frames
+pub mod Freeing
 pub mod FrontBegins
 pub mod Given
 pub mod GoingOn
+pub mod Gone
 pub mod Grants
+mod Heard
 pub mod Hinting
 pub mod Hintless
 pub mod Hints
@@ -70,11 +82,19 @@ pub mod KnownMembers
 pub mod KnownReaching
 pub mod KnownTurns
 pub mod Late
+mod LawfulLines
 pub mod Leader
+pub mod Leaders
+mod LeadersAsked
 pub mod Leading
 pub mod Leads
+pub mod LedBegins
 pub mod Lineage
 pub mod Lines
+mod LinesAsk
+mod LinesEnd
+mod LinesKeep
+mod LinesServe
 pub mod LinkEnds
 pub mod LinkEntries
 pub mod LinkFronts
@@ -84,6 +104,8 @@ pub mod Lists
 pub mod Logs
 pub mod Meeting
 pub mod Missed
+pub mod Moving
+mod NamedOnce
 pub mod Names
 pub mod Needs
 pub mod Newest
@@ -91,6 +113,8 @@ pub mod Nodes
 pub mod Noted
 pub mod Numbers
 pub mod Offered
+pub mod One
+mod OneLog
 pub mod Opened
 pub mod Ordered
 pub mod OrderedBeginning
@@ -108,9 +132,12 @@ pub mod Pending
 pub mod Places
 pub mod Placing
 pub mod Posted
+pub mod Pumping
 pub mod Questions
+mod QuietEnd
 pub mod Reached
 pub mod Records
+mod RequestsTaking
 pub mod RestStands
 pub mod Resting
 pub mod Ring
@@ -121,6 +148,8 @@ pub mod RiseQuiet
 pub mod RiseRising
 pub mod RiseRounds
 pub mod RiseSeen
+mod Round
+mod RowServes
 pub mod Said
 pub mod SaidNodes
 pub mod SaidParts
@@ -131,6 +160,7 @@ pub mod SentJournals
 pub mod SentSaying
 pub mod SentSeen
 pub mod SentTurns
+mod Serving
 pub mod Setting
 mod SettingCounting
 mod SettingLinked
@@ -140,14 +170,25 @@ pub mod Since
 pub mod Spoken
 pub mod Stages
 pub mod Standing
+pub mod Starting
+mod Starts
 pub mod Staying
 pub mod Stepping
 pub mod Still
 pub mod Strangers
 pub mod Strays
+mod Taken
 pub mod Taking
 pub mod Tasks
+pub mod Taught
+pub mod Telling
 pub mod There
+mod TokensClients
+mod TokensIdle
+mod TokensJournal
+mod TokensOne
+mod TokensPump
+mod TokensRows
 pub mod Told
 pub mod Took
 pub mod Topped
@@ -168,6 +209,7 @@ pub mod Unsettled
 pub mod Viewing
 pub mod Views
 pub mod Votes
+pub mod Voting
 pub mod WorkBeginning
 pub mod WorkBirths
 pub mod WorkFronts

@@ -6,7 +6,7 @@ use Rattle.sc_base.specs.Among.{Among}
 use Rattle.sc_base.specs.declared.names.Draw.{Draw}
 use Rattle.sc_cmd.specs.declared.commands.Command.{Command}
 use Rattle.sc_cmd.specs.declared.cores.Base.{Base}
-use Rattle.sc_member.specs.Roster.{is_member}
+use Rattle.sc_base.specs.Roster.{is_member}
 use Rattle.sc_log_entries.specs.Births.{birth_of}
 use Rattle.sc_log_entries.proofs.Children.{births_are_children}
 use Rattle.sc_machine_table.specs.Children.{child_by}

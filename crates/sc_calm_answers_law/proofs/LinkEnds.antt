@@ -9,9 +9,9 @@ use Rattle.sc_base.specs.declared.names.Draw.{Draw}
 use Rattle.sc_base.specs.declared.ops.Noted.{Noted}
 use Rattle.sc_base.specs.declared.ops.Op.{Op}
 use Rattle.sc_ideal.specs.IdealStore.{key_of, holds_key}
-use Rattle.sc_member.specs.Roster.{is_member, with_member}
-use Rattle.sc_member.proofs.UnionLemmas.{grows}
-use Rattle.sc_member.specs.Union.{united}
+use Rattle.sc_base.specs.Roster.{is_member, with_member}
+use Rattle.sc_base.proofs.UnionLemmas.{grows}
+use Rattle.sc_base.specs.Union.{united}
 use Rattle.sc_cmd.specs.declared.bodies.Offer.{Offer}
 use Rattle.sc_cmd.specs.declared.commands.Command.TheVariants.{Finish}
 use Rattle.sc_cmd.specs.declared.cores.Core.{Core}

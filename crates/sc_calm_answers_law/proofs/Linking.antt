@@ -20,7 +20,7 @@ use Rattle.sc_log_law.specs.Descent.{Rows}
 use Rattle.sc_log_law.specs.Findings.{AreItsLogs}
 use Rattle.sc_log_law.proofs.Lists.{find_base}
 use Rattle.sc_machine_table.specs.Group.{Group}
-use Rattle.sc_member.specs.Roster.{is_member}
+use Rattle.sc_base.specs.Roster.{is_member}
 use Rattle.sc_paxos_words.proofs.ListLemmas.{find_found}
 use Rattle.sc_scenario.specs.declared.scenarios.Scenario.{Scenario}
 use Rattle.sc_sound.specs.GroupsOf.{groups_at, birth_at, is_birth_of, world_at}
@@ -29,7 +29,7 @@ use Rattle.sc_sound.specs.Players.{as_nodes}
 use Rattle.sc_sound.specs.Soundness.{IsOneMap}
 use Rattle.sc_whole_law.specs.Valid.{ValidJournalsAreSound, ValidEntriesAreLogs}
 use Rattle.sc_calm_law.specs.Quiet.{HasReplica, IsNewest}
-use Rattle.sc_calm_led_law.specs.Led.{over_at}
+use Rattle.sc_calm_answers_law.specs.Led.{over_at}
 use Rattle.sc_calm_answers_law.specs.Rests.{replicas_at}
 use Rattle.sc_calm_answers_law.proofs.Facts.{even, kept, place, states}
 use Rattle.sc_calm_answers_law.specs.Arcs.{FreeGroupsHaveArcs}

@@ -30,7 +30,7 @@ use Rattle.sc_following_law.specs.Hints.{AreHeeded}
 use Rattle.sc_mail.specs.declared.bodies.Mail.{Mail}
 use Rattle.sc_mail.specs.declared.bodies.MailBody.{MailBody}
 use Rattle.sc_mail.specs.declared.bodies.MailBody.TheVariants.{Accept, Accepted, Answer, Ask, Install, Learn, Nack, Prepare, Promise, Request, TxElsewhere, TxOutcome, TxPrepare, TxVote, TxWatch, TxWatched}
-use Rattle.sc_member.specs.Roster.{is_member}
+use Rattle.sc_base.specs.Roster.{is_member}
 use Rattle.sc_node_table.specs.Node.{NodeState, group_of_mail}
 use Rattle.sc_sound.specs.Players.{Player}
 use Rattle.sc_calm_scenes_law.specs.Making.{Led as JoinsLed, Unled as JoinsUnled}

@@ -30,7 +30,7 @@ use Rattle.sc_calm_rows_law.specs.Groups.{view_at, marks_at}
 use Rattle.sc_calm_rows_law.specs.Turns.{IsSeat, with_event}
 use Rattle.sc_calm_mail_law.specs.Few.{SlotsAreLeft}
 use Rattle.sc_calm_logs_law.specs.Logged.{IsGroupOf, ViewsAreReplicas, SlotsHaveRosters}
-use Rattle.sc_calm_led_law.specs.States.{ReplicasRunLogs}
+use Rattle.sc_calm_answers_law.specs.States.{ReplicasRunLogs}
 use Rattle.sc_calm_scenes_law.specs.Fresh.{IsThere, IsNowhere, AreUntouched, IsToldInQuiet, FreshGroupsStay}
 use Rattle.sc_calm_scenes_law.specs.Found.{FindsOrder}
 use Rattle.sc_calm_answers_law.specs.Guided.{IsNamedGuide, IsReachedSo, NewestStay}
@@ -38,8 +38,8 @@ use Rattle.sc_calm_answers_law.specs.FoundRows.{IsOrdersRow, OrdersRowsFind}
 use Rattle.sc_calm_answers_law.specs.SentJournals.{IsQuietWhileYoung, IsSentStep, NextRowsAreSent, SentReplicas}
 use Rattle.sc_calm_charts_law.specs.Charting.{chart_at}
 use Rattle.sc_calm_logs_law.specs.Logged.{logged_sets}
-use Rattle.sc_calm_led_law.specs.Led.{over_at}
-use Rattle.sc_calm_led_law.specs.Tellers.{tellers_at}
+use Rattle.sc_calm_answers_law.specs.Led.{over_at}
+use Rattle.sc_calm_answers_law.specs.Tellers.{tellers_at}
 use Rattle.sc_calm_answers_law.specs.Hinting.{NextRowsRise}
 use Rattle.sc_calm_answers_law.specs.RiseRising.{IsRisingOn}
 use Rattle.sc_calm_answers_law.specs.RiseRounds.{IsRoundSince, OrdersKeepRounds}

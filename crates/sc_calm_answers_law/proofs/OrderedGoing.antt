@@ -39,7 +39,7 @@ use Rattle.sc_calm_rows_law.proofs.Viewing.{view_was}
 use Rattle.sc_calm_mail_law.specs.Few.{SlotsAreLeft}
 use Rattle.sc_calm_mail_law.specs.Lasting.{ReplicasLast}
 use Rattle.sc_calm_logs_law.specs.Logged.{ViewsAreReplicas, SlotsHaveRosters}
-use Rattle.sc_calm_led_law.specs.States.{ReplicasRunLogs}
+use Rattle.sc_calm_answers_law.specs.States.{ReplicasRunLogs}
 use Rattle.sc_calm_scenes_law.specs.Fresh.{IsThere, IsNowhere, AreUntouched, IsDelivered, FreshGroupsStay}
 use Rattle.sc_calm_scenes_law.specs.Found.{FindsOrder}
 use Rattle.sc_calm_scenes_law.specs.Kept.{GoesBy}
@@ -56,8 +56,8 @@ use Rattle.sc_calm_charts_law.specs.Fronts.{quiet_front}
 use Rattle.sc_budget_law.specs.AskingQuiet.{replicas_after, DoHintsRise}
 use Rattle.sc_budget_law.proofs.BetweenSteps.{each_numbered}
 use Rattle.sc_calm_logs_law.specs.Logged.{logged_sets}
-use Rattle.sc_calm_led_law.specs.Led.{over_at}
-use Rattle.sc_calm_led_law.specs.Tellers.{tellers_at}
+use Rattle.sc_calm_answers_law.specs.Led.{over_at}
+use Rattle.sc_calm_answers_law.specs.Tellers.{tellers_at}
 use Rattle.sc_calm_answers_law.specs.Hinting.{NextRowsRise}
 use Rattle.sc_calm_answers_law.specs.RiseRising.{IsRisingOn}
 use Rattle.sc_calm_answers_law.specs.RiseRounds.{IsRoundSince, OrdersKeepRounds}
@@ -87,7 +87,7 @@ use Rattle.sc_calm_answers_law.proofs.OrderedKnown.{named_there}
 use Rattle.sc_calm_answers_law.proofs.Clients.{gone_still, other_stays}
 use Rattle.sc_calm_answers_law.proofs.Placing.{place_of}
 use Rattle.sc_calm_answers_law.proofs.OrderedSending.{known_after}
-use Rattle.sc_calm_requests_law.specs.Starts.{LawfulReplicasAreNamedOnce}
+use Rattle.sc_calm_answers_law.specs.Starts.{LawfulReplicasAreNamedOnce}
 use Rattle.sc_calm_mail_law.specs.Posted.{MailMayCome}
 use Rattle.sc_orderly_law.specs.Timely.{AreInTime}
 use Rattle.sc_calm_scenes_law.specs.Turns.{LeadsAlone}

@@ -12,7 +12,7 @@ use Rattle.sc_cmd.specs.declared.orders.OrderLine.{OrderLine}
 use Rattle.sc_mail.specs.declared.bodies.Mail.{Mail}
 use Rattle.sc_mail.specs.declared.bodies.MailBody.{MailBody}
 use Rattle.sc_mail.specs.declared.bodies.MailBody.TheVariants.{Request, Answer, Prepare, Promise, Accept, Accepted, Nack, Learn, Ask, Install, TxPrepare, TxVote, TxOutcome, TxElsewhere, TxWatch, TxWatched, Told}
-use Rattle.sc_member.specs.Roster.{is_member}
+use Rattle.sc_base.specs.Roster.{is_member}
 use Rattle.sc_actor.specs.declared.actors.Seat.{Seat}
 use Rattle.sc_actor.specs.declared.rows.Event.{Event}
 use Rattle.sc_actor.specs.declared.rows.Event.TheVariants.{Deliver}
@@ -38,9 +38,9 @@ use Rattle.sc_calm_rows_law.specs.Turns.{IsSeat, with_event}
 use Rattle.sc_calm_mail_law.specs.Few.{SlotsAreLeft}
 use Rattle.sc_calm_mail_law.specs.Lasting.{IsLater, ReplicasLast}
 use Rattle.sc_calm_logs_law.specs.Logged.{IsGroupOf, ViewsAreReplicas, SlotsHaveRosters, logged_sets}
-use Rattle.sc_calm_led_law.specs.States.{state_at, ReplicasRunLogs}
-use Rattle.sc_calm_led_law.specs.Led.{over_at}
-use Rattle.sc_calm_led_law.specs.Tellers.{AreFew, tellers_at}
+use Rattle.sc_calm_answers_law.specs.States.{state_at, ReplicasRunLogs}
+use Rattle.sc_calm_answers_law.specs.Led.{over_at}
+use Rattle.sc_calm_answers_law.specs.Tellers.{AreFew, tellers_at}
 use Rattle.sc_calm_scenes_law.specs.Fresh.{IsThere, IsNowhere}
 use Rattle.sc_calm_scenes_law.proofs.Turning.{calm_is}
 use Rattle.sc_calm_answers_law.specs.Guided.{AreBoundBy, IsGuided, IsNamedGuide, IsReached, IsReachedSo, NewestStay}

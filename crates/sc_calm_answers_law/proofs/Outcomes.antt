@@ -38,8 +38,8 @@ use Rattle.sc_machine_table.specs.Plans.{Plan, can_cut, can_join, can_migrate, c
 use Rattle.sc_machine_table.specs.Splits.{left_group}
 use Rattle.sc_machine_table.specs.Transactions.{asks_watcher, committed, decided_group, granted, participant_answered, released, vote_recorded, watch_answered, watch_recorded}
 use Rattle.sc_machine_table.specs.Votes.{has_voted}
-use Rattle.sc_member.specs.Roster.{is_member}
-use Rattle.sc_member.specs.Union.{united}
+use Rattle.sc_base.specs.Roster.{is_member}
+use Rattle.sc_base.specs.Union.{united}
 use Rattle.sc_ring_law.specs.Allowed.{AreAllowed, IsAllowed, IsVoteCast, Sources, ToldWorld, first_told, stories_told, told_after, told_on}
 use Rattle.sc_ring_law.specs.Invariant.{Groups}
 use Rattle.sc_ring_law.specs.Laws.{BeginInPlace, stories_of}

@@ -38,8 +38,8 @@ use Rattle.sc_calm_rows_law.specs.Groups.{view_at, marks_at}
 use Rattle.sc_calm_mail_law.specs.Few.{SlotsAreLeft}
 use Rattle.sc_calm_groups_law.specs.Kept.{ScenariosAreKeptBorn}
 use Rattle.sc_calm_logs_law.specs.Logged.{IsGroupOf, SlotsHaveRosters, logged_sets}
-use Rattle.sc_calm_led_law.specs.Led.{over_at}
-use Rattle.sc_calm_led_law.specs.Tellers.{tellers_at}
+use Rattle.sc_calm_answers_law.specs.Led.{over_at}
+use Rattle.sc_calm_answers_law.specs.Tellers.{tellers_at}
 use Rattle.sc_calm_scenes_law.specs.Fresh.{IsThere}
 use Rattle.sc_calm_scenes_law.specs.Quiet.{HasNothing, QuietScenesAreOver}
 use Rattle.sc_calm_scenes_law.specs.Scenes.{scene_at}

@@ -40,9 +40,9 @@ use Rattle.sc_calm_rows_law.specs.Groups.{view_at, marks_at, progress_at}
 use Rattle.sc_calm_groups_law.specs.Tops.{NodesKeepTops, NodesAreBornTopped}
 use Rattle.sc_calm_groups_law.specs.Rests.{QuietGroupsAreLed, IsLedQuietly}
 use Rattle.sc_calm_logs_law.specs.Logged.{logged_sets}
-use Rattle.sc_calm_led_law.specs.Led.{over_at}
-use Rattle.sc_calm_led_law.specs.States.{state_at}
-use Rattle.sc_calm_led_law.specs.Tellers.{tellers_at}
+use Rattle.sc_calm_answers_law.specs.Led.{over_at}
+use Rattle.sc_calm_answers_law.specs.States.{state_at}
+use Rattle.sc_calm_answers_law.specs.Tellers.{tellers_at}
 use Rattle.sc_calm_answers_law.specs.Rests.{replicas_at, IsQuietGroup, SawNoMore, QuietGroupsStand, QuietGroupsAreGone, IsDone, QuietReplicasRest, QuietReplicasAreKept}
 use Rattle.sc_calm_answers_law.proofs.Facts.{even, has_one}
 use Rattle.sc_calm_answers_law.specs.SentJournals.{IsSentThrough, SentReplicas}

@@ -10,9 +10,9 @@ use Rattle.sc_calm_law.specs.Charts.{players}
 use Rattle.sc_calm_law.specs.Totals.{Rows}
 use Rattle.sc_calm_charts_law.specs.Charting.{chart_at}
 use Rattle.sc_budget_law.specs.AskingQuiet.{QuietJournalsAsk}
-use Rattle.sc_calm_requests_law.specs.OneLog.{LawfulLinesLeaveQuiet}
-use Rattle.sc_calm_ring_law.specs.Cuts.{QuietGroupsHaveCuts}
-use Rattle.sc_calm_ring_law.specs.Round.{StandingGroupsAreRound}
+use Rattle.sc_calm_answers_law.specs.OneLog.{LawfulLinesLeaveQuiet}
+use Rattle.sc_calm_answers_law.specs.Cuts.{QuietGroupsHaveCuts}
+use Rattle.sc_calm_answers_law.specs.Round.{StandingGroupsAreRound}
 use Rattle.sc_calm_answers_law.specs.Settings.{frames_after, QuietJournalsHaveFrames, QuietSettingsAreLinked}
 use Rattle.sc_calm_answers_law.specs.KnownFronts.{IsQuietFront, FrontsAreFound}
 use Rattle.sc_calm_answers_law.specs.KeptRising.{ChartHintsRise}

@@ -22,7 +22,7 @@ use Rattle.sc_node_table.specs.Slots.{numbers_from, slots_ahead}
 use Rattle.sc_sound.specs.Players.{Player, player_table, births, as_nodes, node_seat, client_seat, client_seats, route_of, Lawful}
 use Rattle.sc_calm_law.specs.Totals.{Rows}
 use Rattle.sc_calm_rows_law.specs.Groups.{view_at}
-use Rattle.sc_calm_requests_law.specs.Starts.{LawfulReplicasAreNamedOnce}
+use Rattle.sc_calm_answers_law.specs.Starts.{LawfulReplicasAreNamedOnce}
 use Rattle.sc_calm_charts_law.specs.Charting.{replicas_of as chart_replicas, all_replicas}
 use Rattle.sc_calm_answers_law.specs.Settings.{AreAtNodes}
 use Rattle.sc_budget_law.specs.AskingQuiet.{replicas_after}

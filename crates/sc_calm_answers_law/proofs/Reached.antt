@@ -3,7 +3,7 @@ use Rattle.std.proofs.Common.{◌≡◌, ℕ, ◌≤◌, true, List, [], ◌∷�
 use Rattle.std.proofs.lemmas.Bool.{cond-true}
 use Rattle.sc_base.specs.Among.{Among}
 use Rattle.sc_cmd.specs.declared.cores.Base.{Base}
-use Rattle.sc_member.specs.Roster.{is_member, least_of}
+use Rattle.sc_base.specs.Roster.{is_member, least_of}
 use Rattle.sc_orderly_law.specs.Timely.{AreInTime}
 use Rattle.sc_scenario.specs.Valid.{IsBounded, ValidScenariosAreBounded}
 use Rattle.sc_scenario.specs.declared.scenarios.Scenario.{Scenario}

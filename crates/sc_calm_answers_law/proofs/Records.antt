@@ -24,8 +24,8 @@ use Rattle.sc_machine_table.specs.Plans.{can_migrate, can_repart, frozen_of, has
 use Rattle.sc_machine_table.specs.Transactions.{begun_group, heard_group}
 use Rattle.sc_machine_table.specs.Votes.{vote_of}
 use Rattle.sc_machine_table.specs.Logs.{state_after}
-use Rattle.sc_member.specs.Roster.{is_member}
-use Rattle.sc_member.specs.Union.{united}
+use Rattle.sc_base.specs.Roster.{is_member}
+use Rattle.sc_base.specs.Union.{united}
 use Rattle.sc_node_table.specs.Replica.{ReplicaState}
 use Rattle.sc_node_table.specs.Spoken.{before_in}
 use Rattle.sc_paxos_words.specs.declared.flights.Flight.{Flight}

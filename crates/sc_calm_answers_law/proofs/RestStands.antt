@@ -8,7 +8,7 @@ use Rattle.sc_base.specs.declared.names.Ballot.{Ballot}
 use Rattle.sc_cmd.specs.declared.commands.Command.{Command}
 use Rattle.sc_cmd.specs.declared.cores.Base.{Base}
 use Rattle.sc_cmd.specs.declared.links.Route.{Route}
-use Rattle.sc_member.specs.Roster.{is_member, least_of}
+use Rattle.sc_base.specs.Roster.{is_member, least_of}
 use Rattle.sc_machine_table.specs.Group.{Group}
 use Rattle.sc_paxos_words.specs.declared.flights.Flight.{Flight}
 use Rattle.sc_paxos_words.specs.declared.reports.Report.{Report}
@@ -32,7 +32,7 @@ use Rattle.sc_calm_groups_law.specs.Cleared.{RestsCleared}
 use Rattle.sc_calm_groups_law.specs.Rests.{IsLedQuietly}
 use Rattle.sc_calm_groups_law.proofs.Keeping.{kept_leaders_rest, scenarios_kept_born}
 use Rattle.sc_calm_groups_law.proofs.Resting.{quiet_groups_led}
-use Rattle.sc_calm_led_law.specs.States.{state_at, ReplicasRunLogs}
+use Rattle.sc_calm_answers_law.specs.States.{state_at, ReplicasRunLogs}
 use Rattle.sc_calm_answers_law.specs.Rests.{replicas_at, IsQuietGroup, SawNoMore, QuietGroupsStand, IsTakenIn, QuietGroupsAreGone}
 use Rattle.sc_calm_answers_law.proofs.Facts.{opens_same, set_slot, at, over, all, now, view, even, place, has_one, newest_next, members_have, states, kept, room, same_state, ran}
 

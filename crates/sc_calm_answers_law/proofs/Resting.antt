@@ -4,7 +4,7 @@ use Rattle.std.proofs.lemmas.Bool.{cases_Bool, cases_lt}
 use Rattle.sc_cmd.specs.declared.cores.Base.{Base}
 use Rattle.sc_cmd.specs.declared.cores.Lock.TheVariants.{Free}
 use Rattle.sc_machine_table.specs.Group.{Group}
-use Rattle.sc_member.specs.Roster.{is_member}
+use Rattle.sc_base.specs.Roster.{is_member}
 use Rattle.sc_scenario.specs.declared.scenarios.Scenario.{Scenario}
 use Rattle.sc_node_table.specs.Replica.{ReplicaState, next}
 use Rattle.sc_sound.specs.Players.{as_nodes}
@@ -16,8 +16,8 @@ use Rattle.sc_following_law.specs.Taught.{IsMemberBy}
 use Rattle.sc_calm_groups_law.specs.Cleared.{RestsCleared}
 use Rattle.sc_calm_groups_law.specs.Slots.{IsSlotKept}
 use Rattle.sc_calm_groups_law.proofs.Keeping.{kept_leaders_rest, scenarios_kept_born}
-use Rattle.sc_calm_led_law.specs.States.{state_at, ReplicasRunLogs}
-use Rattle.sc_calm_led_law.proofs.Freeing.{leavers_free}
+use Rattle.sc_calm_answers_law.specs.States.{state_at, ReplicasRunLogs}
+use Rattle.sc_calm_answers_law.proofs.Freeing.{leavers_free}
 use Rattle.sc_calm_mail_law.specs.Idle.{IsPlainlyKept}
 use Rattle.sc_calm_answers_law.specs.Rests.{replicas_at, IsQuietGroup, IsDone, QuietReplicasRest}
 use Rattle.sc_calm_answers_law.proofs.Facts.{at, over, all, view, even, knows, place, kept, plain, room, ran}

@@ -27,7 +27,7 @@ use Rattle.sc_sound.specs.Soundness.{IsOneMap}
 use Rattle.sc_calm_law.specs.Quiet.{IsNewest, StandsQuiet}
 use Rattle.sc_calm_law.specs.Totals.{Rows}
 use Rattle.sc_budget_law.specs.AskingQuiet.{IsQuietJournal, replicas_after}
-use Rattle.sc_calm_ring_law.specs.Cuts.{AreKnown, state_of}
+use Rattle.sc_calm_answers_law.specs.Cuts.{AreKnown, state_of}
 use Rattle.std.specs.FinMap.{empty}
 use Rattle.sc_ideal.specs.History.{contents_after}
 use Rattle.sc_ring_law.proofs.Insides.{InsideOf, inside_part, room_of}

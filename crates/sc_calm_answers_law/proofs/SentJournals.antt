@@ -11,7 +11,7 @@ use Rattle.sc_cmd.specs.declared.orders.OrderLine.{OrderLine}
 use Rattle.sc_mail.specs.declared.bodies.Mail.{Mail}
 use Rattle.sc_mail.specs.declared.bodies.MailBody.{MailBody}
 use Rattle.sc_mail.specs.declared.bodies.MailBody.TheVariants.{Request, Answer, Prepare, Promise, Accept, Accepted, Nack, Learn, Ask, Install, TxPrepare, TxVote, TxOutcome, TxElsewhere, TxWatch, TxWatched, Told}
-use Rattle.sc_member.specs.Roster.{is_member}
+use Rattle.sc_base.specs.Roster.{is_member}
 use Rattle.sc_actor.proofs.ReplayLemmas.{mails-snoc}
 use Rattle.sc_actor.specs.declared.actors.Seat.{Seat}
 use Rattle.sc_actor.specs.declared.rows.Event.{Event}
@@ -46,8 +46,8 @@ use Rattle.sc_calm_groups_law.specs.Kinds.{IsGroupRow, RowPasses, RowRests, RowT
 use Rattle.sc_calm_groups_law.specs.Led.{Ends, IsWellLed}
 use Rattle.sc_calm_groups_law.specs.Through.{HasOneLog, IsSentSo, EventsGoOn, ScenariosAreWellBorn}
 use Rattle.sc_calm_groups_law.proofs.Dating.{dated_in, taken_dated, rows_dated}
-use Rattle.sc_calm_led_law.specs.Led.{over_at, LedLogsAreOne}
-use Rattle.sc_calm_led_law.specs.Tellers.{tellers_at, AreFew, GroupsAreLed, GroupsBeginLed}
+use Rattle.sc_calm_answers_law.specs.Led.{over_at, LedLogsAreOne}
+use Rattle.sc_calm_answers_law.specs.Tellers.{tellers_at, AreFew, GroupsAreLed, GroupsBeginLed}
 use Rattle.sc_calm_mail_law.specs.Idle.{JournalsKeepIdle}
 use Rattle.sc_calm_answers_law.specs.Above.{AreAbove, HasBelow, IsAskedOn}
 use Rattle.sc_calm_answers_law.specs.SentHomes.{IsAtHome}

@@ -8,7 +8,7 @@ use Rattle.sc_cmd.specs.declared.links.Route.{Route}
 use Rattle.sc_actor.specs.declared.actors.Seat.{Seat}
 use Rattle.sc_actor.specs.Walk.{is_quiet}
 use Rattle.sc_actor.proofs.WalkLemmas.{lawful-prefix}
-use Rattle.sc_member.specs.Roster.{is_member}
+use Rattle.sc_base.specs.Roster.{is_member}
 use Rattle.sc_node_table.specs.Replica.{ReplicaState, next, members}
 use Rattle.sc_scenario.specs.declared.scenarios.Scenario.{Scenario}
 use Rattle.sc_scenario.specs.Valid.{ValidScenariosAreBounded}
@@ -27,9 +27,9 @@ use Rattle.sc_budget_law.specs.AtRest.{frame_at_rest}
 use Rattle.sc_budget_law.specs.CalmAsking.{IsLinkedSetting}
 use Rattle.sc_budget_law.specs.CalmNode.{Setting, IsSetting}
 use Rattle.sc_budget_law.specs.Frames.{Frame}
-use Rattle.sc_calm_requests_law.specs.Hearing.{AreReached}
-use Rattle.sc_calm_ring_law.specs.Cuts.{QuietGroupsHaveCuts}
-use Rattle.sc_calm_ring_law.specs.Round.{AreOfCuts, StandingGroupsAreRound}
+use Rattle.sc_calm_answers_law.specs.Hearing.{AreReached}
+use Rattle.sc_calm_answers_law.specs.Cuts.{QuietGroupsHaveCuts}
+use Rattle.sc_calm_answers_law.specs.Round.{AreOfCuts, StandingGroupsAreRound}
 use Rattle.sc_calm_answers_law.specs.Settings.{frames_after, AreAtNodes, QuietJournalsHaveFrames, QuietSettingsAreLinked}
 use Rattle.sc_calm_answers_law.specs.Journal.{IsCalmJournal, IsFront}
 use Rattle.sc_calm_answers_law.specs.Resting.{RestsAt}

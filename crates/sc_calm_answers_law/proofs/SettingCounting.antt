@@ -42,8 +42,8 @@ use Rattle.sc_budget_law.specs.CalmNode.{Setting, IsHome, HasGoneTo}
 use Rattle.sc_budget_law.specs.Frames.{Frame}
 use Rattle.sc_budget_law.proofs.BetweenSteps.{in_numbers, to_numbers}
 use Rattle.sc_budget_law.proofs.Lists.{map_among}
-use Rattle.sc_calm_requests_law.specs.Finding.{CountsAs}
-use Rattle.sc_calm_requests_law.specs.Starts.{LawfulReplicasAreNamedOnce}
+use Rattle.sc_calm_answers_law.specs.RequestsFinding.{CountsAs}
+use Rattle.sc_calm_answers_law.specs.Starts.{LawfulReplicasAreNamedOnce}
 use Rattle.sc_calm_answers_law.specs.SettingCounting.{GoneAgree, QuietChartsCount}
 use Rattle.sc_calm_answers_law.specs.Settings.{AreAtNodes, AreReachable}
 use Rattle.sc_calm_answers_law.proofs.Frames.{from_map, nodes_numbered, seen, view}

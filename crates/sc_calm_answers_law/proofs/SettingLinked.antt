@@ -2,7 +2,7 @@
 use Rattle.std.proofs.Common.{◌≡◌, Some, sym, ◌∙◌, ap, subst}
 use Rattle.std.proofs.lemmas.Option.{none-some}
 use Rattle.sc_following_law.proofs.Leads.{least_in}
-use Rattle.sc_member.specs.Roster.{least_of}
+use Rattle.sc_base.specs.Roster.{least_of}
 use Rattle.sc_budget_law.specs.AskingQuiet.{setting_at}
 use Rattle.sc_budget_law.specs.CalmNode.{IsHome}
 use Rattle.sc_budget_law.specs.Frames.{Frame}

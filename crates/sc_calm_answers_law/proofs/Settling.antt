@@ -16,8 +16,8 @@ use Rattle.sc_machine_table.specs.Logs.{state_after}
 use Rattle.sc_mail.specs.declared.bodies.Mail.{Mail}
 use Rattle.sc_mail.specs.declared.bodies.MailBody.TheVariants.{TxElsewhere}
 use Rattle.sc_mail.specs.declared.roles.Role.TheVariants.{Node}
-use Rattle.sc_member.specs.Majority.{is_majority, votes_of}
-use Rattle.sc_member.specs.Roster.{is_member}
+use Rattle.sc_base.specs.Majority.{is_majority, votes_of}
+use Rattle.sc_base.specs.Roster.{is_member}
 use Rattle.sc_node_table.specs.Node.{NodeState, group_of_mail}
 use Rattle.sc_node_table.specs.Replica.{ReplicaState, first_set, may_offer, members, next, settled}
 use Rattle.sc_orderly_law.specs.Orderly.{IsCalmEvent, is_born}
@@ -35,8 +35,8 @@ use Rattle.sc_following_law.proofs.Ordered.{order_is_kept}
 use Rattle.sc_calm_law.specs.Charts.{players}
 use Rattle.sc_calm_law.specs.Totals.{Rows}
 use Rattle.sc_calm_logs_law.specs.Logged.{IsGroupOf, logged_sets}
-use Rattle.sc_calm_led_law.specs.Led.{over_at}
-use Rattle.sc_calm_led_law.specs.Tellers.{tellers_at}
+use Rattle.sc_calm_answers_law.specs.Led.{over_at}
+use Rattle.sc_calm_answers_law.specs.Tellers.{tellers_at}
 use Rattle.sc_calm_groups_law.specs.Kinds.{IsLedStep}
 use Rattle.sc_calm_groups_law.proofs.BornWell.{scenarios_well_born}
 use Rattle.sc_calm_groups_law.proofs.Events.{events_go_on}

@@ -10,7 +10,7 @@ use Rattle.sc_cmd.specs.declared.cores.Base.{Base}
 use Rattle.sc_cmd.specs.declared.orders.OrderLine.{OrderLine}
 use Rattle.sc_mail.specs.declared.bodies.Mail.{Mail}
 use Rattle.sc_mail.specs.declared.bodies.MailBody.TheVariants.{Install}
-use Rattle.sc_member.specs.Roster.{is_member}
+use Rattle.sc_base.specs.Roster.{is_member}
 use Rattle.sc_actor.specs.declared.actors.Seat.{Seat}
 use Rattle.sc_actor.specs.declared.rows.Event.{Event}
 use Rattle.sc_actor.specs.declared.rows.Event.TheVariants.{Deliver}
@@ -41,9 +41,9 @@ use Rattle.sc_calm_groups_law.specs.Kinds.{IsGroupRow, RowPasses, RowRests, RowT
 use Rattle.sc_calm_groups_law.specs.Led.{Ends}
 use Rattle.sc_calm_groups_law.specs.Through.{IsRowOf, Delivers, IsSentSo}
 use Rattle.sc_calm_groups_law.proofs.Sending.{each_among, among_marks}
-use Rattle.sc_calm_led_law.specs.Led.{over_at}
-use Rattle.sc_calm_led_law.specs.Tellers.{tellers_at, AreFew, LedRowsGoOn}
-use Rattle.sc_calm_led_law.proofs.Telling.{answers_none, offers_none, tells_within}
+use Rattle.sc_calm_answers_law.specs.Led.{over_at}
+use Rattle.sc_calm_answers_law.specs.Tellers.{tellers_at, AreFew, LedRowsGoOn}
+use Rattle.sc_calm_answers_law.proofs.Telling.{answers_none, offers_none, tells_within}
 use Rattle.sc_calm_answers_law.specs.Finding.{StatesStand}
 use Rattle.sc_calm_answers_law.proofs.FindingEnding.{next_ends}
 

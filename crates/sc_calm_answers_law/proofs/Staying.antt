@@ -58,7 +58,7 @@ use Rattle.sc_calm_rows_law.proofs.WellNodes.{Plays, replay_well}
 use Rattle.sc_calm_rows_law.specs.WellKept.{IsWellKept}
 use Rattle.sc_calm_groups_law.specs.Through.{IsWellPlayer, ScenariosAreWellBorn}
 use Rattle.sc_calm_logs_law.specs.Logged.{IsGroupOf}
-use Rattle.sc_calm_led_law.specs.Led.{ChildrenAreBegun}
+use Rattle.sc_calm_answers_law.specs.Led.{ChildrenAreBegun}
 use Rattle.sc_calm_scenes_law.specs.Fresh.{IsNowhere, IsErrandFor, AreUntouched}
 use Rattle.sc_calm_scenes_law.proofs.Fresh.{client_leaves, got_nothing, quiet_errands, unknown_apart}
 use Rattle.sc_calm_scenes_law.proofs.Left.{errands-append, left_by, left_row}

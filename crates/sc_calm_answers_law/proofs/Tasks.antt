@@ -26,7 +26,7 @@ use Rattle.sc_cmd.specs.declared.votes.Past.TheVariants as Cast
 use Rattle.sc_cmd.specs.declared.votes.Vote.{Vote}
 use Rattle.sc_cmd.specs.declared.votes.Vote.TheVariants as Votes
 use Rattle.sc_cmd.specs.declared.votes.Frozen.{Frozen}
-use Rattle.sc_member.specs.Roster.{is_member}
+use Rattle.sc_base.specs.Roster.{is_member}
 use Rattle.sc_machine_table.specs.Children.{ordered_child, released_child, answered_child, watched_child, child_by}
 use Rattle.sc_machine_table.specs.Finishes.{participant_after, settled_in, watch_ended, finished}
 use Rattle.sc_machine_table.specs.Group.{Group}

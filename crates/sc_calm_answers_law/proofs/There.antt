@@ -3,7 +3,7 @@ use Rattle.std.proofs.Common.{◌≡◌, ℕ, zero, suc, ◌≤◌, true, List, 
 use Rattle.std.proofs.lemmas.Bool.{cond-true}
 use Rattle.sc_base.specs.Among.{Among}
 use Rattle.sc_cmd.specs.declared.cores.Base.{Base}
-use Rattle.sc_member.specs.Roster.{is_member}
+use Rattle.sc_base.specs.Roster.{is_member}
 use Rattle.sc_orderly_law.specs.Timely.{AreInTime}
 use Rattle.sc_scenario.specs.Valid.{IsBounded, ValidScenariosAreBounded}
 use Rattle.sc_scenario.specs.declared.scenarios.Scenario.{Scenario}
@@ -23,9 +23,9 @@ use Rattle.sc_calm_rows_law.specs.Groups.{view_at, marks_at, next_in}
 use Rattle.sc_calm_rows_law.proofs.Beginning.{view_born}
 use Rattle.sc_calm_mail_law.proofs.Lasting.{replicas_last}
 use Rattle.sc_calm_groups_law.specs.Through.{ScenariosAreWellBorn}
-use Rattle.sc_calm_led_law.specs.Taught.{GroupsBeginTaught}
-use Rattle.sc_calm_led_law.specs.Tellers.{tellers_at}
-use Rattle.sc_calm_led_law.proofs.Begins.{begun_first}
+use Rattle.sc_calm_answers_law.specs.Taught.{GroupsBeginTaught}
+use Rattle.sc_calm_answers_law.specs.Tellers.{tellers_at}
+use Rattle.sc_calm_answers_law.proofs.LedBegins.{begun_first}
 use Rattle.sc_calm_answers_law.proofs.Facts.{none}
 use Rattle.sc_calm_scenes_law.specs.Fresh.{IsThere}
 use Rattle.sc_calm_answers_law.specs.Bearing.{IsBirth}

@@ -3,14 +3,14 @@ use Rattle.std.proofs.Common.{◌≡◌, ℕ, ◌≤◌, eqb, true, true≢false
 use Rattle.std.proofs.lemmas.Bool.{eq-eqb, or_left}
 use Rattle.sc_base.specs.declared.names.Draw.{Draw}
 use Rattle.sc_cmd.specs.declared.links.Route.{Route}
-use Rattle.sc_member.specs.Roster.{is_member, least_of}
+use Rattle.sc_base.specs.Roster.{is_member, least_of}
 use Rattle.sc_machine_table.specs.Group.{Group}
 use Rattle.sc_node_table.specs.Replica.{ReplicaState}
 use Rattle.sc_scenario.specs.declared.scenarios.Scenario.{Scenario}
 use Rattle.sc_sound.specs.Players.{as_nodes, births}
 use Rattle.sc_calm_law.specs.Quiet.{HasReplica, IsNewest, IsQuiet, StandsQuiet, View}
 use Rattle.sc_calm_law.specs.Totals.{Rows}
-use Rattle.sc_calm_ring_law.specs.Cuts.{AreKnown}
+use Rattle.sc_calm_answers_law.specs.Cuts.{AreKnown}
 use Rattle.sc_calm_answers_law.specs.Settings.{AreReachable}
 use Rattle.sc_calm_scenes_law.specs.Fresh.{IsThere}
 use Rattle.sc_budget_law.specs.AskingQuiet.{replicas_after}

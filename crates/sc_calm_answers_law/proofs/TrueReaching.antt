@@ -10,7 +10,7 @@ use Rattle.sc_cmd.specs.declared.cores.Base.{Base}
 use Rattle.sc_machine_table.specs.Group.{Group}
 use Rattle.sc_mail.specs.declared.bodies.Mail.{Mail}
 use Rattle.sc_mail.specs.declared.bodies.MailBody.TheVariants.{TxElsewhere}
-use Rattle.sc_member.specs.Roster.{least_of}
+use Rattle.sc_base.specs.Roster.{least_of}
 use Rattle.sc_node_table.specs.Node.{group_of_mail}
 use Rattle.sc_node_table.specs.Replica.{ReplicaState}
 use Rattle.sc_paxos_words.specs.declared.flights.Flight.{Flight}

@@ -38,7 +38,7 @@ use Rattle.sc_ideal.specs.IdealStore.{key_of, holds_key}
 use Rattle.std.specs.FinMap.{get}
 use Rattle.sc_cmd.specs.declared.votes.Gift.{Gift}
 use Rattle.sc_cmd.specs.declared.cores.Core.{Core}
-use Rattle.sc_member.specs.Union.{united}
+use Rattle.sc_base.specs.Union.{united}
 use Rattle.sc_machine_table.specs.Orders.{refusal_of, with_node, without_node, ordered}
 use Rattle.sc_machine_table.specs.Splits.{left_group, right_members, child_of, has_named}
 use Rattle.sc_machine_table.specs.Transactions.{begun_group, committed, granted, participant_answered, asks_watcher, vote_recorded, watch_answered, watch_recorded, is_coordinating}

@@ -7,7 +7,7 @@ use Rattle.sc_base.specs.Among.{Among}
 use Rattle.sc_base.specs.declared.names.Draw.{Draw}
 use Rattle.sc_cmd.specs.declared.cores.Base.{Base}
 use Rattle.sc_cmd.specs.declared.orders.OrderLine.{OrderLine}
-use Rattle.sc_member.specs.Roster.{is_member}
+use Rattle.sc_base.specs.Roster.{is_member}
 use Rattle.sc_actor.specs.Walk.{is_quiet}
 use Rattle.sc_actor.specs.declared.actors.Seat.{Seat}
 use Rattle.sc_orderly_law.specs.Orderly.{is_born}
@@ -33,9 +33,9 @@ use Rattle.sc_calm_rows_law.specs.Groups.{view_at, next_in, marks_at, progress_a
 use Rattle.sc_calm_groups_law.specs.Taught.{IsTaughtOn}
 use Rattle.sc_calm_groups_law.specs.Through.{ScenariosAreWellBorn}
 use Rattle.sc_calm_logs_law.specs.Logged.{logged_sets}
-use Rattle.sc_calm_led_law.specs.Led.{over_at, ChildrenAreBegun}
-use Rattle.sc_calm_led_law.specs.Taught.{GroupsAreTaught}
-use Rattle.sc_calm_led_law.specs.Tellers.{tellers_at, AreFew}
+use Rattle.sc_calm_answers_law.specs.Led.{over_at, ChildrenAreBegun}
+use Rattle.sc_calm_answers_law.specs.Taught.{GroupsAreTaught}
+use Rattle.sc_calm_answers_law.specs.Tellers.{tellers_at, AreFew}
 use Rattle.sc_calm_scenes_law.specs.Fresh.{IsThere}
 use Rattle.sc_calm_answers_law.specs.Tasks.{Task}
 use Rattle.sc_calm_answers_law.specs.Works.{IsTaskOf, DeliveriesKeepWork}

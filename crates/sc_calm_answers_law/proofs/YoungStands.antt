@@ -28,7 +28,7 @@ use Rattle.sc_calm_law.specs.Totals.{Rows}
 use Rattle.sc_calm_rows_law.specs.Groups.{view_at}
 use Rattle.sc_calm_logs_law.specs.Logged.{IsGroupOf, ViewsAreReplicas}
 use Rattle.sc_calm_logs_law.proofs.Journals.{found}
-use Rattle.sc_calm_led_law.specs.States.{ReplicasRunLogs}
+use Rattle.sc_calm_answers_law.specs.States.{ReplicasRunLogs}
 use Rattle.sc_calm_answers_law.specs.Journal.{IsCalmJournal, IsFront}
 use Rattle.sc_calm_answers_law.proofs.WorkBirths.{HasBorn, stays_born, kid_members, new_born}
 use Rattle.sc_calm_answers_law.proofs.Lineage.{log_gains, take_more, after_more, last_child}

@@ -7,8 +7,8 @@ use Rattle.sc_calm_groups_law.specs.Led.{IsWellLed}
 use Rattle.sc_calm_groups_law.specs.Through.{IsSentSo}
 use Rattle.sc_calm_law.specs.Charts.{players}
 use Rattle.sc_calm_law.specs.Totals.{Rows}
-use Rattle.sc_calm_led_law.specs.Led.{over_at}
-use Rattle.sc_calm_led_law.specs.Tellers.{AreFew, tellers_at}
+use Rattle.sc_calm_answers_law.specs.Led.{over_at}
+use Rattle.sc_calm_answers_law.specs.Tellers.{AreFew, tellers_at}
 use Rattle.sc_calm_logs_law.specs.Logged.{IsGroupOf, logged_sets}
 use Rattle.sc_calm_orders_law.specs.Scenes.{Bond}
 use Rattle.sc_calm_rows_law.specs.Turns.{IsSeat, with_event}

@@ -23,8 +23,8 @@ use Rattle.sc_following_law.specs.Hints.{Tellers}
 use Rattle.sc_calm_rows_law.specs.Turns.{IsSeat, with_event}
 use Rattle.sc_calm_logs_law.specs.Logged.{logged_sets, IsGroupOf}
 use Rattle.sc_calm_groups_law.specs.Through.{Delivers, IsSentSo}
-use Rattle.sc_calm_led_law.specs.Led.{over_at}
-use Rattle.sc_calm_led_law.specs.Tellers.{AreFew}
+use Rattle.sc_calm_answers_law.specs.Led.{over_at}
+use Rattle.sc_calm_answers_law.specs.Tellers.{AreFew}
 use Rattle.sc_calm_answers_law.specs.Meeting.{MeetsMail, NeedsAt}
 
 -- what is asked of a mail to a node, by a chart

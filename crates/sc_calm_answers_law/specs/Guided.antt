@@ -22,7 +22,7 @@ use Rattle.sc_cmd.specs.declared.cores.Base.{Base}
 use Rattle.sc_cmd.specs.declared.orders.OrderLine.{OrderLine}
 use Rattle.sc_following_law.specs.Following.{Course, Sets}
 use Rattle.sc_following_law.specs.Hints.{Tellers}
-use Rattle.sc_member.specs.Roster.{IsRoster}
+use Rattle.sc_base.specs.Roster.{IsRoster}
 use Rattle.sc_node_table.specs.Replica.{ReplicaState, last_slot, next}
 use Rattle.sc_orderly_law.specs.Orderly.{is_born}
 use Rattle.sc_orderly_law.specs.Timely.{AreInTime}

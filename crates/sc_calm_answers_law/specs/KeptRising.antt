@@ -11,7 +11,7 @@ use Rattle.sc_calm_charts_law.specs.Charting.{chart_at}
 use Rattle.sc_calm_charts_law.specs.Fronts.{quiet_front}
 use Rattle.sc_budget_law.specs.AskingQuiet.{replicas_after, setting_at, DoHintsRise, AreFramesOf}
 use Rattle.sc_budget_law.specs.Frames.{Frame}
-use Rattle.sc_calm_requests_law.specs.Hearing.{AreReached}
+use Rattle.sc_calm_answers_law.specs.Hearing.{AreReached}
 use Rattle.sc_calm_answers_law.specs.Settings.{AreAtNodes}
 use Rattle.sc_calm_answers_law.specs.Resting.{RestsAt}
 

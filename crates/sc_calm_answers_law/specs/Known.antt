@@ -13,12 +13,12 @@ use Rattle.sc_calm_law.specs.Totals.{Rows}
 use Rattle.sc_following_law.specs.Following.{Course}
 use Rattle.sc_following_law.specs.Hints.{Tellers}
 use Rattle.sc_calm_orders_law.specs.Stages.{Still, IsAt}
-use Rattle.sc_calm_led_law.specs.States.{state_at}
+use Rattle.sc_calm_answers_law.specs.States.{state_at}
 use Rattle.sc_calm_scenes_law.specs.Fresh.{IsThere}
 use Rattle.sc_calm_scenes_law.specs.Scenes.{scene_at}
 use Rattle.sc_calm_answers_law.specs.Rests.{replicas_at, IsQuietGroup, IsTakenIn}
 use Rattle.sc_budget_law.specs.AskingQuiet.{replicas_after}
-use Rattle.sc_calm_ring_law.specs.Cuts.{AreKnown}
+use Rattle.sc_calm_answers_law.specs.Cuts.{AreKnown}
 use Rattle.sc_calm_answers_law.specs.SettingCounting.{GoneAgree}
 use Rattle.sc_calm_answers_law.specs.Settings.{AreReachable}
 use Rattle.sc_calm_answers_law.specs.KnownFronts.{IsQuietFront}

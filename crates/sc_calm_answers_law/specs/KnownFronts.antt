@@ -17,7 +17,7 @@ use Rattle.sc_calm_law.specs.Charts.{players}
 use Rattle.sc_calm_law.specs.Totals.{Rows}
 use Rattle.sc_following_law.specs.Following.{Course}
 use Rattle.sc_calm_rows_law.specs.Groups.{view_at}
-use Rattle.sc_calm_led_law.specs.Tellers.{tellers_at}
+use Rattle.sc_calm_answers_law.specs.Tellers.{tellers_at}
 use Rattle.sc_calm_scenes_law.specs.Fresh.{IsThere}
 use Rattle.sc_calm_answers_law.specs.Rests.{IsQuietGroup}
 use Rattle.sc_budget_law.specs.AskingQuiet.{replicas_after}

@@ -27,7 +27,7 @@ use Rattle.sc_calm_charts_law.specs.Charting.{chart_at}
 use Rattle.sc_calm_charts_law.specs.Fronts.{quiet_front}
 use Rattle.sc_budget_law.specs.AskingQuiet.{replicas_after, DoHintsRise}
 use Rattle.sc_calm_logs_law.specs.Logged.{logged_sets}
-use Rattle.sc_calm_led_law.specs.Tellers.{tellers_at}
+use Rattle.sc_calm_answers_law.specs.Tellers.{tellers_at}
 use Rattle.sc_calm_answers_law.specs.RiseRising.{IsRisingOn}
 use Rattle.sc_calm_answers_law.specs.RiseRounds.{IsRoundSince}
 use Rattle.sc_calm_answers_law.specs.Journal.{IsCalmJournal, IsFront, GoesOnBy, IsNamedGroup}

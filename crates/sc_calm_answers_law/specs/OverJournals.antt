@@ -18,7 +18,7 @@ use Rattle.sc_calm_answers_law.specs.KnownFronts.{IsQuietFront}
 use Rattle.sc_base.specs.Among.{Among}
 use Rattle.sc_sound.specs.GroupsOf.{groups_at}
 use Rattle.sc_calm_logs_law.specs.Logged.{logged_sets}
-use Rattle.sc_calm_led_law.specs.Tellers.{tellers_at}
+use Rattle.sc_calm_answers_law.specs.Tellers.{tellers_at}
 use Rattle.sc_calm_answers_law.specs.RiseRising.{IsRisingOn}
 use Rattle.sc_calm_answers_law.specs.Journal.{AreSent}
 use Rattle.sc_calm_answers_law.specs.Resting.{RestsAt}

@@ -4,7 +4,7 @@ use Rattle.sc_base.specs.Among.{Among}
 use Rattle.sc_cmd.specs.declared.cores.Base.{Base}
 use Rattle.sc_cmd.specs.declared.orders.OrderLine.{OrderLine}
 use Rattle.sc_mail.specs.declared.bodies.Mail.{Mail}
-use Rattle.sc_member.specs.Roster.{is_member}
+use Rattle.sc_base.specs.Roster.{is_member}
 use Rattle.sc_actor.specs.declared.actors.Seat.{Seat}
 use Rattle.sc_actor.specs.declared.rows.Event.{Event}
 use Rattle.sc_actor.specs.declared.rows.Row.{Row}
@@ -26,7 +26,7 @@ use Rattle.sc_budget_law.specs.Asking.{IsAsking}
 use Rattle.sc_budget_law.specs.AskingLines.{AreRequests, NobodyWaits}
 use Rattle.sc_budget_law.specs.AskingQuiet.{replicas_after, setting_at}
 use Rattle.sc_budget_law.specs.CalmNode.{Setting}
-use Rattle.sc_calm_requests_law.specs.Rows.{NodesMayPump, AreNear}
+use Rattle.sc_calm_answers_law.specs.Rows.{NodesMayPump, AreNear}
 use Rattle.sc_calm_answers_law.specs.SettingCounting.{GoneAgree}
 use Rattle.sc_calm_answers_law.specs.Settings.{frames_after, AreAtNodes}
 use Rattle.sc_calm_answers_law.specs.Journal.{IsCalmJournal, IsFront, AreSent}

@@ -3,7 +3,7 @@ use Rattle.std.specs.Prelude.{◌≡◌, ℕ, ◌+◌, ◌≤◌, true, Some}
 use Rattle.sc_base.specs.Among.{Among}
 use Rattle.sc_base.specs.declared.names.Draw.{Draw}
 use Rattle.sc_cmd.specs.declared.cores.Base.{Base}
-use Rattle.sc_member.specs.Roster.{is_member}
+use Rattle.sc_base.specs.Roster.{is_member}
 use Rattle.sc_actor.specs.Walk.{is_quiet}
 use Rattle.sc_orderly_law.specs.Orderly.{orders}
 use Rattle.sc_scenario.specs.declared.scenarios.Scenario.{Scenario}
@@ -20,11 +20,11 @@ use Rattle.sc_calm_scenes_law.specs.Fresh.{IsThere}
 use Rattle.sc_calm_charts_law.specs.Charting.{names_at, all_replicas}
 use Rattle.sc_calm_charts_law.specs.Ends.{GoInTurn}
 use Rattle.sc_budget_law.specs.AskingQuiet.{IsQuietJournal, replicas_after}
-use Rattle.sc_calm_ring_law.specs.Cuts.{AreKnown}
-use Rattle.sc_calm_requests_law.specs.OneLog.{AllMayPump}
+use Rattle.sc_calm_answers_law.specs.Cuts.{AreKnown}
+use Rattle.sc_calm_answers_law.specs.OneLog.{AllMayPump}
 use Rattle.sc_calm_answers_law.specs.Settings.{AreReachable}
 use Rattle.sc_calm_logs_law.specs.Logged.{logged_sets}
-use Rattle.sc_calm_led_law.specs.Tellers.{tellers_at}
+use Rattle.sc_calm_answers_law.specs.Tellers.{tellers_at}
 use Rattle.sc_calm_answers_law.specs.RiseRising.{IsRisingOn}
 use Rattle.sc_calm_answers_law.specs.Journal.{IsFront, AreSent}
 

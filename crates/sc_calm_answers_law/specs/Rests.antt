@@ -4,7 +4,7 @@ use Rattle.sc_base.specs.Among.{Each}
 use Rattle.sc_cmd.specs.declared.cores.Base.{Base}
 use Rattle.sc_cmd.specs.declared.cores.Lock.TheVariants.{Free}
 use Rattle.sc_cmd.specs.declared.links.Route.{Route}
-use Rattle.sc_member.specs.Roster.{is_member}
+use Rattle.sc_base.specs.Roster.{is_member}
 use Rattle.sc_actor.specs.Walk.{is_quiet}
 use Rattle.sc_orderly_law.specs.Orderly.{is_born}
 use Rattle.sc_orderly_law.specs.Timely.{AreInTime}
@@ -24,8 +24,8 @@ use Rattle.sc_calm_logs_law.specs.Logged.{logged_sets, IsGroupOf}
 use Rattle.sc_calm_groups_law.specs.Led.{IsWellLed}
 use Rattle.sc_calm_groups_law.specs.Taught.{AreTaughtAt}
 use Rattle.sc_calm_groups_law.specs.Through.{HasOneLog}
-use Rattle.sc_calm_led_law.specs.Led.{over_at}
-use Rattle.sc_calm_led_law.specs.States.{state_at}
+use Rattle.sc_calm_answers_law.specs.Led.{over_at}
+use Rattle.sc_calm_answers_law.specs.States.{state_at}
 
 -- the replicas of a scenario after some rows
 abbrev pub replicas_at : Scenario → Rows → View

@@ -17,7 +17,7 @@ use Rattle.sc_calm_charts_law.specs.Ends.{GoInTurn}
 use Rattle.sc_calm_charts_law.specs.Fronts.{quiet_front}
 use Rattle.sc_budget_law.specs.AskingQuiet.{replicas_after, setting_at, AreFramesOf, IsQuietJournal}
 use Rattle.sc_budget_law.specs.Frames.{Frame}
-use Rattle.sc_calm_requests_law.specs.Finding.{CountsAs}
+use Rattle.sc_calm_answers_law.specs.RequestsFinding.{CountsAs}
 use Rattle.sc_calm_answers_law.specs.Settings.{AreAtNodes, AreReachable}
 
 -- replicas of one group that are gone know the same group that it went into

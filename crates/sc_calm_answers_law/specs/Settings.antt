@@ -8,7 +8,7 @@ use Rattle.sc_cmd.specs.declared.orders.OrderLine.{OrderLine}
 use Rattle.sc_mail.specs.declared.bodies.Mail.{Mail}
 use Rattle.sc_actor.specs.declared.rows.Row.{Row}
 use Rattle.sc_actor.specs.Replay.{value}
-use Rattle.sc_member.specs.Roster.{is_member}
+use Rattle.sc_base.specs.Roster.{is_member}
 use Rattle.sc_node_table.specs.Replica.{ReplicaState}
 use Rattle.sc_node_table.specs.Slots.{numbers_from}
 use Rattle.sc_scenario.specs.declared.scenarios.Scenario.{Scenario}

@@ -14,7 +14,7 @@ use Rattle.sc_cmd.specs.declared.cores.Lock.TheVariants.{Coordinating, Promised,
 use Rattle.sc_cmd.specs.declared.votes.Frozen.{Frozen}
 use Rattle.sc_cmd.specs.declared.votes.Heard.{Heard}
 use Rattle.sc_cmd.specs.declared.votes.Vote.TheVariants as Vows
-use Rattle.sc_member.specs.Union.{united}
+use Rattle.sc_base.specs.Union.{united}
 use Rattle.sc_machine_table.specs.Group.{Group}
 use Rattle.sc_machine_table.specs.Plans.{can_split, frozen_of}
 use Rattle.sc_node_table.specs.Node.{NodeState}

@@ -7,15 +7,15 @@ ghost use Rattle.sc_calm_answers_law.specs.Requested.{
 };
 
 use crate::kept_laws::{chart_hints_rise, views_agree};
+use crate::request_laws::{
+    lawful_quiet_journals_count_once, quiet_journals_know_one, request_rows_find_calm,
+};
+use crate::ring_laws::{quiet_groups_have_cuts, standing_groups_are_round};
 use crate::setting_laws::{
     quiet_charts_count, quiet_journals_have_frames, quiet_settings_are_linked,
 };
 use sc_budget_law::{quiet_journals_ask, requests_go_on};
 use sc_calm_mail_law::{replicas_last, slots_are_left};
-use sc_calm_requests_law::{
-    lawful_quiet_journals_count_once, quiet_journals_know_one, request_rows_find_calm,
-};
-use sc_calm_ring_law::{quiet_groups_have_cuts, standing_groups_are_round};
 use sc_scenario::valid_scenarios_are_bounded;
 
 /// Since a quiet front that rests clients may ask.

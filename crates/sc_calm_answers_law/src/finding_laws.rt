@@ -9,7 +9,7 @@ ghost use Rattle.sc_calm_answers_law.specs.Finding.{
 };
 ghost use Rattle.sc_calm_answers_law.specs.Meeting.{NeedsByKind};
 
-use sc_calm_led_law::{groups_are_led, led_logs_are_one, led_rows_go_on};
+use crate::led_laws::{groups_are_led, led_logs_are_one, led_rows_go_on};
 use sc_scenario::valid_scenarios_are_bounded;
 
 /// Mail of a group that is well led, delivered to a node, finds what is asked of it, where it has

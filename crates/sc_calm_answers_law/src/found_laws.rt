@@ -11,8 +11,8 @@ ghost use Rattle.sc_calm_answers_law.specs.Leader.{LeadersAreFound, StagesLeaveO
 ghost use Rattle.sc_calm_answers_law.specs.Missed.{MissedAreFound, YoungMayBear};
 ghost use Rattle.sc_calm_answers_law.specs.Votes.{StagesExpectWork, VotesAreFound};
 
+use crate::led_laws::{groups_are_led, led_logs_are_one};
 use sc_calm_groups_law::{events_go_on, scenarios_are_well_born};
-use sc_calm_led_law::{groups_are_led, led_logs_are_one};
 
 /// A well led group has one that leads alone, bound by no report, or none runs; and each replica
 /// that runs is that one.

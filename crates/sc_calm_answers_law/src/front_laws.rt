@@ -6,14 +6,14 @@ use crate::answer_laws::quiet_journals_begin;
 use crate::found_laws::quiet_leaders_have_nothing;
 use crate::kept_laws::views_agree;
 use crate::known_laws::{fronts_are_found, no_mail_for_strangers};
+use crate::led_laws::groups_begin_standing;
 use crate::over_laws::{quiet_fronts_rest, quiet_journals_rest};
+use crate::request_laws::lawful_replicas_are_named_once;
 use crate::rise_laws::{groups_begin_rising, orders_keep_rounds, rounds_are_seen};
 use crate::sent_laws::{groups_are_born_as_begun, groups_begin_sent};
 use sc_calm_groups_law::scenarios_are_kept_born;
-use sc_calm_led_law::groups_begin_standing;
 use sc_calm_logs_law::slots_have_rosters;
 use sc_calm_mail_law::slots_are_left;
-use sc_calm_requests_law::lawful_replicas_are_named_once;
 use sc_calm_scenes_law::quiet_scenes_are_over;
 use sc_scenario::valid_scenarios_are_bounded;
 

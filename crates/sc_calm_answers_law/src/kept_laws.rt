@@ -8,13 +8,13 @@ ghost use Rattle.sc_calm_answers_law.specs.Viewing.{ViewsAgree};
 
 use crate::finding_laws::{journal_mail_finds, mail_is_for_its_node, stray_mail_finds};
 use crate::found_laws::{stages_leave_one_work, well_led_lead_alone};
+use crate::request_laws::lawful_replicas_are_named_once;
 use sc_calm_charts_law::{charts_follow, led_stand_once};
 use sc_calm_entries_law::{bonds_ask, order_entries_count};
 use sc_calm_groups_law::{replicas_are_kept, scenarios_are_kept_born};
 use sc_calm_logs_law::slots_have_rosters;
 use sc_calm_mail_law::slots_are_left;
 use sc_calm_orders_law::tables_order;
-use sc_calm_requests_law::lawful_replicas_are_named_once;
 use sc_calm_scenes_law::{answers_reach_leaders, fresh_groups_stay, scenes_tell, works_fly_lone};
 use sc_scenario::valid_scenarios_are_bounded;
 

@@ -29,12 +29,12 @@ ghost use Rattle.sc_calm_answers_law.specs.There.{
   FrontsHaveMembers,
 };
 
+use crate::led_laws::{groups_are_born_or_not, groups_begin_taught, replicas_run_logs};
+use crate::request_laws::lawful_replicas_are_named_once;
 use sc_calm_charts_law::led_stand_once;
 use sc_calm_groups_law::{events_go_on, rows_keep_taught, scenarios_are_well_born};
-use sc_calm_led_law::{groups_are_born_or_not, groups_begin_taught, replicas_run_logs};
 use sc_calm_logs_law::views_are_replicas;
 use sc_calm_mail_law::{entries_leave_over, replicas_last};
-use sc_calm_requests_law::lawful_replicas_are_named_once;
 use sc_names_law::{names_have_one_owner, orders_are_allowed};
 use sc_scenario::valid_scenarios_are_bounded;
 use sc_whole_law::{valid_entries_are_logs, valid_journals_are_sound, valid_scenarios_begin_well};

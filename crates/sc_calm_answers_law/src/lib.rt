@@ -106,3 +106,26 @@ mod young_laws;
 pub use young_laws::{
     children_are_borne, children_were_nowhere, groups_are_quiet_while_young, young_groups_stay,
 };
+
+mod led_laws;
+
+pub use led_laws::{
+    children_are_begun, ends_are_logged, groups_are_born_or_not, groups_are_led, groups_are_taught,
+    groups_begin_led, groups_begin_standing, groups_begin_taught, leavers_free, led_logs_are_one,
+    led_rows_go_on, members_move_one_way, replicas_run_logs,
+};
+
+mod ring_laws;
+
+pub use ring_laws::{quiet_groups_have_cuts, standing_groups_are_round};
+
+mod request_laws;
+
+pub use request_laws::{
+    answers_are_expected, answers_are_heard_calmly, clients_ask_leaders, clients_go_calmly,
+    idle_counts_once, lawful_journals_have_one_log, lawful_lines_leave_quiet,
+    lawful_quiet_journals_count_once, lawful_replicas_are_named_once, lines_ask_leaders,
+    lines_leave_quiet, lines_leave_replicas_quiet, quiet_journals_count_once,
+    quiet_journals_have_no_mail, quiet_journals_know_one, quiet_leaders_are_reached,
+    request_rows_find_calm, requests_are_taken_calmly, tokens_never_rise, tokens_stay,
+};

@@ -6,6 +6,8 @@ ghost use Rattle.sc_calm_answers_law.specs.OrderedEntries.{FlightsAreEntries};
 use crate::found_laws::{newest_stay, orders_rows_find, orders_rows_meet, well_led_lead_alone};
 use crate::kept_laws::{order_rows_find_calm, told_orders_find_calm, views_agree};
 use crate::known_laws::{fronts_are_found, no_mail_for_strangers};
+use crate::led_laws::replicas_run_logs;
+use crate::request_laws::lawful_replicas_are_named_once;
 use crate::rise_laws::{next_rows_rise, orders_keep_rounds};
 use crate::sent_laws::{next_rows_are_sent, sent_replicas};
 use crate::true_laws::{
@@ -16,10 +18,8 @@ use crate::true_laws::{
 };
 use crate::work_laws::{deliveries_keep_work, orders_begin_work, work_stands_alone};
 use crate::young_laws::{children_are_borne, children_were_nowhere, young_groups_stay};
-use sc_calm_led_law::replicas_run_logs;
 use sc_calm_logs_law::{slots_have_rosters, views_are_replicas};
 use sc_calm_mail_law::{mail_may_come, replicas_last, slots_are_left};
-use sc_calm_requests_law::lawful_replicas_are_named_once;
 use sc_calm_scenes_law::{fresh_groups_stay, quiet_scenes_are_over};
 use sc_scenario::valid_scenarios_are_bounded;
 use sc_whole_law::members_stay_rosters;

@@ -8,16 +8,16 @@ use crate::known_laws::{
     fronts_are_taken_in, fronts_are_there, fronts_have_members, no_mail_for_strangers,
     quiet_fronts_have_groups, quiet_logs_are_executed, still_fronts_are_free,
 };
+use crate::request_laws::lawful_lines_leave_quiet;
 use crate::rest_laws::{
     quiet_groups_are_gone, quiet_groups_stand, quiet_replicas_are_kept, quiet_replicas_rest,
 };
+use crate::ring_laws::{quiet_groups_have_cuts, standing_groups_are_round};
 use crate::rise_laws::{quiet_hints_rise, rounds_are_seen};
 use crate::sent_laws::sent_replicas;
 use crate::setting_laws::{quiet_journals_have_frames, quiet_settings_are_linked};
 use sc_budget_law::quiet_journals_ask;
 use sc_calm_groups_law::{nodes_are_born_topped, nodes_keep_tops, quiet_groups_are_led};
-use sc_calm_requests_law::lawful_lines_leave_quiet;
-use sc_calm_ring_law::{quiet_groups_have_cuts, standing_groups_are_round};
 use sc_scenario::valid_scenarios_are_bounded;
 
 /// A quiet front of a calm journal rests, by what is known of its replicas, clients and notes.

@@ -8,7 +8,7 @@ ghost use Rattle.sc_calm_answers_law.specs.Rests.{
   QuietReplicasRest,
 };
 
-use sc_calm_led_law::replicas_run_logs;
+use crate::led_laws::replicas_run_logs;
 use sc_calm_logs_law::replicas_are_logged;
 
 /// Each node that was ever a member of the group has a replica of it.

@@ -11,8 +11,8 @@ ghost use Rattle.sc_calm_answers_law.specs.SentJournals.{
   SentReplicas,
 };
 
+use crate::led_laws::{groups_are_born_or_not, groups_are_led, groups_begin_led, led_logs_are_one};
 use sc_calm_groups_law::{events_go_on, scenarios_are_well_born};
-use sc_calm_led_law::{groups_are_born_or_not, groups_are_led, groups_begin_led, led_logs_are_one};
 use sc_calm_mail_law::{journals_keep_idle, replicas_last};
 use sc_scenario::valid_scenarios_are_bounded;
 

@@ -6,8 +6,8 @@ ghost use Rattle.sc_calm_answers_law.specs.Settings.{
   QuietSettingsAreLinked,
 };
 
+use crate::request_laws::lawful_replicas_are_named_once;
 use sc_calm_charts_law::{ends_fall, led_stand_once};
-use sc_calm_requests_law::lawful_replicas_are_named_once;
 use sc_scenario::valid_scenarios_are_bounded;
 
 /// In a quiet lawful journal whose replicas are at nodes of the scenario, the frames of the replicas

@@ -4,9 +4,9 @@ ghost use Rattle.sc_calm_answers_law.specs.Borne.{ChildrenAreBorne};
 ghost use Rattle.sc_calm_answers_law.specs.Children.{ChildrenWereNowhere, GroupsAreQuietWhileYoung};
 ghost use Rattle.sc_calm_answers_law.specs.Young.{YoungGroupsStay};
 
+use crate::led_laws::{children_are_begun, groups_are_taught, replicas_run_logs};
 use crate::work_laws::deliveries_keep_work;
 use sc_calm_groups_law::scenarios_are_well_born;
-use sc_calm_led_law::{children_are_begun, groups_are_taught, replicas_run_logs};
 use sc_calm_logs_law::views_are_replicas;
 use sc_calm_mail_law::{replicas_last, slots_are_left};
 use sc_following_law::quiet_members_know;

@@ -11,7 +11,7 @@ use Rattle.sc_cmd.specs.declared.votes.Outcome.{Outcome}
 use Rattle.sc_cmd.specs.declared.votes.Past.TheVariants as Cast
 use Rattle.sc_cmd.specs.declared.votes.Vote.{Vote}
 use Rattle.sc_machine_table.specs.Machine.{applied}
-use Rattle.sc_member.specs.Roster.{is_member}
+use Rattle.sc_base.specs.Roster.{is_member}
 use Rattle.sc_node_table.specs.Execute.{entered}
 use Rattle.sc_node_table.specs.Replica.{ReplicaState, next, members, forgotten}
 use Rattle.sc_node_table.specs.Slots.{at_slot, with_slot, without_slot}

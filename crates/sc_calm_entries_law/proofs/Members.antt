@@ -31,8 +31,8 @@ use Rattle.sc_machine_table.specs.Orders.{refusal_of, ordered, with_node, withou
 use Rattle.sc_machine_table.specs.Plans.{Plan, closing_plan, closing_group, repart_plan, giving_plan, taking_plan, giving_group, taking_group, can_repart, taken, part_gift, has_key_of, migrate_plan, migrated_group, can_migrate, merge_plan, merged_group, merged_route, may_merge, split_plan, can_split, can_cut}
 use Rattle.sc_machine_table.specs.Splits.{has_named, left_group}
 use Rattle.sc_machine_table.specs.Transactions.{begun_group, heard_group, asks_watcher, committed, participant_answered, granted, vote_recorded, watch_recorded, released}
-use Rattle.sc_member.specs.Roster.{is_member, with_member}
-use Rattle.sc_member.specs.Union.{with_any, united}
+use Rattle.sc_base.specs.Roster.{is_member, with_member}
+use Rattle.sc_base.specs.Union.{with_any, united}
 use Rattle.sc_following_law.proofs.Polled.{with_kept}
 
 module _ (group : Group) where

@@ -21,7 +21,7 @@ use Rattle.sc_machine_table.specs.Orders.{refusal_of, ordered}
 use Rattle.sc_machine_table.specs.Splits.{has_named}
 use Rattle.sc_machine_table.specs.Transactions.{begun_group}
 use Rattle.sc_machine_table.specs.Votes.{has_voted, vote_of, watch_vote_of, voted_on}
-use Rattle.sc_member.specs.Roster.{is_member}
+use Rattle.sc_base.specs.Roster.{is_member}
 use Rattle.sc_node_table.specs.Execute.{entered}
 use Rattle.sc_node_table.specs.Questions.{question, asked_link}
 use Rattle.sc_node_table.specs.Replica.{ReplicaState, next, members, forgotten}

@@ -6,7 +6,7 @@ use Rattle.sc_cmd.specs.declared.commands.Command.TheVariants.{Noop, Call, Join,
 use Rattle.sc_cmd.specs.declared.cores.Lock.TheVariants.{Free}
 use Rattle.sc_cmd.specs.declared.votes.Past.TheVariants as Cast
 use Rattle.sc_machine_table.specs.Machine.{applied}
-use Rattle.sc_member.specs.Roster.{is_member}
+use Rattle.sc_base.specs.Roster.{is_member}
 use Rattle.sc_node_table.specs.Replica.{ReplicaState, members}
 use Rattle.sc_node_table.specs.Spoken.{before_of}
 use Rattle.sc_paxos_words.specs.declared.flights.Flight.{Flight}

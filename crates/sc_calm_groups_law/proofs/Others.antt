@@ -3,7 +3,7 @@ use Rattle.std.proofs.Common.{◌≡◌, ℕ, ◌+◌, ◌<◌, true, List, None
 use Rattle.std.proofs.lemmas.Bool.{eqb-true}
 use Rattle.sc_cmd.specs.declared.cores.Base.{Base}
 use Rattle.sc_cmd.specs.declared.orders.OrderLine.{OrderLine}
-use Rattle.sc_member.specs.Roster.{IsRoster, is_member}
+use Rattle.sc_base.specs.Roster.{IsRoster, is_member}
 use Rattle.sc_actor.specs.declared.actors.Seat.{Seat}
 use Rattle.sc_actor.specs.declared.rows.Event.{Event}
 use Rattle.sc_orderly_law.specs.Timely.{AreInTime}

@@ -26,7 +26,7 @@ use Rattle.sc_mail.specs.declared.bodies.AnswerBody.TheVariants as Says
 use Rattle.sc_mail.specs.declared.bodies.Mail.{Mail}
 use Rattle.sc_mail.specs.declared.bodies.MailBody.{MailBody}
 use Rattle.sc_mail.specs.declared.bodies.MailBody.TheVariants.{Request, Answer, Prepare, Promise, Accept, Accepted, Nack, Learn, Ask, Install, TxPrepare, TxVote, TxOutcome, TxElsewhere, TxWatch, TxWatched, Told as ToldMail}
-use Rattle.sc_member.specs.Roster.{is_member}
+use Rattle.sc_base.specs.Roster.{is_member}
 use Rattle.sc_paxos_words.specs.declared.reports.Report.{Report}
 use Rattle.sc_paxos_words.specs.declared.answers.PrepareAnswer.{PrepareAnswer}
 use Rattle.sc_paxos_words.specs.declared.answers.PrepareAnswer.TheVariants as Prepared
@@ -43,7 +43,7 @@ use Rattle.sc_paxos_words.specs.Votes.{counted, vote_at, voters_after, kept_vote
 use Rattle.sc_paxos_words.specs.Ballots.{IsAtLeast}
 use Rattle.sc_paxos_words.proofs.BallotLemmas.{at_least_itself}
 use Rattle.sc_paxos_words.specs.declared.flights.Flight.{Flight}
-use Rattle.sc_member.specs.Majority.{is_majority}
+use Rattle.sc_base.specs.Majority.{is_majority}
 use Rattle.sc_node_table.specs.Acts.{with_act, has_act, act_queued}
 use Rattle.sc_node_table.specs.Election.{ended, stopped, saw}
 use Rattle.sc_node_table.specs.Execute.{executed, has_room}

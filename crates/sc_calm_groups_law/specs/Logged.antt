@@ -1,7 +1,7 @@
 -- What a group's log must be, so that each row of a calm journal keeps the group well led: what is said of it here is of the log alone, and not of who leads or heeds.
 use Rattle.std.specs.Prelude.{◌≡◌, ℕ, ◌+◌, ◌-◌, ◌^◌, ◌<◌, ◌≤◌, true, List, length, is_some, ◌⊎◌}
 use Rattle.sc_cmd.specs.declared.cores.Base.{Base}
-use Rattle.sc_member.specs.Roster.{IsRoster, is_member}
+use Rattle.sc_base.specs.Roster.{IsRoster, is_member}
 use Rattle.sc_paxos_words.specs.Ballots.{IsAtLeast}
 use Rattle.sc_node_table.specs.Node.{is_node}
 use Rattle.sc_node_table.specs.Replica.{ReplicaState, next, members, first_ballot}

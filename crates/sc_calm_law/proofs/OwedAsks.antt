@@ -20,7 +20,7 @@ use Rattle.sc_mail.specs.declared.bodies.AnswerBody.{AnswerBody}
 use Rattle.sc_mail.specs.declared.bodies.AnswerBody.TheVariants as Says
 use Rattle.sc_mail.specs.declared.bodies.Mail.{Mail}
 use Rattle.sc_mail.specs.declared.bodies.MailBody.TheVariants.{Answer, TxVote, TxWatched, TxElsewhere}
-use Rattle.sc_member.specs.Roster.{is_member}
+use Rattle.sc_base.specs.Roster.{is_member}
 use Rattle.sc_machine_table.specs.Orders.{locked_in}
 use Rattle.sc_machine_table.specs.Plans.{frozen_of}
 use Rattle.sc_machine_table.specs.Splits.{is_locked_in}

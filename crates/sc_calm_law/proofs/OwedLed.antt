@@ -6,7 +6,7 @@ use Rattle.sc_cmd.specs.declared.commands.Command.{Command}
 use Rattle.sc_cmd.specs.declared.links.Route.{Route}
 use Rattle.sc_mail.specs.declared.bodies.Mail.{Mail}
 use Rattle.sc_mail.specs.declared.bodies.MailBody.TheVariants.{Prepare, Ask}
-use Rattle.sc_member.specs.Roster.{least_of}
+use Rattle.sc_base.specs.Roster.{least_of}
 use Rattle.sc_machine_table.specs.Group.{Group}
 use Rattle.sc_paxos_words.specs.Leaders.{new_leader}
 use Rattle.sc_node_table.specs.Election.{open_nodes, elected}

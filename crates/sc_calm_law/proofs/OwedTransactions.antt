@@ -34,8 +34,8 @@ use Rattle.sc_cmd.specs.declared.votes.Vote.TheVariants as Says
 use Rattle.sc_mail.specs.declared.bodies.AnswerBody.{AnswerBody}
 use Rattle.sc_mail.specs.declared.bodies.Mail.{Mail}
 use Rattle.sc_mail.specs.declared.bodies.MailBody.TheVariants.{TxPrepare, TxVote, TxOutcome, TxWatched}
-use Rattle.sc_member.specs.Roster.{is_member, with_member, least_of}
-use Rattle.sc_member.specs.Union.{united}
+use Rattle.sc_base.specs.Roster.{is_member, with_member, least_of}
+use Rattle.sc_base.specs.Union.{united}
 use Rattle.sc_machine_table.specs.Finishes.{gained_group, lost_group, welcomed_group, participant_after, settled_in, finished}
 use Rattle.sc_machine_table.specs.Group.{Group}
 use Rattle.sc_machine_table.specs.Machine.{applied, ordered_by, split_group}

@@ -15,7 +15,7 @@ use Rattle.sc_cmd.specs.declared.votes.Past.TheVariants as Cast
 use Rattle.sc_cmd.specs.Cores.{is_alone}
 use Rattle.sc_cmd.specs.Effects.{is_changed}
 use Rattle.sc_mail.specs.declared.bodies.MailBody.TheVariants.{Accepted}
-use Rattle.sc_member.specs.Roster.{is_member}
+use Rattle.sc_base.specs.Roster.{is_member}
 use Rattle.sc_machine_table.specs.Machine.{applied}
 use Rattle.sc_paxos_words.specs.declared.flights.Flight.{Flight}
 use Rattle.sc_paxos_words.specs.Leaders.{without_flight}

@@ -6,7 +6,7 @@ use Rattle.sc_base.specs.declared.names.Draw.{Draw}
 use Rattle.sc_cmd.specs.declared.cores.Base.{Base}
 use Rattle.sc_cmd.specs.declared.cores.Lock.TheVariants.{Free}
 use Rattle.sc_cmd.specs.declared.links.Route.{Route}
-use Rattle.sc_member.specs.Roster.{is_member}
+use Rattle.sc_base.specs.Roster.{is_member}
 use Rattle.sc_paxos_words.specs.Ballots.{below}
 use Rattle.sc_client_table.specs.Client.{Client as ClientState, born_client}
 use Rattle.sc_node_table.specs.Replica.{ReplicaState, next, members, settled, born_replica}

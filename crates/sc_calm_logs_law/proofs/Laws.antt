@@ -10,7 +10,7 @@ use Rattle.sc_mail.specs.declared.bodies.Mail.{Mail}
 use Rattle.sc_mail.specs.declared.bodies.MailBody.{MailBody}
 use Rattle.sc_mail.specs.declared.bodies.MailBody.TheVariants.{Accepted as AcceptedMail, Learn, Install}
 use Rattle.sc_machine_table.specs.Group.{Group}
-use Rattle.sc_member.specs.Roster.{IsRoster}
+use Rattle.sc_base.specs.Roster.{IsRoster}
 use Rattle.sc_actor.specs.declared.actors.Seat.{Seat}
 use Rattle.sc_actor.specs.Mail.{mails, numbered}
 use Rattle.sc_paxos_law.specs.Chosen.{needed, IsLog}

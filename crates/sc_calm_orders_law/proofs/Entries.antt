@@ -29,7 +29,7 @@ use Rattle.sc_machine_table.specs.Plans.{Plan, frozen_of}
 use Rattle.sc_machine_table.specs.Splits.{has_named, left_group}
 use Rattle.sc_machine_table.specs.Transactions.{begun_group, decided, committed, heard_group}
 use Rattle.sc_machine_table.specs.Votes.{past_of, bound_by as lock_by, voted_on}
-use Rattle.sc_member.specs.Roster.{least_of}
+use Rattle.sc_base.specs.Roster.{least_of}
 use Rattle.sc_node_table.specs.Questions.{offer_of, question, asked_first}
 use Rattle.sc_node_table.specs.Spoken.{before_of, before_in, went_on}
 use Rattle.sc_node_table.specs.declared.Before.{Before}

@@ -25,7 +25,7 @@ use Rattle.sc_machine_table.specs.Finishes.{participant_after, settled_in, watch
 use Rattle.sc_machine_table.specs.Group.{Group}
 use Rattle.sc_machine_table.specs.Plans.{Plan, closing_plan, repart_plan, migrate_plan, merge_plan, split_plan}
 use Rattle.sc_machine_table.specs.Transactions.{committed, heard_group, participant_answered, granted, vote_recorded, watch_recorded, released, asks_watcher}
-use Rattle.sc_member.specs.Roster.{least_of}
+use Rattle.sc_base.specs.Roster.{least_of}
 use Rattle.sc_node_table.specs.Mails.{sent}
 use Rattle.sc_node_table.specs.Questions.{asked_link}
 use Rattle.sc_node_table.specs.Spoken.{before_in, released_to, went_on}

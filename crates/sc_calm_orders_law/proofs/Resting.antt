@@ -16,7 +16,7 @@ use Rattle.sc_mail.specs.declared.bodies.AnswerBody.TheVariants as Says
 use Rattle.sc_mail.specs.declared.bodies.Mail.{Mail}
 use Rattle.sc_mail.specs.declared.bodies.MailBody.TheVariants.{Accept, Ask, Install, Learn, Nack, Prepare, Promise}
 use Rattle.sc_machine_table.specs.Machine.{applied}
-use Rattle.sc_member.specs.Roster.{is_member, least_of}
+use Rattle.sc_base.specs.Roster.{is_member, least_of}
 use Rattle.sc_node_table.specs.Election.{saw, ended, stopped, elected, open_nodes}
 use Rattle.sc_node_table.specs.Execute.{entered, announced, order_result, told_effect, learnt_to, welcomed, slot_lost, landed, left_gone, left, is_among, looked_for, looked, executed_one, executed_ready, executed}
 use Rattle.sc_node_table.specs.Install.{install_to, jumped}

@@ -10,7 +10,7 @@ use Rattle.sc_cmd.specs.declared.orders.OrderRefusal.{OrderRefusal}
 use Rattle.sc_law_lemmas.specs.Steps.{GoesOn}
 use Rattle.sc_machine_table.specs.Machine.{applied}
 use Rattle.sc_mail.specs.declared.bodies.MailBody.TheVariants.{Accept, Accepted, Install, Learn, Nack, Prepare, Promise}
-use Rattle.sc_member.specs.Roster.{is_member}
+use Rattle.sc_base.specs.Roster.{is_member}
 use Rattle.sc_node_table.specs.Execute.{executed}
 use Rattle.sc_node_table.specs.Ordering.{ordered_command, ordered_row, untaken}
 use Rattle.sc_node_table.specs.Replica.{ReplicaState, Place, next, listed}

@@ -4,7 +4,7 @@ use Rattle.std.specs.Option.{option_map}
 use Rattle.sc_base.specs.declared.names.Draw.{Draw}
 use Rattle.sc_cmd.specs.declared.commands.Command.{Command}
 use Rattle.sc_mail.specs.declared.bodies.MailBody.TheVariants.{Learn}
-use Rattle.sc_member.specs.Roster.{IsRoster, is_member, least_of}
+use Rattle.sc_base.specs.Roster.{IsRoster, is_member, least_of}
 use Rattle.sc_actor.specs.declared.rows.Event.TheVariants.{Deliver}
 use Rattle.sc_hist_law.proofs.Logs.{applied_same}
 use Rattle.sc_paxos_words.specs.declared.flights.Flight.{Flight}

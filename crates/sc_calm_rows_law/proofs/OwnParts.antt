@@ -15,7 +15,7 @@ use Rattle.sc_mail.specs.declared.bodies.AnswerBody.{AnswerBody}
 use Rattle.sc_mail.specs.declared.bodies.AnswerBody.TheVariants as Says
 use Rattle.sc_mail.specs.declared.bodies.Mail.{Mail}
 use Rattle.sc_mail.specs.declared.bodies.MailBody.TheVariants.{Answer, Prepare, Accept, Learn, Install}
-use Rattle.sc_member.specs.Roster.{is_member, least_of}
+use Rattle.sc_base.specs.Roster.{is_member, least_of}
 use Rattle.sc_machine_table.specs.Group.{base_of}
 use Rattle.sc_machine_table.specs.Machine.{applied}
 use Rattle.sc_paxos_words.specs.declared.answers.Must.{Must}

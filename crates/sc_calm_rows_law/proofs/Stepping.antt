@@ -6,7 +6,7 @@ use Rattle.sc_base.specs.Limits.{most_nodes}
 use Rattle.sc_base.specs.declared.names.Ballot.{Ballot}
 use Rattle.sc_cmd.specs.declared.commands.Command.{Command}
 use Rattle.sc_mail.specs.declared.bodies.MailBody.TheVariants.{Promise, Accepted}
-use Rattle.sc_member.specs.Roster.{is_member}
+use Rattle.sc_base.specs.Roster.{is_member}
 use Rattle.sc_paxos_words.specs.declared.reports.Report.{Report}
 use Rattle.sc_paxos_words.specs.Leaders.{promise_counted}
 use Rattle.sc_node_table.specs.Election.{is_in_some, nodes_to, open_nodes}

@@ -5,7 +5,7 @@ use Rattle.sc_base.specs.declared.names.Ballot.{Ballot}
 use Rattle.sc_cmd.specs.declared.cores.Base.{Base}
 use Rattle.sc_cmd.specs.declared.orders.OrderLine.{OrderLine}
 use Rattle.sc_mail.specs.declared.bodies.MailBody.TheVariants.{Prepare, Accept}
-use Rattle.sc_member.specs.Roster.{IsRoster, is_member}
+use Rattle.sc_base.specs.Roster.{IsRoster, is_member}
 use Rattle.sc_actor.specs.declared.actors.Seat.{Seat}
 use Rattle.sc_actor.specs.declared.rows.Event.{Event}
 use Rattle.sc_orderly_law.specs.Timely.{AreInTime}

@@ -10,7 +10,7 @@ use Rattle.sc_machine_table.specs.Machine.{applied}
 use Rattle.sc_mail.specs.declared.bodies.Mail.{Mail}
 use Rattle.sc_mail.specs.declared.bodies.MailBody.TheVariants.{Accepted}
 use Rattle.sc_mail.specs.declared.roles.Role.TheVariants.{Node}
-use Rattle.sc_member.specs.Roster.{is_member}
+use Rattle.sc_base.specs.Roster.{is_member}
 use Rattle.sc_actor.specs.declared.actors.Seat.{Seat}
 use Rattle.sc_actor.specs.declared.rows.Event.TheVariants.{Deliver, Told}
 use Rattle.sc_actor.specs.Replay.{value}

@@ -4,7 +4,7 @@ use Rattle.std.specs.Option.{option_map}
 use Rattle.sc_base.specs.Same.{same_ballot}
 use Rattle.sc_base.proofs.NameLemmas.{ballot_is}
 use Rattle.sc_cmd.specs.declared.commands.Command.{Command}
-use Rattle.sc_member.specs.Majority.{is_majority}
+use Rattle.sc_base.specs.Majority.{is_majority}
 use Rattle.sc_paxos_words.specs.declared.reports.Report.{Report}
 use Rattle.sc_paxos_words.specs.Ballots.{below}
 use Rattle.sc_paxos_law.specs.Steps.{Step}

@@ -10,7 +10,7 @@ use Rattle.sc_cmd.specs.declared.orders.OrderLine.{OrderLine}
 use Rattle.sc_mail.specs.declared.bodies.Mail.{Mail}
 use Rattle.sc_mail.specs.declared.bodies.MailBody.TheVariants.{Accept}
 use Rattle.sc_actor.specs.declared.rows.Row.{Row}
-use Rattle.sc_member.specs.Majority.{is_majority}
+use Rattle.sc_base.specs.Majority.{is_majority}
 use Rattle.sc_paxos_law.specs.Steps.{Step, Accepted}
 use Rattle.sc_paxos_law.specs.Decided.{voters_of, found_in}
 use Rattle.sc_sound.specs.Accepts.{is_accepted, accepts_of}

@@ -7,8 +7,8 @@ use Rattle.std.specs.List.{list_any}
 use Rattle.sc_base.specs.declared.names.Ballot.{Ballot}
 use Rattle.sc_base.specs.Same.{same_ballot}
 use Rattle.sc_cmd.specs.declared.commands.Command.{Command}
-use Rattle.sc_member.specs.Majority.{votes_of}
-use Rattle.sc_member.specs.Roster.{is_member}
+use Rattle.sc_base.specs.Majority.{votes_of}
+use Rattle.sc_base.specs.Roster.{is_member}
 use Rattle.sc_paxos_law.specs.Steps.{Step, Prepared, Promised, Offered, Accepted, Cut}
 use Rattle.sc_paxos_law.specs.Decided.{voters_of}
 use Rattle.sc_chosen.specs.Acceptances.{step_of, steps_of, is_vote}

@@ -4,7 +4,7 @@ use Rattle.sc_base.specs.Same.{same_draw, same_ballot}
 use Rattle.sc_base.specs.declared.names.Ballot.{Ballot}
 use Rattle.sc_base.specs.declared.names.Draw.{Draw}
 use Rattle.sc_cmd.specs.declared.commands.Command.{Command}
-use Rattle.sc_member.specs.Majority.{is_majority}
+use Rattle.sc_base.specs.Majority.{is_majority}
 use Rattle.sc_paxos_words.specs.declared.reports.Report.{Report}
 use Rattle.sc_paxos_law.specs.Decided.{voters_of, lesser_of}
 use Rattle.sc_paxos_law.specs.Steps.{Step, Accepted}

@@ -1,15 +1,14 @@
 //! Which command is chosen at a slot.
 ghost use Rattle.std.specs.Prelude.{◌≡◌, ◌==◌, ◌&&◌, ◌≤◌, length};
 ghost use Rattle.std.specs.Option.{option_copied, option_map};
-ghost use Rattle.sc_member.specs.Roster.{is_member};
-ghost use Rattle.sc_member.specs.Majority.{is_majority};
+ghost use Rattle.sc_base.specs.Roster.{is_member};
+ghost use Rattle.sc_base.specs.Majority.{is_majority};
 ghost use Rattle.sc_paxos_law.specs.Decided.{voters_of, found_in, chosen_at};
 ghost use Rattle.sc_chosen.specs.Acceptances.{steps_of, report_of, is_vote, IsFoundChosen, with_chosen};
 
 use crate::accepting::Acceptance;
-use sc_base::{Ballot, same_ballot};
+use sc_base::{Ballot, Members, same_ballot};
 use sc_cmd::Command;
-use sc_member::Members;
 
 // Whether an acceptance is a node's at a slot in a ballot.
 fn is_vote(here: &Acceptance, ballot: Ballot, slot: u32, node: u16) -> bool

@@ -26,12 +26,11 @@ use crate::accepting::{Acceptance, accepts};
 use crate::choosing::chosen_at;
 use crate::indexing::{BySlot, add, at_slot, by_slot};
 use sc_actor::Row;
-use sc_base::{Draw, Dup, OutOfMemory, Same, same_draw};
+use sc_base::{Draw, Dup, Members, OutOfMemory, Same, same_draw};
 use sc_cmd::{Base, Command, OrderLine};
 use sc_log_entries::births_are_children;
 use sc_machine::Machine;
 use sc_mail::Mail;
-use sc_member::Members;
 use sc_node_table::OPEN_SLOTS;
 use std::alloc::Global;
 

@@ -1,7 +1,6 @@
 //! What a transaction between groups is to do, and what it asks of its parties.
 use crate::links::Link;
-use sc_base::{Draw, Dup, OutOfMemory, RingArc, Same};
-use sc_member::Members;
+use sc_base::{Draw, Dup, Members, OutOfMemory, RingArc, Same};
 use std::alloc::Global;
 
 /// What a transaction does.

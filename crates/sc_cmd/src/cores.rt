@@ -5,8 +5,9 @@ ghost use Rattle.sc_cmd.specs.Cores.{is_alone};
 use crate::bodies::{Body, Offer, Watch};
 use crate::links::{Link, Route};
 use crate::votes::{DecidedList, Heard, VotedList};
-use sc_base::{Draw, Dup, OutOfMemory, Pairs, RingArc, Same, SeenList, Sequence, same_draw};
-use sc_member::Members;
+use sc_base::{
+    Draw, Dup, Members, OutOfMemory, Pairs, RingArc, Same, SeenList, Sequence, same_draw,
+};
 use std::alloc::Global;
 
 /// What a group is bound to. Only a group that is free, or a watcher, serves its keys.

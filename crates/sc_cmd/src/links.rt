@@ -1,6 +1,5 @@
 //! Where a group is, as another group or a client knows it.
-use sc_base::{Draw, Dup, OutOfMemory, Same, Sequence};
-use sc_member::Members;
+use sc_base::{Draw, Dup, Members, OutOfMemory, Same, Sequence};
 use std::alloc::Global;
 
 /// A neighbour group. The name is exact; the member list is a hint.

@@ -1,7 +1,6 @@
 //! What the parties of a transaction answer, and what was decided.
 use crate::links::{Link, Route};
-use sc_base::{Boxed, Draw, Dup, OutOfMemory, Pairs, RingArc, Same, SeenList, Sequence};
-use sc_member::Members;
+use sc_base::{Boxed, Draw, Dup, Members, OutOfMemory, Pairs, RingArc, Same, SeenList, Sequence};
 use std::alloc::Global;
 
 /// The record of a participant, which stays as it is from its Yes to the outcome.

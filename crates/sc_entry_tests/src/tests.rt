@@ -1,10 +1,9 @@
 //! A group that is alone splits, and its child splits in its turn, watched by its parent, which has
 //! not heard of the end. What ring and records are then is as a second implementation tells it.
-use sc_base::{Boxed, Draw, Key, Op, Pairs, RingArc, SeenList, Sequence, Value};
+use sc_base::{Boxed, Draw, Key, Members, Op, Pairs, RingArc, SeenList, Sequence, Value};
 use sc_cmd::{Base, Command, Core, Link, Lock, Past, Watch};
 use sc_log_entries::{Cut, LogEntry};
 use sc_map_checks::{covers, legal};
-use sc_member::Members;
 use sc_store_world::StoreWorld;
 use std::alloc::Global;
 use std::mem::forget;

@@ -14,7 +14,7 @@ use Rattle.sc_cmd.specs.declared.effects.Effect.{Effect}
 use Rattle.sc_cmd.specs.declared.links.Route.{Route}
 use Rattle.sc_machine_table.specs.Group.{Group}
 use Rattle.sc_machine_table.specs.Machine.{served_by_note, served, called, applied}
-use Rattle.sc_member.specs.Roster.{is_member}
+use Rattle.sc_base.specs.Roster.{is_member}
 use Rattle.sc_node_table.specs.Execute.{entered, executed_one, next_child, next_ready, ending, executed_ready, executed}
 use Rattle.sc_node_table.specs.Pump.{is_act, pumped}
 use Rattle.sc_node_table.specs.Replica.{ReplicaState, Place, Executed, childless, next, forgotten}

@@ -1,7 +1,7 @@
 -- The first leader of a group leads in its progress from its birth on.
 use Rattle.std.proofs.Common.{◌≡◌, ℕ, ◌||◌, not, eqb, ltb, Bool, true, false, true≢false, cond, List, Option, Some, None, inl, refl, sym, arith}
 use Rattle.std.proofs.lemmas.Bool.{cond-true, eq-eqb}
-use Rattle.sc_member.specs.Roster.{is_member}
+use Rattle.sc_base.specs.Roster.{is_member}
 use Rattle.sc_node_table.specs.Replica.{ReplicaState, next, first_ballot, born_replica}
 use Rattle.sc_node_table.specs.Slots.{slots_ahead}
 use Rattle.sc_following_law.specs.Electing.{LeadersBegin}

@@ -7,7 +7,7 @@ use Rattle.sc_mail.specs.declared.bodies.AnswerBody.{AnswerBody}
 use Rattle.sc_mail.specs.declared.bodies.AnswerBody.TheVariants as Says
 use Rattle.sc_mail.specs.declared.bodies.Mail.{Mail}
 use Rattle.sc_machine_table.specs.Machine.{applied}
-use Rattle.sc_member.specs.Roster.{IsRoster, is_member, least_of}
+use Rattle.sc_base.specs.Roster.{IsRoster, is_member, least_of}
 use Rattle.sc_paxos_words.specs.Leaders.{new_leader, without_flight_at}
 use Rattle.sc_node_table.specs.Election.{elected, ended, stopped}
 use Rattle.sc_node_table.specs.Execute.{entered, learnt_to, welcomed, slot_lost, landed, left_gone, left, looked_for, looked, executed_one}

@@ -10,8 +10,8 @@ use Rattle.sc_cmd.specs.declared.commands.Command.{Command}
 use Rattle.sc_mail.specs.declared.bodies.Mail.{Mail}
 use Rattle.sc_mail.specs.declared.bodies.MailBody.{MailBody}
 use Rattle.sc_mail.specs.declared.bodies.MailBody.TheVariants.{Prepare}
-use Rattle.sc_member.specs.Majority.{votes_of, is_majority}
-use Rattle.sc_member.specs.Roster.{is_member, least_of}
+use Rattle.sc_base.specs.Majority.{votes_of, is_majority}
+use Rattle.sc_base.specs.Roster.{is_member, least_of}
 use Rattle.sc_paxos_words.specs.Ballots.{below}
 use Rattle.sc_paxos_words.specs.Leaders.{new_leader}
 use Rattle.sc_node_table.specs.Election.{is_in_some, nodes_to, open_nodes, elected}

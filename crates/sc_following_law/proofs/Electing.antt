@@ -5,7 +5,7 @@ use Rattle.std.proofs.lemmas.Bool.{cases_Bool, cases_eq, cases_lt, cond-true, co
 use Rattle.sc_base.specs.Limits.{most_nodes}
 use Rattle.sc_base.specs.declared.names.Ballot.{Ballot}
 use Rattle.sc_cmd.specs.declared.commands.Command.{Command}
-use Rattle.sc_member.specs.Roster.{is_member, least_of}
+use Rattle.sc_base.specs.Roster.{is_member, least_of}
 use Rattle.sc_paxos_words.specs.Ballots.{below}
 use Rattle.sc_node_table.specs.Election.{is_in_some, nodes_to, open_nodes}
 use Rattle.sc_node_table.specs.Execute.{entered, executed_ready, executed}

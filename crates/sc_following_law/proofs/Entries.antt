@@ -10,8 +10,8 @@ use Rattle.sc_mail.specs.declared.bodies.Mail.{Mail}
 use Rattle.sc_mail.specs.declared.bodies.MailBody.{MailBody}
 use Rattle.sc_mail.specs.declared.bodies.MailBody.TheVariants.{Learn, Install, Prepare}
 use Rattle.sc_machine_table.specs.Group.{base_of}
-use Rattle.sc_member.specs.Roster.{is_member}
-use Rattle.sc_member.proofs.Pairs.{AllPairs-head, AllPairs-tail}
+use Rattle.sc_base.specs.Roster.{is_member}
+use Rattle.sc_base.proofs.Pairs.{AllPairs-head, AllPairs-tail}
 use Rattle.sc_node_table.specs.Execute.{learnt_to, welcomed}
 use Rattle.sc_node_table.specs.Install.{install_to, welcomed_all}
 use Rattle.sc_node_table.specs.Mails.{sent, sent_others}

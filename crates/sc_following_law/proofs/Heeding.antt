@@ -3,7 +3,7 @@ use Rattle.std.proofs.Common.{◌≡◌, ℕ, suc, ◌+◌, ◌-◌, ◌<◌, �
 use Rattle.std.proofs.lemmas.Bool.{cases_Bool, cases_eq, cases_lt, cond-true}
 use Rattle.sc_base.specs.Among.{Each}
 use Rattle.sc_base.specs.declared.names.Ballot.{Ballot}
-use Rattle.sc_member.specs.Roster.{IsRoster, is_member, least_of}
+use Rattle.sc_base.specs.Roster.{IsRoster, is_member, least_of}
 use Rattle.sc_node_table.specs.Execute.{is_among}
 use Rattle.sc_node_table.specs.Replica.{listed}
 use Rattle.sc_node_table.specs.Slots.{slots_ahead}

@@ -4,8 +4,8 @@ use Rattle.std.proofs.lemmas.Bool.{cases_Bool, cond_both, cond-true, eq-eqb, lt-
 use Rattle.std.proofs.lemmas.List.Sums.{sum_by-cons}
 use Rattle.sc_base.specs.Among.{Among}
 use Rattle.sc_base.specs.declared.names.Ballot.{Ballot}
-use Rattle.sc_member.specs.Majority.{votes_of, is_majority}
-use Rattle.sc_member.specs.Roster.{IsRoster, is_member, least_of}
+use Rattle.sc_base.specs.Majority.{votes_of, is_majority}
+use Rattle.sc_base.specs.Roster.{IsRoster, is_member, least_of}
 use Rattle.sc_node_table.specs.Slots.{slots_ahead}
 use Rattle.sc_paxos_words.proofs.BallotLemmas.{at_least_itself}
 use Rattle.sc_following_law.specs.Following.{Mark, Asks, Votes, Prepares, Promises, reached, pledged, Progress, Sets, members_at, IsVoting, IsPromising, IsFollowing, IsEven, IsEvenLed}

@@ -12,8 +12,8 @@ use Rattle.sc_cmd.specs.declared.cores.Core.{Core}
 use Rattle.sc_mail.specs.declared.bodies.AnswerBody.{AnswerBody}
 use Rattle.sc_mail.specs.declared.bodies.Mail.{Mail}
 use Rattle.sc_mail.specs.declared.bodies.MailBody.TheVariants.{Accept}
-use Rattle.sc_member.specs.Majority.{votes_of, is_majority}
-use Rattle.sc_member.specs.Roster.{is_member}
+use Rattle.sc_base.specs.Majority.{votes_of, is_majority}
+use Rattle.sc_base.specs.Roster.{is_member}
 use Rattle.sc_paxos_words.specs.declared.flights.Flight.{Flight}
 use Rattle.sc_paxos_words.specs.declared.reports.Report.{Report}
 use Rattle.sc_paxos_words.specs.Ballots.{below}

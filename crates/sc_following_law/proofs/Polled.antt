@@ -3,9 +3,9 @@ use Rattle.std.proofs.Common.{◌≡◌, ℕ, ◌+◌, ◌*◌, ◌≤◌, ◌||
 use Rattle.std.proofs.lemmas.Bool.{cases_Bool, cases_order, cond_both, cond-true, cond-false, both_ways, eqb-true, eq-eqb, lt-ltb, or_cases, or_left, or_parts, or_right}
 use Rattle.std.proofs.lemmas.List.Folds.{list_any-append}
 use Rattle.std.proofs.lemmas.List.Sums.{sum_by-cons}
-use Rattle.sc_member.specs.Majority.{votes_of, is_majority}
-use Rattle.sc_member.specs.Roster.{is_member, with_member, IsRoster}
-use Rattle.sc_member.proofs.UnionLemmas.{count_united}
+use Rattle.sc_base.specs.Majority.{votes_of, is_majority}
+use Rattle.sc_base.specs.Roster.{is_member, with_member, IsRoster}
+use Rattle.sc_base.proofs.UnionLemmas.{count_united}
 use Rattle.sc_paxos_words.specs.Votes.{kept_voters, add_voter, voters_after}
 
 -- ---- a set with one more

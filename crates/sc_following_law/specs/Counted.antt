@@ -2,7 +2,7 @@
 use Rattle.std.specs.Prelude.{◌≡◌, ℕ, ◌+◌, true, false, List, [], ◌++◌, length, Option, Some, None, ◌⊎◌}
 use Rattle.sc_cmd.specs.declared.commands.Command.{Command}
 use Rattle.sc_cmd.specs.declared.links.Route.{Route}
-use Rattle.sc_member.specs.Roster.{IsRoster, is_member}
+use Rattle.sc_base.specs.Roster.{IsRoster, is_member}
 use Rattle.sc_node_table.specs.Execute.{entered, executed_one}
 use Rattle.sc_node_table.specs.Replica.{ReplicaState, Place, name_of, next, members}
 use Rattle.sc_node_table.specs.Slots.{slots_ahead, without_slot}

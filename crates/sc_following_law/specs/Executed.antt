@@ -3,7 +3,7 @@ use Rattle.std.specs.Prelude.{◌≡◌, ℕ, suc, ◌+◌, ◌<◌, ◌≤◌, 
 use Rattle.sc_base.specs.Among.{Among, Each}
 use Rattle.sc_cmd.specs.declared.commands.Command.{Command}
 use Rattle.sc_cmd.specs.declared.links.Route.{Route}
-use Rattle.sc_member.specs.Roster.{is_member}
+use Rattle.sc_base.specs.Roster.{is_member}
 use Rattle.sc_node_table.specs.Execute.{executed_one, executed, next_ready}
 use Rattle.sc_node_table.specs.Replica.{ReplicaState, Place, name_of, next, members}
 use Rattle.sc_node_table.specs.Slots.{at_slot}

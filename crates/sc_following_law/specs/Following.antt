@@ -7,8 +7,8 @@ use Rattle.sc_base.specs.declared.names.Draw.{Draw}
 use Rattle.sc_mail.specs.declared.bodies.Mail.{Mail}
 use Rattle.sc_mail.specs.declared.bodies.MailBody.{MailBody}
 use Rattle.sc_mail.specs.declared.bodies.MailBody.TheVariants.{Request, Answer, Prepare, Promise, Accept, Accepted, Nack, Learn, Ask, Install, TxPrepare, TxVote, TxOutcome, TxElsewhere, TxWatch, TxWatched, Told}
-use Rattle.sc_member.specs.Majority.{is_majority}
-use Rattle.sc_member.specs.Roster.{is_member, least_of}
+use Rattle.sc_base.specs.Majority.{is_majority}
+use Rattle.sc_base.specs.Roster.{is_member, least_of}
 use Rattle.sc_node_table.specs.Replica.{listed}
 use Rattle.sc_node_table.specs.Slots.{slots_ahead}
 use Rattle.sc_paxos_words.specs.Ballots.{IsAtLeast}

@@ -7,7 +7,7 @@ use Rattle.sc_cmd.specs.declared.cores.Base.{Base}
 use Rattle.sc_cmd.specs.declared.links.Route.{Route}
 use Rattle.sc_mail.specs.declared.bodies.Mail.{Mail}
 use Rattle.sc_mail.specs.declared.bodies.MailBody.TheVariants.{Prepare, Accept, Learn, Install}
-use Rattle.sc_member.specs.Roster.{IsRoster, is_member, least_of}
+use Rattle.sc_base.specs.Roster.{IsRoster, is_member, least_of}
 use Rattle.sc_node_table.specs.Election.{open_nodes}
 use Rattle.sc_node_table.specs.Execute.{entered, learnt_to, welcomed, is_among}
 use Rattle.sc_node_table.specs.Replica.{ReplicaState, Place, name_of, next, members, first_ballot, last_slot}

@@ -2,7 +2,7 @@
 use Rattle.std.specs.Prelude.{◌≡◌, ℕ, suc, ◌<◌, true, List, [], Option, ◌⊎◌}
 use Rattle.sc_base.specs.Among.{Each}
 use Rattle.sc_base.specs.declared.names.Ballot.{Ballot}
-use Rattle.sc_member.specs.Roster.{IsRoster, is_member}
+use Rattle.sc_base.specs.Roster.{IsRoster, is_member}
 use Rattle.sc_following_law.specs.Following.{Mark, Asks, Votes, Tells, Installs, Prepares, Promises, reached, Progress, Sets, members_at, IsFollowing}
 use Rattle.sc_following_law.specs.Hints.{Tellers, LeavesLast}
 use Rattle.sc_following_law.specs.Rows.{IsRow, IsIdle, Takes, Leads, Elects, begun}

@@ -5,9 +5,9 @@ use Rattle.std.specs.Result.{is_err}
 use Rattle.std.proofs.lemmas.Bool.Decides.{nat_tests}
 use Rattle.std.proofs.lemmas.List.{length-take-le, take_more}
 use Rattle.sc_base.specs.Among.{Each}
-use Rattle.sc_member.specs.Roster.{IsRoster, is_member, with_member}
-use Rattle.sc_member.specs.Faults.{add_fault}
-use Rattle.sc_member.specs.declared.sets.MemberFault.{MemberFault}
+use Rattle.sc_base.specs.Roster.{IsRoster, is_member, with_member}
+use Rattle.sc_base.specs.Faults.{add_fault}
+use Rattle.sc_base.specs.declared.sets.MemberFault.{MemberFault}
 
 is_below : (m n : ℕ) → m < n → nat_lt m n ≡ true
 is_below m n below = grind (arith, nat_tests)

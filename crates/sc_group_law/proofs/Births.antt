@@ -5,7 +5,7 @@ use Rattle.sc_base.specs.Among.{Among, Each}
 use Rattle.sc_cmd.specs.declared.commands.Command.{Command}
 use Rattle.sc_cmd.specs.declared.cores.Base.{Base}
 use Rattle.sc_client_table.specs.Client.{born_client}
-use Rattle.sc_member.specs.Roster.{is_member}
+use Rattle.sc_base.specs.Roster.{is_member}
 use Rattle.sc_paxos_words.proofs.ListLemmas.{Each-among}
 use Rattle.sc_node_table.specs.Replica.{ReplicaState, name_of, born_replica}
 use Rattle.sc_scenario.specs.declared.scenarios.Scenario.{Scenario}

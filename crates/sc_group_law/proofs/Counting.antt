@@ -9,8 +9,8 @@ use Rattle.sc_cmd.specs.declared.commands.Command.{Command}
 use Rattle.sc_cmd.specs.declared.cores.Base.{Base}
 use Rattle.sc_mail.specs.declared.bodies.Mail.{Mail}
 use Rattle.sc_mail.specs.declared.bodies.MailBody.{MailBody}
-use Rattle.sc_member.specs.Roster.{is_member, with_member}
-use Rattle.sc_member.specs.Majority.{is_majority}
+use Rattle.sc_base.specs.Roster.{is_member, with_member}
+use Rattle.sc_base.specs.Majority.{is_majority}
 use Rattle.sc_paxos_words.specs.declared.answers.Counted.{Counted}
 use Rattle.sc_paxos_words.specs.declared.answers.Counted.TheVariants.{Chosen, NotYet}
 use Rattle.sc_paxos_words.specs.declared.flights.Flight.{Flight}

@@ -14,7 +14,7 @@ use Rattle.sc_mail.specs.declared.bodies.Mail.{Mail}
 use Rattle.sc_mail.specs.declared.bodies.MailBody.{MailBody}
 use Rattle.sc_mail.specs.declared.bodies.MailBody.TheVariants.{Told}
 use Rattle.sc_machine_table.specs.Group.{Group, group_of}
-use Rattle.sc_member.specs.Roster.{is_member}
+use Rattle.sc_base.specs.Roster.{is_member}
 use Rattle.sc_base.specs.Among.{Among, Each}
 use Rattle.sc_paxos_words.specs.Acceptors.{born_acceptor}
 use Rattle.sc_paxos_words.specs.Logs.{installed}

@@ -11,8 +11,8 @@ use Rattle.sc_cmd.specs.declared.orders.OrderRefusal.TheVariants.{TooManyMembers
 use Rattle.sc_machine_table.specs.Group.{Group}
 use Rattle.sc_machine_table.specs.Machine.{applied}
 use Rattle.sc_machine_table.specs.Orders.{locked_in, join_refused, leave_refused, refused_in, refusal_of, ordered, with_node, without_node}
-use Rattle.sc_member.specs.Roster.{IsRoster, is_member}
-use Rattle.sc_member.proofs.Rising.{roster_with, roster_without}
+use Rattle.sc_base.specs.Roster.{IsRoster, is_member}
+use Rattle.sc_base.proofs.Rising.{roster_with, roster_without}
 use Rattle.sc_hist_law.specs.Laws.{LeavesWhole}
 use Rattle.sc_hist_law.proofs.Logs.{called_members}
 

@@ -6,7 +6,7 @@ use Rattle.sc_cmd.specs.declared.cores.Base.{Base}
 use Rattle.sc_mail.specs.declared.bodies.Mail.{Mail}
 use Rattle.sc_mail.specs.declared.bodies.MailBody.{MailBody}
 use Rattle.sc_mail.specs.declared.bodies.MailBody.TheVariants.{Prepare, Install}
-use Rattle.sc_member.specs.Roster.{is_member}
+use Rattle.sc_base.specs.Roster.{is_member}
 use Rattle.sc_machine_table.specs.Group.{base_of}
 use Rattle.sc_node_table.specs.Replica.{ReplicaState, Place, name_of, next, members}
 use Rattle.sc_node_table.specs.Mails.{sent, sent_all}

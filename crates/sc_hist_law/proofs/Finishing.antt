@@ -3,7 +3,7 @@ use Rattle.std.specs.Prelude.{nat_le, length}
 use Rattle.std.proofs.Common.{◌≡◌, Bool, true, false, cond, ◌&&◌, not, List, ◌∷◌, [], Option, Some, None, refl, ap, ◌∙◌}
 use Rattle.sc_base.specs.Same.{same_draw}
 use Rattle.sc_base.specs.declared.names.Draw.{Draw}
-use Rattle.sc_member.specs.Union.{united}
+use Rattle.sc_base.specs.Union.{united}
 use Rattle.sc_cmd.specs.declared.bodies.Offer.{Offer}
 use Rattle.sc_cmd.specs.declared.bodies.Watch.{Watch}
 use Rattle.sc_cmd.specs.declared.cores.Lock.{Lock}

@@ -13,7 +13,7 @@ use Rattle.sc_base.specs.Text.{pos_of}
 use Rattle.sc_base.specs.declared.names.Draw.{Draw}
 use Rattle.sc_base.proofs.ArcLemmas.{cuts_join, joins_hold}
 use Rattle.sc_base.proofs.NameLemmas.{same_name}
-use Rattle.sc_member.specs.Union.{united}
+use Rattle.sc_base.specs.Union.{united}
 use Rattle.sc_cmd.specs.declared.bodies.Offer.{Offer}
 use Rattle.sc_cmd.specs.declared.cores.Lock.TheVariants.{Promised}
 use Rattle.sc_cmd.specs.declared.effects.Effect.TheVariants.{NoEffect}

@@ -24,7 +24,7 @@ use Rattle.sc_hist_law.proofs.Kept.{IsApart, all_pairs, apart_push}
 use Rattle.sc_hist_law.proofs.Told.{replay_push, after_push, entry_later}
 use Rattle.sc_log_entries.proofs.Names.{draw_cases}
 use Rattle.sc_paxos_words.proofs.ListLemmas.{Each-from_All}
-use Rattle.sc_member.proofs.Pairs.{AllPairs-head, AllPairs-tail}
+use Rattle.sc_base.proofs.Pairs.{AllPairs-head, AllPairs-tail}
 
 -- entries that are apart, one by one
 one_by_one : (es : List Entry) → AllPairs AreApart es → IsApart es

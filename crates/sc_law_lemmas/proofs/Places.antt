@@ -2,7 +2,7 @@
 use Rattle.std.proofs.Common.{ℕ, ◌||◌, not, nat_le, nat_lt, Bool, true, List, [], ◌∷◌, filter, Option, Some, None}
 use Rattle.sc_base.specs.declared.names.Ballot.{Ballot}
 use Rattle.sc_cmd.specs.declared.commands.Command.{Command}
-use Rattle.sc_member.specs.Roster.{is_member}
+use Rattle.sc_base.specs.Roster.{is_member}
 use Rattle.sc_paxos_words.specs.Leaders.{without_flight_at}
 use Rattle.sc_paxos_words.specs.Logs.{entry_at}
 use Rattle.sc_paxos_words.specs.Preparing.{prepared}

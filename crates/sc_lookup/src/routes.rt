@@ -8,9 +8,8 @@ ghost use Rattle.sc_lookup.specs.Known.{way_to, chosen, target_in, next_in, bett
 
 use crate::ways::Way;
 use indexmap::IndexMap;
-use sc_base::{Draw, OutOfMemory, RingArc};
+use sc_base::{Draw, Members, OutOfMemory, RingArc};
 use sc_cmd::{Link, Route};
-use sc_member::Members;
 use std::alloc::Global;
 use std::marker::Model;
 

@@ -2,8 +2,7 @@
 ghost use Rattle.std.specs.Prelude.{◌≡◌};
 ghost use Rattle.sc_lookup.specs.Ways.{far, new_way, next_target, target_of};
 
-use sc_base::{Dup, OutOfMemory};
-use sc_member::Members;
+use sc_base::{Dup, Members, OutOfMemory};
 use std::alloc::Global;
 
 /// What a client knows of one group: where its arc starts, its members, which may be out of date,

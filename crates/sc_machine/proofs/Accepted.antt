@@ -4,9 +4,9 @@ use Rattle.std.proofs.lemmas.Bool.{leb-false}
 use Rattle.std.proofs.lemmas.Bool.Decides.{nat_tests}
 use Rattle.sc_base.specs.Arc.{holds, end_of}
 use Rattle.sc_base.specs.declared.names.Draw.{Draw}
-use Rattle.sc_member.specs.Faults.{add_fault, remove_fault}
-use Rattle.sc_member.specs.Roster.{is_member}
-use Rattle.sc_member.specs.declared.sets.MemberFault.TheVariants.{Present, Full}
+use Rattle.sc_base.specs.Faults.{add_fault, remove_fault}
+use Rattle.sc_base.specs.Roster.{is_member}
+use Rattle.sc_base.specs.declared.sets.MemberFault.TheVariants.{Present, Full}
 use Rattle.sc_cmd.specs.declared.bodies.Body.{Body}
 use Rattle.sc_cmd.specs.declared.bodies.Body.TheVariants.{Merge, Repart, Migrate, Split}
 use Rattle.sc_cmd.specs.declared.commands.Command.{Command}

@@ -5,7 +5,7 @@ use Rattle.sc_base.specs.Arc.{from, joined}
 use Rattle.sc_base.specs.Same.{same_draw}
 use Rattle.sc_base.specs.declared.names.Draw.{Draw}
 use Rattle.sc_ideal.specs.IdealStore.{part_of}
-use Rattle.sc_member.specs.Union.{united}
+use Rattle.sc_base.specs.Union.{united}
 use Rattle.sc_cmd.specs.declared.bodies.Offer.{Offer}
 use Rattle.sc_cmd.specs.declared.bodies.Watch.{Watch}
 use Rattle.sc_cmd.specs.declared.cores.Core.{Core}

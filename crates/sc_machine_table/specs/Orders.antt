@@ -2,7 +2,7 @@
 use Rattle.std.specs.Prelude.{ℕ, Bool, ◌==◌, ◌&&◌, ◌||◌, not, nat_le, length, if◌then◌else◌, Option, Some, None}
 use Rattle.sc_base.specs.Arc.{holds, end_of}
 use Rattle.sc_base.specs.declared.names.Draw.{Draw}
-use Rattle.sc_member.specs.Roster.{is_member, with_member, without_member}
+use Rattle.sc_base.specs.Roster.{is_member, with_member, without_member}
 use Rattle.sc_cmd.specs.declared.bodies.Body.{Body}
 use Rattle.sc_cmd.specs.declared.bodies.Body.TheVariants as At
 use Rattle.sc_cmd.specs.declared.commands.Command.{Command}

@@ -7,8 +7,8 @@ use Rattle.sc_base.specs.Same.{same_draw}
 use Rattle.sc_base.specs.declared.names.Draw.{Draw}
 use Rattle.sc_ideal.specs.IdealStore.{Contents, part_of, with_pairs}
 use Rattle.sc_ideal.specs.Clients.{joined_with}
-use Rattle.sc_member.specs.Roster.{is_member, without_member}
-use Rattle.sc_member.specs.Union.{united}
+use Rattle.sc_base.specs.Roster.{is_member, without_member}
+use Rattle.sc_base.specs.Union.{united}
 use Rattle.sc_cmd.specs.declared.cores.Core.{Core}
 use Rattle.sc_cmd.specs.declared.links.Link.{Link}
 use Rattle.sc_cmd.specs.declared.links.Route.{Route}

@@ -6,7 +6,7 @@ use Rattle.sc_base.specs.Arc.{CanCut, before, from}
 use Rattle.sc_base.specs.declared.names.Draw.{Draw}
 use Rattle.sc_cmd.specs.Cores.{is_alone}
 use Rattle.sc_ideal.specs.IdealStore.{part_of}
-use Rattle.sc_member.specs.Roster.{least_of}
+use Rattle.sc_base.specs.Roster.{least_of}
 use Rattle.sc_base.specs.Same.{same_draw}
 use Rattle.sc_cmd.specs.declared.cores.Base.{Base}
 use Rattle.sc_cmd.specs.declared.cores.Core.{Core}

@@ -4,7 +4,7 @@ use Rattle.std.specs.List.{list_any}
 use Rattle.sc_base.specs.Arc.{holds, end_of}
 use Rattle.sc_base.specs.Same.{same_draw}
 use Rattle.sc_base.specs.declared.names.Draw.{Draw}
-use Rattle.sc_member.specs.Union.{united}
+use Rattle.sc_base.specs.Union.{united}
 use Rattle.sc_cmd.specs.declared.bodies.Body.{Body}
 use Rattle.sc_cmd.specs.declared.bodies.Body.TheVariants.{Merge, Repart, Migrate, Split}
 use Rattle.sc_cmd.specs.declared.bodies.Offer.{Offer}

@@ -6,9 +6,8 @@ ghost use Rattle.sc_scenario.specs.Made.{made_clients, made_groups, made_goes, m
 ghost use Rattle.sc_scenario.specs.declared.scenarios.SchedLine.TheVariants.{Settle};
 
 use crate::drawing::made_ops;
-use sc_base::{OutOfMemory, Sequence};
+use sc_base::{Members, OutOfMemory, Sequence};
 use sc_chance::Chance;
-use sc_member::Members;
 use sc_scenario::{
     Asks, ClientList, GroupLine, GroupList, Scenario, SchedLine, Schedule, bases_of,
 };

@@ -11,7 +11,7 @@ use Rattle.sc_base.specs.Same.{same_draw}
 use Rattle.sc_log_entries.specs.declared.Cut.{Cut}
 use Rattle.sc_log_entries.specs.Rings.{Covers}
 use Rattle.sc_map_checks.specs.Covering.{is_beside, is_other, are_others, is_followed}
-use Rattle.sc_member.proofs.Pairs.{AllPairs-head, AllPairs-tail}
+use Rattle.sc_base.proofs.Pairs.{AllPairs-head, AllPairs-tail}
 
 -- an arc of the circle that starts on it
 abbrev pub IsOn : Cut → Type 0

@@ -10,7 +10,7 @@ use Rattle.sc_base.specs.Drawing.{Drawer, next_name, drawn_on}
 use Rattle.sc_base.specs.declared.names.Draw.{Draw}
 use Rattle.sc_base.proofs.NameLemmas.{draw_is}
 use Rattle.sc_cmd.specs.declared.orders.OrderLine.{OrderLine}
-use Rattle.sc_member.specs.Roster.{is_member}
+use Rattle.sc_base.specs.Roster.{is_member}
 use Rattle.sc_node_table.specs.Node.{group_of_order}
 use Rattle.sc_node_table.specs.Ordering.{takes_name, untaken, names_after}
 use Rattle.sc_node_table.specs.Policy.{wished_line, names_with, names_after_tick}

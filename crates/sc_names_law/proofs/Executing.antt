@@ -13,7 +13,7 @@ use Rattle.sc_cmd.specs.Effects.{result_of}
 use Rattle.sc_mail.specs.declared.bodies.AnswerBody.{AnswerBody}
 use Rattle.sc_mail.specs.declared.bodies.AnswerBody.TheVariants as Says
 use Rattle.sc_mail.specs.declared.bodies.MailBody.TheVariants.{Answer, Learn}
-use Rattle.sc_member.specs.Roster.{is_member, least_of}
+use Rattle.sc_base.specs.Roster.{is_member, least_of}
 use Rattle.sc_machine_table.specs.Children.{child_by}
 use Rattle.sc_machine_table.specs.Machine.{applied}
 use Rattle.sc_paxos_words.proofs.ListLemmas.{Each-append}

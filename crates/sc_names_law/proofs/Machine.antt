@@ -34,8 +34,8 @@ use Rattle.sc_cmd.specs.declared.votes.Past.TheVariants as Cast
 use Rattle.sc_cmd.specs.declared.votes.Vote.{Vote}
 use Rattle.sc_cmd.specs.declared.votes.Vote.TheVariants as Says
 use Rattle.sc_paxos_words.proofs.ListLemmas.{Each-append}
-use Rattle.sc_member.specs.Roster.{is_member}
-use Rattle.sc_member.specs.Union.{united}
+use Rattle.sc_base.specs.Roster.{is_member}
+use Rattle.sc_base.specs.Union.{united}
 use Rattle.sc_machine_table.specs.Children.{ordered_child, released_child, answered_child, watched_child, child_by}
 use Rattle.sc_machine_table.specs.Group.{Group}
 use Rattle.sc_machine_table.specs.Machine.{served_by_note, served, called, split_group, ordered_by, applied}

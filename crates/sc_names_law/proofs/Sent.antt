@@ -29,8 +29,8 @@ use Rattle.sc_mail.specs.declared.bodies.AnswerBody.{AnswerBody}
 use Rattle.sc_mail.specs.declared.bodies.Mail.{Mail}
 use Rattle.sc_mail.specs.declared.bodies.MailBody.{MailBody}
 use Rattle.sc_mail.specs.declared.bodies.MailBody.TheVariants.{Answer, TxPrepare, TxVote, TxOutcome, TxWatched, Told}
-use Rattle.sc_member.specs.Roster.{least_of}
-use Rattle.sc_member.specs.Union.{united}
+use Rattle.sc_base.specs.Roster.{least_of}
+use Rattle.sc_base.specs.Union.{united}
 use Rattle.sc_machine_table.specs.Group.{Group}
 use Rattle.sc_machine_table.specs.Plans.{can_split, frozen_of, merged_link}
 use Rattle.sc_machine_table.specs.Splits.{right_link}

@@ -6,8 +6,8 @@ use Rattle.sc_base.specs.declared.names.Draw.{Draw}
 use Rattle.sc_cmd.specs.declared.commands.Command.{Command}
 use Rattle.sc_mail.specs.declared.bodies.Mail.{Mail}
 use Rattle.sc_mail.specs.declared.bodies.MailBody.TheVariants.{Promise, Accepted, Nack, Learn, Ask}
-use Rattle.sc_member.specs.Roster.{is_member}
-use Rattle.sc_member.specs.Majority.{is_majority}
+use Rattle.sc_base.specs.Roster.{is_member}
+use Rattle.sc_base.specs.Majority.{is_majority}
 use Rattle.sc_paxos_words.proofs.ListLemmas.{Each-append, Each-filter}
 use Rattle.sc_paxos_words.specs.declared.reports.Report.{Report}
 use Rattle.sc_paxos_words.specs.declared.flights.Flight.{Flight}

@@ -12,7 +12,7 @@ use Rattle.sc_cmd.specs.declared.cores.Lock.{Lock}
 use Rattle.sc_cmd.specs.declared.cores.Lock.TheVariants.{Free, Coordinating, Promised, Watching}
 use Rattle.sc_cmd.specs.declared.orders.OrderLine.{OrderLine}
 use Rattle.sc_machine_table.specs.Group.{Group}
-use Rattle.sc_member.specs.Roster.{is_member}
+use Rattle.sc_base.specs.Roster.{is_member}
 use Rattle.sc_policy.specs.declared.bodies.Body0.{Body0}
 use Rattle.sc_policy.specs.declared.bodies.Body0.TheVariants.{Split, Merge, Repart}
 use Rattle.sc_policy.specs.Wishes.{has_neighbour, is_small, middle_of, positions_from, middle_key, wants_split, wants_repart, wished, wished_of_two, order_of, wished_order}

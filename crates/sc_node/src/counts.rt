@@ -6,10 +6,9 @@ ghost use Rattle.sc_node_table.specs.Voting.{leads, readied, voted, accepted_row
 ghost use Rattle.sc_node_table.specs.Rows.{learn_row};
 
 use crate::execute::execute;
-use sc_base::{Ballot, OutOfMemory, Sequence};
+use sc_base::{Ballot, Members, OutOfMemory, Sequence};
 use sc_cmd::{Base, Command};
 use sc_mail::Mail;
-use sc_member::Members;
 use sc_paxos::Counted;
 use sc_replica::{LAST_SLOT, Replica};
 

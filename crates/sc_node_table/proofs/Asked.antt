@@ -5,8 +5,8 @@ use Rattle.std.proofs.lemmas.Bool.{cases_Bool, cond-true, cond-false, cond_both,
 use Rattle.std.proofs.lemmas.List.Elements.{filter_agree}
 use Rattle.sc_base.specs.Among.{Each}
 use Rattle.sc_base.specs.Limits.{most_nodes}
-use Rattle.sc_member.specs.Roster.{is_member, with_member}
-use Rattle.sc_member.specs.Union.{with_any, united}
+use Rattle.sc_base.specs.Roster.{is_member, with_member}
+use Rattle.sc_base.specs.Union.{with_any, united}
 use Rattle.sc_paxos_words.proofs.ListLemmas.{Each-weaker}
 use Rattle.sc_node_table.specs.Election.{is_in_some, nodes_to, open_nodes, AsksTheOpenSets}
 use Rattle.sc_node_table.specs.Slots.{numbers_from}

@@ -11,7 +11,7 @@ use Rattle.sc_mail.specs.declared.bodies.AnswerBody.TheVariants as Says
 use Rattle.sc_mail.specs.declared.bodies.MailBody.TheVariants.{Learn}
 use Rattle.sc_cmd.specs.declared.orders.ToldResult.{ToldResult}
 use Rattle.sc_cmd.specs.Effects.{result_of}
-use Rattle.sc_member.specs.Roster.{is_member, least_of}
+use Rattle.sc_base.specs.Roster.{is_member, least_of}
 use Rattle.sc_paxos_words.specs.Logs.{LogState, learnt, next_of}
 use Rattle.sc_paxos_words.specs.Leaders.{without_flight_at}
 use Rattle.sc_machine_table.specs.Children.{child_by}

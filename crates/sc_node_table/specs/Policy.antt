@@ -9,7 +9,7 @@ use Rattle.sc_cmd.specs.declared.cores.Lock.TheVariants.{Free, Coordinating, Pro
 use Rattle.sc_cmd.specs.declared.orders.Order.{Order}
 use Rattle.sc_cmd.specs.declared.orders.OrderLine.{OrderLine}
 use Rattle.sc_cmd.specs.declared.orders.OrderRefusal.{OrderRefusal}
-use Rattle.sc_member.specs.Roster.{is_member}
+use Rattle.sc_base.specs.Roster.{is_member}
 use Rattle.sc_policy.specs.Wishes.{wished_order}
 use Rattle.sc_node_table.specs.Replica.{ReplicaState, Place, members, settled, is_idle}
 use Rattle.sc_node_table.specs.Queues.{with_call}

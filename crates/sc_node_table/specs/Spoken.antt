@@ -26,7 +26,7 @@ use Rattle.sc_cmd.specs.declared.votes.Vote.TheVariants as Says
 use Rattle.sc_cmd.specs.Cores.{is_alone}
 use Rattle.sc_mail.specs.declared.bodies.Mail.{Mail}
 use Rattle.sc_mail.specs.declared.bodies.MailBody.TheVariants.{TxPrepare, TxOutcome}
-use Rattle.sc_member.specs.Roster.{least_of}
+use Rattle.sc_base.specs.Roster.{least_of}
 use Rattle.sc_machine_table.specs.Group.{Group}
 use Rattle.sc_node_table.specs.Replica.{Place}
 use Rattle.sc_node_table.specs.Mails.{sent, sent_all, told_order}

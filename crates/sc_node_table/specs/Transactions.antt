@@ -18,7 +18,7 @@ use Rattle.sc_cmd.specs.declared.votes.Vote.{Vote}
 use Rattle.sc_cmd.specs.declared.votes.Vote.TheVariants as Says
 use Rattle.sc_mail.specs.declared.bodies.Mail.{Mail}
 use Rattle.sc_mail.specs.declared.bodies.MailBody.TheVariants.{TxVote, TxOutcome, TxElsewhere, TxWatched}
-use Rattle.sc_member.specs.Roster.{next_after}
+use Rattle.sc_base.specs.Roster.{next_after}
 use Rattle.sc_machine_table.specs.Group.{Group}
 use Rattle.sc_machine_table.specs.Orders.{locked_in}
 use Rattle.sc_machine_table.specs.Plans.{frozen_of}

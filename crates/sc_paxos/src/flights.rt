@@ -4,7 +4,7 @@ ghost use Rattle.std.specs.Option.{option_copied};
 ghost use Rattle.sc_paxos_words.specs.Leaders.{flight_at, without_flight};
 ghost use Rattle.sc_paxos_words.specs.Votes.{with_voters};
 
-use sc_member::Members;
+use sc_base::Members;
 use sc_paxos_words::Flight;
 
 /// The place of what is in flight at a slot, if anything is.

@@ -1,7 +1,7 @@
 //! The leader.
 ghost use Rattle.std.specs.Prelude.{◌≡◌, IfOk, OnOk, OnErr, None};
 ghost use Rattle.std.specs.Option.{option_copied, option_map};
-ghost use Rattle.sc_member.specs.Roster.{is_member};
+ghost use Rattle.sc_base.specs.Roster.{is_member};
 ghost use Rattle.sc_paxos_words.specs.Choice.{names_above};
 ghost use Rattle.sc_paxos_words.specs.Leaders.{Obeys, first_leader, new_leader, promise_counted, is_settled, must, flight_at, with_flight_at, without_flight_at};
 ghost use Rattle.sc_paxos_words.specs.Votes.{counted, has_counted};
@@ -9,8 +9,7 @@ ghost use Rattle.sc_paxos_words.specs.Votes.{counted, has_counted};
 use crate::flights::{flight_at, set_voters, take_out};
 use crate::picking::pick;
 use crate::voters::{are_majority, count_of, voters_after};
-use sc_base::{Ballot, Dup, OutOfMemory};
-use sc_member::Members;
+use sc_base::{Ballot, Dup, Members, OutOfMemory};
 use sc_paxos_words::{Counted, Flight, Must, Report};
 use std::alloc::Global;
 use std::marker::Model;

@@ -1,9 +1,9 @@
 //! The kept votes of a flight.
 ghost use Rattle.std.specs.Prelude.{◌≡◌, Some, length};
-ghost use Rattle.sc_member.specs.Majority.{is_majority};
+ghost use Rattle.sc_base.specs.Majority.{is_majority};
 ghost use Rattle.sc_paxos_words.specs.Votes.{kept_voters, add_voter, voters_after};
 
-use sc_member::Members;
+use sc_base::Members;
 
 /// The kept votes after one of a node: that of a member is kept, once.
 pub(crate) fn voters_after(members: &Members, node: u16, voters: Option<Members>) -> Option<Members>

@@ -4,8 +4,8 @@ use Rattle.std.specs.Prelude.{slice_get}
 use Rattle.std.specs.List.{flat_map}
 use Rattle.std.proofs.lemmas.Bool.{cases_Bool, eqb-true, eq-eqb, or_cases, or_left, or_right, cond-true, cond-false, cond_both}
 use Rattle.std.proofs.lemmas.List.Sums.{sum_by-cons}
-use Rattle.sc_member.specs.Roster.{is_member}
-use Rattle.sc_member.specs.Majority.{IsMajority}
+use Rattle.sc_base.specs.Roster.{is_member}
+use Rattle.sc_base.specs.Majority.{IsMajority}
 use Rattle.sc_base.specs.Among.{Among}
 
 -- what stands in the first of two lists stands in both joined

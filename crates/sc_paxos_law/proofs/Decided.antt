@@ -4,8 +4,8 @@ use Rattle.std.proofs.lemmas.Bool.{cases_Bool, eqb-true, eq-eqb, ltb-true, lt-lt
 use Rattle.std.proofs.lemmas.List.{length_push, take_all}
 use Rattle.sc_base.specs.Among.{Among, Each}
 use Rattle.sc_base.specs.declared.names.Ballot.{Ballot}
-use Rattle.sc_member.specs.Roster.{is_member}
-use Rattle.sc_member.specs.Majority.{IsMajority, is_majority}
+use Rattle.sc_base.specs.Roster.{is_member}
+use Rattle.sc_base.specs.Majority.{IsMajority, is_majority}
 use Rattle.std.specs.Option.{option_map}
 use Rattle.sc_paxos_words.specs.Ballots.{below, IsAtLeast}
 use Rattle.sc_base.specs.Same.{same_ballot}

@@ -5,7 +5,7 @@ use Rattle.std.proofs.lemmas.Bool.{cases_lt}
 use Rattle.std.proofs.lemmas.Option.{slice_get_cases, slice_get_within}
 use Rattle.std.proofs.lemmas.List.{take_more, take-take, take-append-le, take_all}
 use Rattle.sc_base.specs.Among.{Among, Each}
-use Rattle.sc_member.specs.Majority.{IsMajority}
+use Rattle.sc_base.specs.Majority.{IsMajority}
 use Rattle.sc_base.specs.declared.names.Ballot.{Ballot}
 use Rattle.sc_paxos_words.specs.declared.reports.Report.{Report}
 use Rattle.sc_paxos_words.specs.Ballots.{below, IsAtLeast}

@@ -4,8 +4,8 @@ use Rattle.std.specs.List.{flat_map}
 use Rattle.std.specs.Option.{option_map}
 use Rattle.std.proofs.lemmas.Bool.{ltb-true, cond-true, cond_both}
 use Rattle.std.proofs.lemmas.List.Sums.{sum_by-cons}
-use Rattle.sc_member.specs.Roster.{is_member}
-use Rattle.sc_member.specs.Majority.{IsMajority, is_majority}
+use Rattle.sc_base.specs.Roster.{is_member}
+use Rattle.sc_base.specs.Majority.{IsMajority, is_majority}
 use Rattle.sc_paxos_words.specs.declared.reports.Report.{Report}
 use Rattle.sc_base.specs.Among.{Among, Each}
 use Rattle.sc_paxos_words.specs.Choice.{choice, names_above}

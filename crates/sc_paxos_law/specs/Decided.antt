@@ -1,7 +1,7 @@
 -- The decided log of a history, computed.
 use Rattle.std.specs.Prelude.{ℕ, zero, suc, ◌+◌, ◌==◌, ◌&&◌, max, List, [], ◌∷◌, ◌++◌, length, if◌then◌else◌, Option, Some, None}
 use Rattle.sc_base.specs.declared.names.Ballot.{Ballot}
-use Rattle.sc_member.specs.Majority.{is_majority}
+use Rattle.sc_base.specs.Majority.{is_majority}
 use Rattle.std.specs.Option.{option_map}
 use Rattle.sc_paxos_words.specs.Ballots.{below}
 use Rattle.sc_base.specs.Same.{same_ballot}

@@ -2,7 +2,7 @@
 use Rattle.std.specs.Prelude.{◌≡◌, ℕ, ◌<◌, ◌≤◌, true, List, [], ◌∷◌, ◌⊎◌, length, map, IfSome}
 use Rattle.std.specs.List.{flat_map}
 use Rattle.sc_base.specs.declared.names.Ballot.{Ballot}
-use Rattle.sc_member.specs.Majority.{IsMajority}
+use Rattle.sc_base.specs.Majority.{IsMajority}
 use Rattle.sc_paxos_words.specs.declared.reports.Report.{Report}
 use Rattle.sc_base.specs.Among.{Among, Each}
 use Rattle.sc_paxos_words.specs.Choice.{choice}

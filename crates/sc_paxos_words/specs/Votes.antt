@@ -1,8 +1,8 @@
 -- How a leader counts votes (Paxos Made Simple, section 2.2).
 use Rattle.std.specs.Prelude.{ℕ, Bool, ◌==◌, ◌||◌, List, [], ◌∷◌, length, Option, Some, None, if◌then◌else◌}
 use Rattle.sc_base.specs.declared.names.Ballot.{Ballot}
-use Rattle.sc_member.specs.Roster.{is_member, with_member}
-use Rattle.sc_member.specs.Majority.{is_majority}
+use Rattle.sc_base.specs.Roster.{is_member, with_member}
+use Rattle.sc_base.specs.Majority.{is_majority}
 use Rattle.sc_paxos_words.specs.declared.flights.Flight.{Flight}
 use Rattle.sc_paxos_words.specs.declared.answers.Counted.{Counted}
 use Rattle.sc_paxos_words.specs.declared.answers.Counted.TheVariants.{Chosen, NotYet}

@@ -1,5 +1,5 @@
 //! Proposals in flight.
-use sc_member::Members;
+use sc_base::Members;
 
 /// A value that a leader has proposed at a slot, and the members that have accepted it, if any
 /// have.

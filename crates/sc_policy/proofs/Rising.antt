@@ -17,7 +17,7 @@ use Rattle.sc_base.proofs.AscendingLemmas.{is_less}
 use Rattle.sc_policy.specs.Wishes.{positions}
 use Rattle.sc_policy.specs.Laws.{far_from, KeysRiseFromTheStart}
 use Rattle.sc_policy.proofs.Fronts.{are_bytes, pos_le, pos_small}
-use Rattle.sc_member.proofs.Pairs.{AllPairs-head, AllPairs-tail}
+use Rattle.sc_base.proofs.Pairs.{AllPairs-head, AllPairs-tail}
 
 abbrev HasKey : List ℕ × List ℕ → Type 0
 HasKey pair = IsText longest_key pair.0

@@ -1,7 +1,7 @@
 //! The parts of Execute: the command of the next slot is entered, told and taught, and what was in
 //! flight or ready there is over.
 ghost use Rattle.std.specs.Prelude.{◌≡◌, ◌+◌, ◌<◌, ◌||◌, not, filter, IfOk, OnOk, IfSome, Option, Some, None, true, false, is_some, if◌then◌else◌};
-ghost use Rattle.sc_member.specs.Roster.{is_member};
+ghost use Rattle.sc_base.specs.Roster.{is_member};
 ghost use Rattle.sc_cmd.specs.declared.commands.Command.TheVariants.{Call};
 ghost use Rattle.sc_machine_table.specs.Machine.{applied};
 ghost use Rattle.sc_node_table.specs.Slots.{slots_ahead};
@@ -9,10 +9,9 @@ ghost use Rattle.sc_node_table.specs.Replica.{next, members, last_slot};
 ghost use Rattle.sc_node_table.specs.Execute.{entered, answer_of, told_call, told_effect, learnt_to, welcomed, slot_lost, landed, left_gone, left, is_among, looked, has_room, next_ready};
 
 use crate::replica::{LAST_SLOT, Replica};
-use sc_base::{Dup, OutOfMemory, Sequence, dup_found};
+use sc_base::{Dup, Members, OutOfMemory, Sequence, dup_found};
 use sc_cmd::{Command, Effect, ToldResult};
 use sc_mail::{AnswerBody, Mail};
-use sc_member::Members;
 use sc_replica_choices::{not_among, same_command, waits_in};
 use sc_replica_parts::{answer, drop_ready, order_number, ready_at, tell_order};
 

@@ -1,6 +1,6 @@
 //! The replica.
 ghost use Rattle.std.specs.Prelude.{◌≡◌, ◌+◌, ◌≤◌, IfOk, OnOk, length, true};
-ghost use Rattle.sc_member.specs.Roster.{is_member};
+ghost use Rattle.sc_base.specs.Roster.{is_member};
 ghost use Rattle.sc_node_table.specs.Slots.{slots_ahead};
 ghost use Rattle.sc_node_table.specs.Replica.{born_replica, installed_replica, members, name_of, next, last_slot};
 ghost use Rattle.sc_replica.specs.Bare.{bare_replica, with_hint, with_waits};

@@ -1,7 +1,7 @@
 //! The row of Request, what is asked again at a tick, and the mails of a round of votes.
 ghost use Rattle.std.specs.Prelude.{◌≡◌, ◌+◌, ◌-◌, ◌<◌, ◌≤◌, ◌||◌, not, nat_le, nat_lt, true, false, IfOk, OnOk, IfSome, Some, None, is_some};
 ghost use Rattle.std.specs.Option.{option_copied};
-ghost use Rattle.sc_member.specs.Roster.{is_member};
+ghost use Rattle.sc_base.specs.Roster.{is_member};
 ghost use Rattle.sc_paxos_words.specs.Logs.{entry_at, next_of};
 ghost use Rattle.sc_cmd.specs.declared.commands.Command.TheVariants.{Call};
 ghost use Rattle.sc_node_table.specs.Queues.{call_of};
@@ -13,9 +13,8 @@ ghost use Rattle.sc_node_table.specs.Rows.{queued, requested, request_row, asked
 ghost use Rattle.sc_replica.specs.Given.{is_of_round};
 
 use crate::replica::Replica;
-use sc_base::{Op, OutOfMemory, Sequence};
+use sc_base::{Members, Op, OutOfMemory, Sequence};
 use sc_mail::{Mail, MailBody};
-use sc_member::Members;
 use sc_replica_choices::{call_refusal, uncounted};
 use sc_replica_parts::{add_call, answer, call_of, drop_call, send};
 

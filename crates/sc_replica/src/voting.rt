@@ -12,10 +12,9 @@ ghost use Rattle.sc_replica.specs.Steps.{with_leader, with_ready};
 ghost use Rattle.sc_node_table.specs.Voting.{hinted, promise_to, promised, prepare_row, accepted_to, took, accept_row, leads, promise_row};
 
 use crate::replica::Replica;
-use sc_base::{Ballot, Dup, OutOfMemory, Sequence, same_ballot};
+use sc_base::{Ballot, Dup, Members, OutOfMemory, Sequence, same_ballot};
 use sc_cmd::Command;
 use sc_mail::{Mail, MailBody, Reports};
-use sc_member::Members;
 use sc_paxos::{AcceptAnswer, Counted, PrepareAnswer};
 use sc_replica_parts::{put_ready, send};
 

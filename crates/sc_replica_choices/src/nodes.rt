@@ -1,13 +1,12 @@
 //! Lists of nodes.
 ghost use Rattle.std.specs.Prelude.{◌≡◌, ◌≤◌, filter, not, IfOk};
 ghost use Rattle.sc_base.specs.Limits.{most_nodes};
-ghost use Rattle.sc_member.specs.Roster.{is_member};
+ghost use Rattle.sc_base.specs.Roster.{is_member};
 ghost use Rattle.sc_paxos_words.specs.Votes.{has_counted};
 ghost use Rattle.sc_node_table.specs.Election.{nodes_to};
 
 use crate::open_sets::Sets;
-use sc_base::OutOfMemory;
-use sc_member::Members;
+use sc_base::{Members, OutOfMemory};
 use sc_paxos::Leader;
 use std::alloc::Global;
 

@@ -5,9 +5,8 @@ ghost use Rattle.sc_node_table.specs.Slots.{slots_ahead, rest_of};
 ghost use Rattle.sc_node_table.specs.Replica.{first_set};
 ghost use Rattle.sc_node_table.specs.Election.{is_in_some};
 
-use sc_base::{OutOfMemory, Sequence};
+use sc_base::{Members, OutOfMemory, Sequence};
 use sc_cmd::MemberSets;
-use sc_member::Members;
 use sc_node_table::OPEN_SLOTS;
 use std::alloc::Global;
 use std::marker::Model;

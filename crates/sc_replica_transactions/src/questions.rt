@@ -1,7 +1,7 @@
 //! What a coordinator asks, and whom.
 ghost use Rattle.std.specs.Prelude.{◌≡◌, IfOk, OnOk};
 ghost use Rattle.sc_mail.specs.declared.bodies.MailBody.TheVariants.{TxPrepare};
-ghost use Rattle.sc_member.specs.Roster.{least_of};
+ghost use Rattle.sc_base.specs.Roster.{least_of};
 ghost use Rattle.sc_node_table.specs.Mails.{sent, sent_all};
 ghost use Rattle.sc_node_table.specs.Questions.{offer_of, heard_link, watcher_link, or_successor, asked_link, watch_of, child_link, both_link, split_watch, union_watch, heard_question, question, asked_node, asked_least, asked_all, asked_first};
 ghost use Rattle.sc_node_table.specs.Transactions.{next_asked, asked_next};

@@ -6,7 +6,7 @@ use Rattle.std.proofs.Common.{◌≡◌, ℕ, zero, suc, ◌<◌, Bool, true, fa
 use Rattle.std.proofs.lemmas.Bool.{cond-true, cond-false}
 use Rattle.sc_base.specs.Among.{Among, Each}
 use Rattle.sc_paxos_words.proofs.ListLemmas.{Each-among, Each-filter, Each-from_All}
-use Rattle.sc_member.proofs.Pairs.{AllPairs-head, AllPairs-tail}
+use Rattle.sc_base.proofs.Pairs.{AllPairs-head, AllPairs-tail}
 
 pub some_none : {X : Type 0} (a : X) → Some a ≡ None → ⊥
 some_none a e = cc

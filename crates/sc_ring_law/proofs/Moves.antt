@@ -6,7 +6,7 @@ use Rattle.std.specs.FinMap.{entries, empty}
 use Rattle.sc_base.specs.Arc.{Arc, before, from, joined, offset, end_of, holds}
 use Rattle.sc_base.specs.declared.names.Draw.{Draw}
 use Rattle.sc_ideal.specs.IdealStore.{part_of, with_pairs}
-use Rattle.sc_member.specs.Union.{united}
+use Rattle.sc_base.specs.Union.{united}
 use Rattle.sc_cmd.specs.declared.bodies.Body.TheVariants as At
 use Rattle.sc_cmd.specs.declared.votes.Frozen.{Frozen}
 use Rattle.sc_cmd.specs.declared.votes.Outcome.{Outcome}

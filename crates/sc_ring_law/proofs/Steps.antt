@@ -14,7 +14,7 @@ use Rattle.sc_cmd.specs.Effects.{is_changed}
 use Rattle.sc_cmd.specs.Cores.{is_alone}
 use Rattle.sc_ideal.specs.IdealStore.{Contents, key_of, after, holds_key}
 use Rattle.sc_ideal.proofs.Apart.{apart, get-part}
-use Rattle.sc_member.specs.Union.{united}
+use Rattle.sc_base.specs.Union.{united}
 use Rattle.sc_cmd.specs.declared.bodies.Body.{Body}
 use Rattle.sc_cmd.specs.declared.bodies.Body.TheVariants as At
 use Rattle.sc_cmd.specs.declared.bodies.Offer.{Offer}

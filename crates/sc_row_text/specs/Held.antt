@@ -6,7 +6,7 @@ use Rattle.sc_base.specs.Arc.{Arc, IsArc}
 use Rattle.sc_base.specs.Ascending.{IsAscending}
 use Rattle.sc_base.specs.Limits.{longest_key, longest_value}
 use Rattle.sc_base.specs.Text.{IsText}
-use Rattle.sc_member.specs.Roster.{IsRoster}
+use Rattle.sc_base.specs.Roster.{IsRoster}
 
 -- numbers of 8 bits
 abbrev pub FitsU8 : ℕ → Type 0

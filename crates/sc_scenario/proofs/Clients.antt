@@ -7,7 +7,7 @@ use Rattle.std.proofs.lemmas.List.Elements.{All-cons, All-append, All-take, All-
 use Rattle.sc_scenario.specs.Schedules.{is_client}
 use Rattle.sc_scenario.specs.Taking.{client_place}
 use Rattle.sc_scenario.specs.declared.scenarios.Asks.{Asks}
-use Rattle.sc_member.proofs.Pairs.{AllPairs-head, AllPairs-tail}
+use Rattle.sc_base.proofs.Pairs.{AllPairs-head, AllPairs-tail}
 
 -- clients in order of number
 abbrev pub Below : Asks → Asks → Type 0

@@ -9,7 +9,7 @@ use Rattle.std.proofs.lemmas.List.Quantifiers.{all_pairs_push}
 use Rattle.sc_base.specs.Among.{Each}
 use Rattle.sc_base.specs.Limits.{most_requests}
 use Rattle.sc_chance.specs.Words.{two_words}
-use Rattle.sc_member.specs.Roster.{IsRoster}
+use Rattle.sc_base.specs.Roster.{IsRoster}
 use Rattle.sc_scenario.specs.Schedules.{is_client}
 use Rattle.sc_scenario.specs.Made.{made_op, made_ops, made_clients, made_groups, made_goes, made_scenario}
 use Rattle.sc_scenario.specs.Valid.{IsUpTo, IsBounded, IsBoundedGroup, IsShortOp, IsBoundedClient, IsBoundedLine}

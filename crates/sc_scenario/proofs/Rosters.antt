@@ -3,10 +3,10 @@ use Rattle.std.proofs.Common.{◌≡◌, ℕ, ◌<◌, Bool, true, false, cond, 
 use Rattle.std.specs.List.{All}
 use Rattle.std.proofs.lemmas.Bool.{eqb-false}
 use Rattle.std.proofs.lemmas.List.Elements.{All-cons, All-append, All-filter}
-use Rattle.sc_member.specs.Roster.{IsRoster, is_member, with_member}
-use Rattle.sc_member.proofs.Rising.{roster_with as roster_put}
-use Rattle.sc_member.specs.Faults.{add_fault}
-use Rattle.sc_member.specs.declared.sets.MemberFault.TheVariants.{Present, Full}
+use Rattle.sc_base.specs.Roster.{IsRoster, is_member, with_member}
+use Rattle.sc_base.proofs.Rising.{roster_with as roster_put}
+use Rattle.sc_base.specs.Faults.{add_fault}
+use Rattle.sc_base.specs.declared.sets.MemberFault.TheVariants.{Present, Full}
 
 -- one node is a set
 pub roster_one : (n : ℕ) → IsRoster (n ∷ [])

@@ -11,8 +11,8 @@ use Rattle.sc_base.specs.Limits.{most_nodes, most_clients, client_actor}
 use Rattle.sc_base.specs.Number.{number_of}
 use Rattle.sc_cmd.specs.declared.orders.Order.{Order}
 use Rattle.sc_cmd.specs.declared.orders.Order.TheVariants.{Join, Leave, Split, Merge, Repart, Migrate}
-use Rattle.sc_member.specs.Roster.{IsRoster, with_member}
-use Rattle.sc_member.specs.Faults.{add_fault}
+use Rattle.sc_base.specs.Roster.{IsRoster, with_member}
+use Rattle.sc_base.specs.Faults.{add_fault}
 use Rattle.sc_lines.specs.Reasons.{or_reason}
 use Rattle.sc_lines.specs.Words.{nth, count_in}
 use Rattle.sc_scenario.specs.Groups.{nodes_with, joined_by, joined_by_all}

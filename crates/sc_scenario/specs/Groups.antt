@@ -4,8 +4,8 @@ use Rattle.std.specs.List.{list_any}
 use Rattle.sc_base.specs.Limits.{most_nodes}
 use Rattle.sc_base.specs.Arc.{Arc}
 use Rattle.sc_base.specs.declared.names.Draw.{Draw}
-use Rattle.sc_member.specs.Roster.{with_member, least_of}
-use Rattle.sc_member.specs.Faults.{add_fault}
+use Rattle.sc_base.specs.Roster.{with_member, least_of}
+use Rattle.sc_base.specs.Faults.{add_fault}
 use Rattle.sc_cmd.specs.declared.cores.Base.{Base}
 use Rattle.sc_cmd.specs.declared.cores.Core.{Core}
 use Rattle.sc_cmd.specs.declared.cores.Lock.TheVariants.{Free}

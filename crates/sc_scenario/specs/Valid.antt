@@ -1,7 +1,7 @@
 -- Scenarios that some text is, or that are made.
 use Rattle.std.specs.Prelude.{◌≡◌, ◌<◌, ◌≤◌, ℕ, ◌+◌, ◌^◌, false, true, List, Some, length, take, All, ◌⊎◌}
 use Rattle.std.specs.List.{AllPairs}
-use Rattle.sc_member.specs.Roster.{IsRoster}
+use Rattle.sc_base.specs.Roster.{IsRoster}
 use Rattle.sc_cmd.specs.declared.orders.Order.{Order}
 use Rattle.sc_cmd.specs.declared.orders.Order.TheVariants.{Join, Leave, Split, Merge, Repart, Migrate}
 use Rattle.sc_scenario.specs.Groups.{bases_of}

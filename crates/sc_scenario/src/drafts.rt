@@ -1,7 +1,6 @@
 //! What was read of a scenario's lines so far.
 use crate::scenarios::{Asks, ClientList, Schedule};
-use sc_base::Sequence;
-use sc_member::Members;
+use sc_base::{Members, Sequence};
 
 /// The line of a group: where its arc begins, and its members.
 #[derive(Drop)]

@@ -5,10 +5,9 @@ ghost use Rattle.sc_scenario.specs.Groups.{nodes_with, has_repeat, joined_by, jo
 
 use crate::drafts::GroupLine;
 use crate::scenarios::GroupList;
-use sc_base::{Draw, MOST_NODES, OutOfMemory, Pairs, RingArc, SeenList, Sequence};
+use sc_base::{Draw, MOST_NODES, Members, OutOfMemory, Pairs, RingArc, SeenList, Sequence};
 use sc_cmd::{Base, Core, Link, Lock};
 use sc_lines::count_in;
-use sc_member::Members;
 use std::alloc::Global;
 
 const MOST_NAMES: usize = 4_294_967_294;

@@ -10,10 +10,9 @@ use crate::drafts::{Draft, GroupLine, Reading};
 use crate::groups::{have_repeat, set_of};
 use crate::scenarios::{Asks, SchedLine};
 use crate::statements::Statement;
-use sc_base::{MOST_NODES, MOST_REQUESTS, Op, OutOfMemory, Sequence};
+use sc_base::{MOST_NODES, MOST_REQUESTS, Members, Op, OutOfMemory, Sequence};
 use sc_cmd::{Order, OrderLine};
 use sc_lines::{LineFault, Reason};
-use sc_member::Members;
 use std::alloc::Global;
 
 const MOST_GROUPS: usize = 16;

@@ -1,9 +1,8 @@
 //! What comes to a group, and what it comes to, in brief.
 use crate::starts::{BEFORE, LAST, TX, frozen, offer, watch};
-use sc_base::{Boxed, Draw, Key, Op, Pairs, SeenList, Value};
+use sc_base::{Boxed, Draw, Key, Members, Op, Pairs, SeenList, Value};
 use sc_cmd::{Body, Command, Effect, Gift, No, Outcome, Past, Route, Vote};
 use sc_machine::Machine;
-use sc_member::Members;
 use std::alloc::Global;
 use std::mem::forget;
 use std::process::Abort;

@@ -1,8 +1,7 @@
 use crate::asks::{Was, applied};
-use sc_base::{Draw, Key, Op, Pairs, RingArc, SeenList, Sequence, Value};
+use sc_base::{Draw, Key, Members, Op, Pairs, RingArc, SeenList, Sequence, Value};
 use sc_cmd::{Base, Command, Core, Link, Lock};
 use sc_machine::Machine;
-use sc_member::Members;
 use sc_txn::can_split;
 use std::alloc::Global;
 use std::mem::forget;

@@ -3,10 +3,9 @@ ghost use Rattle.std.specs.Prelude.{◌≡◌, ◌<◌, ◌≤◌, length, true}
 ghost use Rattle.sc_node_table.specs.Node.{are_in_order};
 
 use sc_actor::Input;
-use sc_base::{Draw, Dup, Pairs, RingArc, SeenList, Sequence};
+use sc_base::{Draw, Dup, Members, Pairs, RingArc, SeenList, Sequence};
 use sc_cmd::{Base, Core, Link, Lock, Order, OrderLine, ToldResult};
 use sc_mail::{Mail, MailBody};
-use sc_member::Members;
 use sc_node::{NodeCore, are_in_order};
 use std::alloc::Global;
 use std::mem::forget;

@@ -1,7 +1,6 @@
 use crate::starts::nodes;
-use sc_base::{Draw, Pairs, RingArc, SeenList, Sequence, same_draw};
+use sc_base::{Draw, Members, Pairs, RingArc, SeenList, Sequence, same_draw};
 use sc_cmd::{Body, Command, Core, Frozen, Link, Lock, No, Offer};
-use sc_member::Members;
 use sc_txn::{
     Decision, can_merge, can_migrate, can_repart, check, decide, gained_arc, lost_arc, plan_merge,
     plan_migrate, plan_repart, vote, welcomed_members,

@@ -4,10 +4,9 @@ ghost use Rattle.sc_node_table.specs.Slots.{slots_ahead};
 ghost use Rattle.sc_node_table.specs.Node.{may_come};
 
 use crate::samples::{GROUP, accept, accepted, copy, get, group, request};
-use sc_base::{Ballot, Op, Sequence};
+use sc_base::{Ballot, Members, Op, Sequence};
 use sc_cmd::MemberSets;
 use sc_mail::{Mail, MailBody};
-use sc_member::Members;
 use sc_node::take_mail;
 use sc_replica::Replica;
 use std::alloc::Global;

@@ -2,10 +2,9 @@
 ghost use Rattle.std.specs.Prelude.{◌≡◌, ◌≤◌, true};
 ghost use Rattle.sc_node_table.specs.Node.{may_come};
 
-use sc_base::{Ballot, Draw, Dup, Key, Op, Pairs, RingArc, SeenList, Sequence};
+use sc_base::{Ballot, Draw, Dup, Key, Members, Op, Pairs, RingArc, SeenList, Sequence};
 use sc_cmd::{Base, Command, Core, Link, Lock};
 use sc_mail::MailBody;
-use sc_member::Members;
 use std::alloc::Global;
 use std::process::Abort;
 

@@ -1,8 +1,7 @@
 //! Groups that the lines of the machine's table are tried on.
-use sc_base::{Draw, Noted, Pairs, Reply, RingArc, SeenList, Sequence};
+use sc_base::{Draw, Members, Noted, Pairs, Reply, RingArc, SeenList, Sequence};
 use sc_cmd::{Base, Body, Core, Frozen, Heard, Link, Lock, Offer, Outcome, Past, Route, Watch};
 use sc_machine::Machine;
-use sc_member::Members;
 use std::alloc::Global;
 use std::process::Abort;
 

@@ -1,8 +1,7 @@
 use crate::asks::{Was, applied};
-use sc_base::{Boxed, Draw, Dup, Key, Op, Pairs, RingArc, SeenList, Sequence, Value};
+use sc_base::{Boxed, Draw, Dup, Key, Members, Op, Pairs, RingArc, SeenList, Sequence, Value};
 use sc_cmd::{Base, Body, Command, Core, Link, Lock, Offer, Outcome, Past, Vote, Watch};
 use sc_machine::Machine;
-use sc_member::Members;
 use std::alloc::Global;
 use std::mem::forget;
 use std::process::Abort;

@@ -1,6 +1,5 @@
-use sc_base::{Draw, Key, Op, Pairs, RingArc, Sequence, Value};
+use sc_base::{Draw, Key, Members, Op, Pairs, RingArc, Sequence, Value};
 use sc_cmd::{Core, Link, Lock, Order};
-use sc_member::Members;
 use sc_policy::{Body0, keys_rise_from_the_start, wish, wished_order};
 use sc_store::Store;
 use std::alloc::Global;

@@ -8,8 +8,7 @@ ghost use Rattle.sc_row_text.specs.Sets.{arc_json, nodes_json, pairs_json, FitsP
 use crate::lists::array_of;
 use crate::to_json::ToJson;
 use crate::writing::{pair, triple};
-use sc_base::{Key, Noted, Ordered, OutOfMemory, RingArc, Value};
-use sc_member::Members;
+use sc_base::{Key, Members, Noted, Ordered, OutOfMemory, RingArc, Value};
 use serde_json::Value as Json;
 use std::alloc::Global;
 

@@ -1,6 +1,6 @@
 -- What a member's move keeps, and what it changes.
 use Rattle.std.specs.Prelude.{◌≡◌, ℕ, true, false}
-use Rattle.sc_member.specs.Roster.{is_member}
+use Rattle.sc_base.specs.Roster.{is_member}
 use Rattle.sc_machine_table.specs.Group.{Group}
 use Rattle.sc_machine_table.specs.Plans.{frozen_of, migrated_group}
 use Rattle.sc_machine_table.specs.Finishes.{welcomed_group}

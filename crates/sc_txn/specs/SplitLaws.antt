@@ -4,7 +4,7 @@ use Rattle.std.specs.FinMap.{empty, entries}
 use Rattle.sc_base.specs.Arc.{IsArc, CanJoin, end_of, joined}
 use Rattle.sc_base.specs.declared.names.Draw.{Draw}
 use Rattle.sc_ideal.specs.IdealStore.{Contents, part_of, with_pairs}
-use Rattle.sc_member.specs.Roster.{IsRoster}
+use Rattle.sc_base.specs.Roster.{IsRoster}
 use Rattle.sc_cmd.specs.declared.cores.Core.{Core}
 use Rattle.sc_cmd.specs.declared.links.Route.{Route}
 use Rattle.sc_machine_table.specs.Finishes.{gone_group}

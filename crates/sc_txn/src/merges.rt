@@ -1,11 +1,10 @@
 //! The plan of a merge.
 ghost use Rattle.std.specs.Prelude.{◌≡◌, ◌<◌, ◌^◌, IfOk, true};
-ghost use Rattle.sc_member.specs.Union.{united};
+ghost use Rattle.sc_base.specs.Union.{united};
 ghost use Rattle.sc_machine_table.specs.Plans.{can_merge, merged_succ, merged_core};
 
-use sc_base::{Dup, OutOfMemory, same_draw};
+use sc_base::{Dup, Members, OutOfMemory, same_draw};
 use sc_cmd::{Core, Frozen, Link};
-use sc_member::Members;
 use std::alloc::Global;
 
 /// Whether a group of that record can take over its successor, which was frozen so: their arcs meet

@@ -1,12 +1,11 @@
 //! What a member's move makes of the two groups.
 ghost use Rattle.std.specs.Prelude.{◌≡◌, ◌∷◌, [], IfOk, Some, None, true, nat_le, length, if◌then◌else◌};
-ghost use Rattle.sc_member.specs.Roster.{is_member, without_member};
-ghost use Rattle.sc_member.specs.Union.{united};
+ghost use Rattle.sc_base.specs.Roster.{is_member, without_member};
+ghost use Rattle.sc_base.specs.Union.{united};
 ghost use Rattle.sc_machine_table.specs.Plans.{can_migrate, migrated_core, succ_with};
 
-use sc_base::{Dup, OutOfMemory};
+use sc_base::{Dup, Members, OutOfMemory};
 use sc_cmd::{Core, Frozen, Link};
-use sc_member::Members;
 use std::alloc::Global;
 
 /// Whether the node can leave a group of that record for its successor, which was frozen so: it is

@@ -1,14 +1,13 @@
 //! The plan of a split.
 ghost use Rattle.std.specs.Prelude.{◌≡◌, ◌↔◌, IsTrue, ◌≤◌, ◌<◌, IfOk, All, length, [], ◌∷◌, ◌++◌, None, if◌then◌else◌};
 ghost use Rattle.sc_cmd.specs.declared.cores.Lock.TheVariants.{Free};
-ghost use Rattle.sc_member.specs.Roster.{IsRoster, least_of};
+ghost use Rattle.sc_base.specs.Roster.{IsRoster, least_of};
 ghost use Rattle.sc_machine_table.specs.Plans.{can_split};
 ghost use Rattle.sc_machine_table.specs.Splits.{CanSplit, staying, left_members, right_members, left_core, right_core, splits_at_once, left_pred, right_succ};
 
 use crate::checks::locked_in;
-use sc_base::{Draw, Dup, OutOfMemory, RingArc, Sequence};
+use sc_base::{Draw, Dup, Members, OutOfMemory, RingArc, Sequence};
 use sc_cmd::{Core, Link, Lock};
-use sc_member::Members;
 use std::alloc::Global;
 
 /// Whether a group of that record can be split at `at`: its arc holds `at` after its start, and it

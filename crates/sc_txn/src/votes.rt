@@ -2,15 +2,14 @@
 ghost use Rattle.std.specs.Prelude.{◌≡◌, ◌||◌, not, Some, None, MatchResult, find};
 ghost use Rattle.std.specs.Option.{option_copied};
 ghost use Rattle.sc_base.specs.Same.{same_draw};
-ghost use Rattle.sc_member.specs.Union.{united};
+ghost use Rattle.sc_base.specs.Union.{united};
 ghost use Rattle.sc_machine_table.specs.Orders.{locked_in};
 ghost use Rattle.sc_machine_table.specs.Votes.{size_no, place_no, body_no, offer_no, watch_no, no_of, vote_of, watch_vote_of};
 ghost use Rattle.sc_txn.specs.Decisions.{decision_by, decision_in, decision_of};
 
 use crate::checks::locked_in;
-use sc_base::{Draw, same_draw};
+use sc_base::{Draw, Members, same_draw};
 use sc_cmd::{Body, Core, No, Offer, Outcome, Watch};
-use sc_member::Members;
 
 /// What a coordinator's log says of a transaction.
 #[derive(Clone, Copy, Debug, PartialEq, Eq)]

@@ -1,11 +1,10 @@
 use crate::groups::{nodes_to, numbered};
 use crate::values::{get, put};
 use sc_actor::{Actor, Input};
-use sc_base::{Reply, RingArc, Sequence};
+use sc_base::{Members, Reply, RingArc, Sequence};
 use sc_client::ClientCore;
 use sc_cmd::{Link, OrderLine, Route};
 use sc_mail::{AnswerBody, Mail, MailBody};
-use sc_member::Members;
 use std::alloc::Global;
 use std::mem::forget;
 use std::process::Abort;

@@ -1,11 +1,10 @@
 use crate::groups::{GROUP, group};
 use crate::values::{call, pair, reply, seen};
-use sc_base::{Boxed, Dup, Pairs, RingArc, SeenList, Sequence};
+use sc_base::{Boxed, Dup, Members, Pairs, RingArc, SeenList, Sequence};
 use sc_cmd::{
     Base, Body, Command, DecidedList, Frozen, Gift, Heard, Link, Lock, Outcome, Vote, base_weight,
     command_weight,
 };
-use sc_member::Members;
 use std::alloc::Global;
 use std::mem::forget;
 use std::process::Abort;

@@ -1,7 +1,6 @@
 //! Groups as the tests of orders and splits need them.
-use sc_base::{Draw, RingArc, Sequence};
+use sc_base::{Draw, Members, RingArc, Sequence};
 use sc_cmd::{Core, DecidedList, Link, Lock};
-use sc_member::Members;
 use std::alloc::Global;
 
 /// The group that is asked.

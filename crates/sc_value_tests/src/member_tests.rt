@@ -1,5 +1,4 @@
-use sc_base::Dup;
-use sc_member::{MemberFault, Members};
+use sc_base::{Dup, MemberFault, Members};
 use std::process::Abort;
 
 /// The set of these nodes, put in one after another.

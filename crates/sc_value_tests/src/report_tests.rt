@@ -1,8 +1,7 @@
 //! Reports line by line.
 use crate::values::{get, reply};
-use sc_base::{Draw, Reply, Sequence};
+use sc_base::{Draw, Members, Reply, Sequence};
 use sc_cmd::{OrderRefusal, Route, ToldResult};
-use sc_member::Members;
 use sc_report::{Asked, Progress, ReportLine, Summary, lines};
 use std::alloc::Global;
 use std::mem::forget;

@@ -1,8 +1,7 @@
 use crate::groups::numbered;
-use sc_base::RingArc;
+use sc_base::{Members, RingArc};
 use sc_cmd::{Link, Route};
 use sc_lookup::Routes;
-use sc_member::Members;
 use std::alloc::Global;
 use std::mem::forget;
 use std::process::Abort;

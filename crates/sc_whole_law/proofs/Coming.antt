@@ -32,10 +32,10 @@ use Rattle.sc_cmd.specs.declared.votes.Past.{Past}
 use Rattle.sc_cmd.specs.declared.votes.Past.TheVariants as Cast
 use Rattle.sc_cmd.specs.declared.votes.Vote.{Vote}
 use Rattle.sc_cmd.specs.declared.votes.Vote.TheVariants as Vows
-use Rattle.sc_member.specs.Roster.{IsRoster, is_member}
-use Rattle.sc_member.specs.Union.{with_any, united}
-use Rattle.sc_member.proofs.Rising.{roster_with, roster_without}
-use Rattle.sc_member.proofs.UnionLemmas.{grows, count_united}
+use Rattle.sc_base.specs.Roster.{IsRoster, is_member}
+use Rattle.sc_base.specs.Union.{with_any, united}
+use Rattle.sc_base.proofs.Rising.{roster_with, roster_without}
+use Rattle.sc_base.proofs.UnionLemmas.{grows, count_united}
 use Rattle.sc_machine_table.specs.Finishes.{can_gain, gone_group, gained_group, lost_group, welcomed_group, participant_after, watcher_after, party_freed, settled_in, finished}
 use Rattle.sc_machine_table.specs.Group.{Group}
 use Rattle.sc_machine_table.specs.Machine.{served_by_note, called, split_group, applied}

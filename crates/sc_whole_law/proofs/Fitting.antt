@@ -23,8 +23,8 @@ use Rattle.sc_cmd.specs.declared.votes.Past.{Past}
 use Rattle.sc_cmd.specs.declared.votes.Past.TheVariants as Cast
 use Rattle.sc_cmd.specs.declared.votes.Vote.{Vote}
 use Rattle.sc_cmd.specs.declared.votes.Vote.TheVariants as Vows
-use Rattle.sc_member.specs.Roster.{IsRoster}
-use Rattle.sc_member.specs.Union.{united}
+use Rattle.sc_base.specs.Roster.{IsRoster}
+use Rattle.sc_base.specs.Union.{united}
 use Rattle.sc_cmd.specs.Effects.{is_changed, decided_in}
 use Rattle.sc_cmd.specs.Cores.{is_alone}
 use Rattle.sc_machine_table.specs.Group.{Group, group_of}

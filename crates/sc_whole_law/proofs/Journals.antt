@@ -22,7 +22,7 @@ use Rattle.sc_actor.specs.Replay.{value}
 use Rattle.sc_actor.specs.Walk.{place_after}
 use Rattle.sc_actor.proofs.Induction.{MayAdd-step, lawful-induction}
 use Rattle.sc_actor.proofs.WalkLemmas.{lawful-prefix, lawful-last}
-use Rattle.sc_member.specs.Roster.{is_member}
+use Rattle.sc_base.specs.Roster.{is_member}
 use Rattle.sc_node_table.specs.Node.{NodeState, names_after_ticks}
 use Rattle.sc_node_table.specs.Ordering.{ordered_command}
 use Rattle.sc_node_table.specs.Policy.{wished_line, names_after_tick}

@@ -34,7 +34,7 @@ use Rattle.sc_machine_table.specs.Plans.{frozen_of, can_split, merged_link}
 use Rattle.sc_machine_table.specs.Splits.{right_link}
 use Rattle.sc_machine_table.specs.Transactions.{begun_group, decided_group, aborted, is_coordinating, asks_watcher, watch_recorded}
 use Rattle.sc_machine_table.specs.Votes.{vote_of, watch_vote_of, past_of}
-use Rattle.sc_member.specs.Union.{united}
+use Rattle.sc_base.specs.Union.{united}
 use Rattle.sc_node_table.specs.declared.Before.{Before}
 use Rattle.sc_node_table.specs.Mails.{sent_all}
 use Rattle.sc_node_table.specs.Questions.{offer_of, question, asked_first, both_link, split_watch, child_link, union_watch}

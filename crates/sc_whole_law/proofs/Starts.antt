@@ -5,7 +5,7 @@ use Rattle.std.proofs.lemmas.Bool.{cases_lt, cond-true, cond-false, eq-eqb, ne_e
 use Rattle.sc_base.specs.Among.{Among, Each}
 use Rattle.sc_base.specs.Arc.{end_of}
 use Rattle.sc_base.specs.declared.names.Draw.{Draw}
-use Rattle.sc_member.specs.Roster.{IsRoster}
+use Rattle.sc_base.specs.Roster.{IsRoster}
 use Rattle.sc_cmd.specs.declared.cores.Base.{Base}
 use Rattle.sc_scenario.specs.Groups.{group_at, name_at, place_right, place_left, way, arc_at, base_at, bases_up_to, bases_of}
 use Rattle.sc_scenario.specs.declared.drafts.GroupLine.{GroupLine}

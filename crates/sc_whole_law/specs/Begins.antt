@@ -7,7 +7,7 @@ use Rattle.sc_base.specs.declared.ops.Op.TheVariants.{Get}
 use Rattle.sc_cmd.specs.declared.cores.Base.{Base}
 use Rattle.sc_cmd.specs.declared.cores.Lock.TheVariants.{Free}
 use Rattle.sc_cmd.specs.declared.links.Route.{Route}
-use Rattle.sc_member.specs.Roster.{IsRoster}
+use Rattle.sc_base.specs.Roster.{IsRoster}
 use Rattle.sc_node_table.specs.Slots.{numbers_from, slots_ahead}
 use Rattle.sc_sound.specs.Players.{Ahead, node_seat, client_seat, births, route_of}
 use Rattle.sc_scenario.specs.declared.scenarios.Asks.{Asks}

@@ -4,7 +4,7 @@ use Rattle.sc_cmd.specs.declared.commands.Command.{Command}
 use Rattle.sc_cmd.specs.declared.links.Route.{Route}
 use Rattle.sc_machine_table.specs.Group.{Group}
 use Rattle.sc_machine_table.specs.Logs.{state_after}
-use Rattle.sc_member.specs.Roster.{IsRoster}
+use Rattle.sc_base.specs.Roster.{IsRoster}
 use Rattle.sc_sound.specs.Players.{Ahead, Lawful}
 use Rattle.sc_scenario.specs.declared.scenarios.Scenario.{Scenario}
 use Rattle.sc_hist_law.specs.Worlds.{BeginBare}

@@ -1,5 +1,5 @@
 use Rattle.std.proofs.Common.{◌≡◌, ◌≤◌, ◌*◌, length, take}
-use Rattle.sc_member.specs.Majority.{votes_of}
+use Rattle.sc_base.specs.Majority.{votes_of}
 use Rattle.sc_paxos_law.specs.Decided.{voters_of}
 use Rattle.sc_chosen.specs.Acceptances.{steps_of}
 use Rattle.sc_chosen.proofs.choosing.is_majority.Given as goal

@@ -1,5 +1,5 @@
 use Rattle.std.proofs.Common.{◌≡◌, take}
-use Rattle.sc_member.specs.Roster.{IsRoster}
+use Rattle.sc_base.specs.Roster.{IsRoster}
 use Rattle.sc_from_json.proofs.sets.set_of.Given as goal
 
 abbrev pub invariant-loop-i : goal.invariant-loop-i

@@ -1,6 +1,6 @@
 use Rattle.std.proofs.Common.{rules, ◌≡◌, ◌∙◌, List, true, false, sym, subst, ap}
 use Rattle.std.specs.Option.{option_map}
-use Rattle.sc_member.specs.Majority.{is_majority}
+use Rattle.sc_base.specs.Majority.{is_majority}
 use Rattle.sc_paxos_words.specs.declared.flights.Flight.{Flight}
 use Rattle.sc_paxos_words.specs.declared.answers.Counted.{Counted}
 use Rattle.sc_paxos_words.specs.declared.answers.Counted.TheVariants.{Chosen}

@@ -1,0 +1,222 @@
+//! Sets of one to nine nodes.
+ghost use Rattle.std.specs.Prelude.{◌≡◌, ◌<◌, ◌≤◌, ◌∷◌, [], IsTrue, length, slice_index, MatchResult, Some, None, find, nat_eq, nat_lt};
+ghost use Rattle.std.specs.Cmp.{partial_equiv_from_equiv};
+ghost use Rattle.std.specs.Cmp.Lexicographic.{pointwise, nat_list_eq_equiv};
+ghost use Rattle.sc_base.specs.Roster.{IsRoster, is_member, with_member, without_member, least_of, next_after};
+ghost use Rattle.sc_base.specs.Faults.{add_fault, remove_fault};
+ghost use Rattle.sc_base.specs.Majority.{is_majority, votes_of};
+
+use crate::dups::{Dup, OutOfMemory};
+use crate::nodes::Nodes;
+use crate::sames::Same;
+use std::alloc::Global;
+use std::marker::Model;
+
+/// Why a set is not changed.
+#[derive(Clone, Copy, Debug, PartialEq, Eq)]
+pub enum MemberFault {
+    /// The node is in the set.
+    Present,
+    /// The node is not in the set, and the set has nine.
+    Full,
+    /// The node is not in the set.
+    Absent,
+    /// The node is the only member.
+    Last,
+}
+
+/// One to nine nodes. Contracts see them as their list, ascending.
+#[derive(Clone, Copy, Debug)]
+pub struct Members {
+    nodes: Nodes,
+}
+
+impl Model for Members {
+    ghost use Rattle.std.specs.Prelude.{List, ℕ};
+    ghost use Rattle.sc_base.specs.Roster.{IsRoster};
+
+    ghost Value = { List ℕ };
+
+    ghost view = { λ m. m.nodes };
+
+    ghost invariant = { λ m. IsRoster m.nodes };
+
+    ghost inverse = { λ l. record { nodes = l } };
+}
+
+impl Members {
+    /// The set of one node.
+    pub fn one(node: u16) -> Members
+        ensures { result ≡ node ∷ [] }
+    {
+        let mut nodes = Nodes::new();
+        nodes.push(node);
+        Members { nodes }
+    }
+
+    /// Puts a node into the set. Refused with `Present` or `Full`, and then nothing changes.
+    pub fn add(&mut self, node: u16) -> Result<(), MemberFault>
+        ensures { MatchResult result
+            (λ _. (add_fault self.old node ≡ None) × (self.new ≡ with_member self.old node))
+            (λ fault. (add_fault self.old node ≡ Some fault) × (self.new ≡ self.old)) }
+    {
+        if self.has(node) {
+            return Err(MemberFault::Present);
+        }
+        if self.len() == 9 {
+            return Err(MemberFault::Full);
+        }
+        self.nodes = placed(self.as_slice(), node);
+        Ok(())
+    }
+
+    /// Takes a node out of the set. Refused with `Absent` or `Last`, and then nothing changes.
+    pub fn remove(&mut self, node: u16) -> Result<(), MemberFault>
+        ensures { MatchResult result
+            (λ _. (remove_fault self.old node ≡ None) × (self.new ≡ without_member self.old node))
+            (λ fault. (remove_fault self.old node ≡ Some fault) × (self.new ≡ self.old)) }
+    {
+        if !self.has(node) {
+            return Err(MemberFault::Absent);
+        }
+        if self.len() == 1 {
+            return Err(MemberFault::Last);
+        }
+        self.nodes = left_by(self.as_slice(), node);
+        Ok(())
+    }
+
+    /// The members, ascending.
+    pub fn as_slice(&self) -> &[u16]
+        ensures same { result.now ≡ self.now }
+        ensures set { IsRoster self.now }
+    {
+        let _ = &self.nodes;
+        self.nodes.as_slice()
+    }
+
+    /// How many members there are: 1 to 9.
+    pub fn len(&self) -> u8
+        ensures same { result ≡ length self.now }
+        ensures some { 1 ≤ length self.now }
+        ensures most { length self.now ≤ 9 }
+    {
+        self.as_slice().len() as u8
+    }
+
+    /// Whether the node is a member.
+    pub fn has(&self, node: u16) -> bool
+        ensures { result ≡ is_member self.now node }
+    {
+        occurs(self.as_slice(), node)
+    }
+
+    /// The least member.
+    pub fn least(&self) -> u16
+        ensures { result ≡ least_of self.now }
+    {
+        self.as_slice()[0]
+    }
+
+    /// The least member greater than the node, or the least of all where none is greater.
+    pub fn after(&self, node: u16) -> u16
+        ensures { result ≡ next_after self.now node }
+    {
+        match first_above(self.as_slice(), node) {
+            Some(next) => next,
+            None => self.least(),
+        }
+    }
+
+    /// Whether more than half of the members occur among the voters. Voters that are no members,
+    /// and voters that come twice, count for nothing.
+    pub fn is_majority(&self, voters: &[u16]) -> bool
+        ensures { result ≡ is_majority self.now voters.now }
+    {
+        let votes = count_votes(self.as_slice(), voters);
+        self.as_slice().len() < 2 * votes
+    }
+}
+
+impl Dup for Members {
+    fn dup(&self, _alloc: Global) -> Result<Members, OutOfMemory> {
+        Ok(*self)
+    }
+}
+
+// Sets are compared as their lists, so that `==` tells them apart exactly.
+impl PartialEq for Members {
+    ghost eq = { pointwise nat_eq };
+
+    ghost laws = { partial_equiv_from_equiv nat_list_eq_equiv };
+
+    fn eq(&self, other: &Members) -> bool {
+        self.as_slice() == other.as_slice()
+    }
+}
+
+impl Eq for Members {
+    ghost laws = { nat_list_eq_equiv };
+}
+
+impl Same for Members {
+    fn is_same(&self, other: &Members) -> bool {
+        self == other
+    }
+}
+
+fn occurs(nodes: &[u16], node: u16) -> bool
+    ensures { result ≡ is_member nodes.now node }
+{
+    nodes.iter().any(|other| *other == node)
+}
+
+fn first_above(nodes: &[u16], node: u16) -> Option<u16>
+    ensures { result ≡ find (λ member. nat_lt node member) nodes.now }
+{
+    nodes.iter().copied().find(|member| node < *member)
+}
+
+fn count_votes(members: &[u16], voters: &[u16]) -> usize
+    ensures votes { result ≡ votes_of members.now voters.now }
+    ensures few { result ≤ length members.now }
+{
+    members
+        .iter()
+        .filter(|member| occurs(voters, **member))
+        .count()
+}
+
+/// The members with the node in its place.
+fn placed(members: &[u16], node: u16) -> Nodes
+    requires { length members.now < 9 }
+    ensures { result ≡ with_member members.now node }
+{
+    let mut nodes = Nodes::new();
+    for member in members {
+        if *member < node {
+            nodes.push(*member);
+        }
+    }
+    nodes.push(node);
+    for above in members {
+        if node < *above {
+            nodes.push(*above);
+        }
+    }
+    nodes
+}
+
+/// The members but the node.
+fn left_by(members: &[u16], node: u16) -> Nodes
+    requires { length members.now ≤ 9 }
+    ensures { result ≡ without_member members.now node }
+{
+    let mut nodes = Nodes::new();
+    for member in members {
+        if *member != node {
+            nodes.push(*member);
+        }
+    }
+    nodes
+}

@@ -1,0 +1,39 @@
+-- That the groups that stand in a quiet journal are those of the cuts of its ring.
+use Rattle.std.specs.Prelude.{◌≡◌, ℕ, ◌<◌, ◌^◌, List, None, Some}
+use Rattle.sc_base.specs.Among.{Among}
+use Rattle.sc_base.specs.Arc.{IsArc}
+use Rattle.sc_base.specs.declared.names.Draw.{Draw}
+use Rattle.sc_cmd.specs.declared.cores.Base.{Base}
+use Rattle.sc_cmd.specs.declared.orders.OrderLine.{OrderLine}
+use Rattle.sc_mail.specs.declared.bodies.Mail.{Mail}
+use Rattle.sc_actor.specs.declared.rows.Row.{Row}
+use Rattle.sc_log_law.specs.Findings.{AreItsLogs}
+use Rattle.sc_machine_table.specs.Group.{Group}
+use Rattle.sc_node_table.specs.Replica.{ReplicaState}
+use Rattle.sc_scenario.specs.declared.scenarios.Scenario.{Scenario}
+use Rattle.sc_sound.specs.GroupsOf.{groups_at, world_at}
+use Rattle.sc_sound.specs.Logs.{decided_state}
+use Rattle.sc_sound.specs.Players.{as_nodes}
+use Rattle.sc_sound.specs.Soundness.{IsOneMap}
+use Rattle.sc_calm_law.specs.Quiet.{HasReplica, IsNewest}
+use Rattle.sc_budget_law.specs.AskingQuiet.{replicas_after, AreFramesOf, IsQuietJournal}
+use Rattle.sc_budget_law.specs.Frames.{Frame}
+use Rattle.sc_calm_answers_law.specs.Round.{AreOfCuts}
+
+-- the group of a birth record as its decided log makes it
+abbrev pub state_of : Scenario → List (Row Mail OrderLine) → Base → Group
+state_of scenario rows base = decided_state as_nodes base rows
+
+-- Each replica is of a group of the journal, each of these has one, and one that has executed as much as any of its group has executed its whole log; and a group that stands has an arc of the ring.
+pub record AreKnown (scenario : Scenario) (rows : List (Row Mail OrderLine)) : Type 0 where
+  pub named : (group : Draw) (node : ℕ) (r : ReplicaState) → replicas_after scenario rows group node ≡ Some r → (base : Base) × Among base (groups_at as_nodes scenario.groups rows) × (base.core.id ≡ group)
+  pub there : (base : Base) → Among base (groups_at as_nodes scenario.groups rows) → (node : ℕ) × HasReplica (replicas_after scenario rows) base.core.id node
+  pub newest : (base : Base) (r : ReplicaState) → Among base (groups_at as_nodes scenario.groups rows) → IsNewest (replicas_after scenario rows) base.core.id r → r.group ≡ state_of scenario rows base
+  pub arcs : (base : Base) → Among base (groups_at as_nodes scenario.groups rows) → (state_of scenario rows base).core.gone ≡ None → IsArc (state_of scenario rows base).core.arc × ((state_of scenario rows base).core.arc.lo < 2 ^ 32)
+
+-- So in a quiet journal, where the groups are one map, those that stand are those of the cuts.
+abbrev pub QuietGroupsHaveCuts : Type 0
+QuietGroupsHaveCuts =
+    (words : ℕ → ℕ → ℕ × ℕ) (scenario : Scenario) (first : Base) (rows : List (Row Mail OrderLine)) (frames : List Frame)
+    → IsOneMap (world_at as_nodes scenario.groups rows) → AreItsLogs as_nodes scenario.groups rows → AreKnown scenario rows
+    → IsQuietJournal words scenario first rows → AreFramesOf (replicas_after scenario rows) frames → AreOfCuts (world_at as_nodes scenario.groups rows) frames

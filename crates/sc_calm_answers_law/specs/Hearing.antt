@@ -1,0 +1,106 @@
+-- What clients find in answers, and where they go, while they ask, between two orders of a calm journal.
+use Rattle.std.specs.Prelude.{◌≡◌, ℕ, ◌-◌, ◌≤◌, false, Bool, List, [], ◌∷◌, ◌++◌, slice_get, Some, ◌⊎◌}
+use Rattle.sc_base.specs.Among.{Among}
+use Rattle.sc_base.specs.Limits.{client_actor}
+use Rattle.sc_base.specs.declared.names.Draw.{Draw}
+use Rattle.sc_base.specs.declared.ops.Op.{Op}
+use Rattle.sc_cmd.specs.declared.cores.Base.{Base}
+use Rattle.sc_cmd.specs.declared.orders.OrderLine.{OrderLine}
+use Rattle.sc_lookup.specs.Known.{target_in}
+use Rattle.sc_lookup.specs.declared.ways.Way.{Way}
+use Rattle.sc_mail.specs.declared.bodies.AnswerBody.{AnswerBody}
+use Rattle.sc_mail.specs.declared.bodies.Mail.{Mail}
+use Rattle.sc_mail.specs.declared.bodies.MailBody.TheVariants.{Answer}
+use Rattle.sc_mail.specs.declared.roles.Role.TheVariants.{Client}
+use Rattle.sc_actor.specs.declared.rows.Input.TheVariants.{Got, Go}
+use Rattle.sc_actor.specs.declared.rows.Row.{Row}
+use Rattle.sc_actor.specs.Mail.{mails, numbered}
+use Rattle.sc_actor.specs.Replay.{value}
+use Rattle.sc_actor.specs.System.{waiting, kth, has_gone}
+use Rattle.sc_client_table.specs.Client.{Client as ClientState}
+use Rattle.sc_client_table.specs.Table.{table}
+use Rattle.sc_scenario.specs.declared.scenarios.Asks.{Asks}
+use Rattle.sc_scenario.specs.declared.scenarios.Scenario.{Scenario}
+use Rattle.sc_scenario.specs.Valid.{IsValid}
+use Rattle.sc_sound.specs.Players.{player_table, client_seat, route_of, system_of, as_nodes}
+use Rattle.sc_orderly_law.specs.Orderly.{IsTidy}
+use Rattle.sc_orderly_law.specs.Owing.{owed}
+use Rattle.sc_calm_law.specs.Charts.{Chart}
+use Rattle.sc_calm_law.specs.Keeping.{IsCalmFor, MayGoNow}
+use Rattle.sc_calm_law.specs.Parties.{Elsewhere}
+use Rattle.sc_calm_law.specs.Reach.{sent_on}
+use Rattle.sc_budget_law.specs.Asking.{IsAsking}
+use Rattle.sc_budget_law.specs.AskingLines.{AreRequests, AreSeated, NobodyWaits}
+use Rattle.sc_budget_law.specs.CalmAsking.{IsLinkedSetting, IsCalmClient}
+use Rattle.sc_budget_law.specs.CalmNode.{Setting, IsSetting, IsCalmMail}
+use Rattle.sc_budget_law.specs.Frames.{Frame}
+use Rattle.sc_budget_law.specs.PlainClient.{IsWaiting, IsBegun}
+use Rattle.sc_calm_answers_law.specs.RequestsFinding.{CountsAs}
+use Rattle.sc_calm_answers_law.specs.Tokens.{token_owing}
+
+-- a node leads a group that stands
+pub record IsLedAt (set : Setting) (group : Draw) (node : ℕ) : Type 0 where
+  pub frame : Frame
+  pub is_frame : Among frame set.frames
+  pub name : frame.core.id ≡ group
+  pub lead : frame.lead ≡ node
+
+-- one that leads is reached by no hint
+abbrev pub AreReached : Setting → Type 0
+AreReached set = (frame : Frame) → Among frame set.frames → set.ways.far frame.core.id frame.lead ≡ 0
+
+-- of each group that a client knows, but for that which it asked last, it would ask the node that leads
+abbrev pub AsksLeaders : Setting → ClientState → Type 0
+AsksLeaders set client = (w : IsWaiting client) (group : Draw) (node : ℕ) → target_in group client.known ≡ Some node → IsLedAt set group node ⊎ (group ≡ w.group)
+
+-- an answer to the request that waits, of the node and the group that were asked
+pub record IsAnswerTo (client : ClientState) (mail : Mail) : Type 0 where
+  pub waits : IsWaiting client
+  pub answer : AnswerBody
+  pub from_is : mail.from ≡ waits.target
+  pub body_is : mail.body ≡ Answer waits.group waits.seq answer
+
+-- A client that asks leaders finds what it needs in the answer that it waits for.
+abbrev pub AnswersAreHeardCalmly : Type 0
+AnswersAreHeardCalmly =
+    (scenario : Scenario) (rows : List (Row Mail OrderLine)) (set : Setting) (chart : Chart) (elsewhere : Elsewhere) (asks : Asks) (gone : Bool) (client : ClientState) (mail : Mail)
+    → IsSetting set → IsLinkedSetting set → AreReached set → CountsAs set chart → IsCalmClient set asks gone client → IsCalmMail (IsBegun scenario rows) set mail → mail.to ≡ client_actor client.me
+    → ((seq : ℕ) (op : Op) → IsBegun scenario rows client.me seq op → slice_get client.requests (seq - 1) ≡ Some op)
+    → AsksLeaders set client → IsAnswerTo client mail → IsCalmFor chart elsewhere mail (Client client)
+
+-- One that was not told to go may go, where it is not sent on more often than any.
+abbrev pub ClientsGoCalmly : Type 0
+ClientsGoCalmly =
+    (set : Setting) (chart : Chart) (asks : Asks) (client : ClientState) → IsCalmClient set asks false client → sent_on chart.reach client.known ≤ chart.reach.most → MayGoNow chart (Client client)
+
+-- Clients go on to ask leaders: one that goes and knows one group alone, and one that takes the answer that it waits for.
+pub record ClientsAskLeaders : Type 0 where
+  pub go : (set : Setting) (asks : Asks) (client : ClientState) (entry : Draw × Way) → IsCalmClient set asks false client → client.known ≡ entry ∷ [] → AsksLeaders set (table client Go).0
+  pub takes : (scenario : Scenario) (rows : List (Row Mail OrderLine)) (set : Setting) (asks : Asks) (gone : Bool) (client : ClientState) (mail : Mail)
+      → IsSetting set → IsLinkedSetting set → IsCalmClient set asks gone client → IsCalmMail (IsBegun scenario rows) set mail → mail.to ≡ client_actor client.me
+      → ((seq : ℕ) (op : Op) → IsBegun scenario rows client.me seq op → slice_get client.requests (seq - 1) ≡ Some op)
+      → AsksLeaders set client → IsAnswerTo client mail → AsksLeaders set (table client (Got mail)).0
+
+-- In a line of requests from a journal in which no request waits, and in which each client's request is under way once at most, counting one where none waits, the first mail to a client is the answer that it waits for.
+abbrev pub AnswersAreExpected : Type 0
+AnswersAreExpected =
+    (words : ℕ → ℕ → ℕ × ℕ) (scenario : Scenario) (set : Setting) (first : Base) (others : List Base) (before after : List (Row Mail OrderLine)) (asks : Asks) (client : ClientState) (number : ℕ) (mail : Mail)
+    → IsValid scenario → scenario.groups ≡ first ∷ others → IsSetting set → IsLinkedSetting set → AreSeated scenario set → IsAsking words scenario set first before → NobodyWaits scenario first before → AreRequests words scenario set before after
+    → owed (system_of as_nodes words scenario) (token_owing asks.client) before ≤ 1 → Among asks scenario.clients → IsTidy (before ++ after) → value player_table (client_seat (route_of first) asks) (before ++ after) ≡ Client client
+    → kth (waiting (system_of as_nodes words scenario) (before ++ after) (Some (client_actor asks.client))) 1 ≡ Some number → numbered (mails (before ++ after)) number ≡ Some mail → IsAnswerTo client mail
+
+-- each client would ask leaders
+abbrev pub AllAskLeaders : Scenario → Setting → Base → List (Row Mail OrderLine) → Type 0
+AllAskLeaders scenario set first rows = (asks : Asks) (client : ClientState) → Among asks scenario.clients → value player_table (client_seat (route_of first) asks) rows ≡ Client client → AsksLeaders set client
+
+-- one that was not told to go knows one group alone
+abbrev pub KnowOne : Scenario → Base → List (Row Mail OrderLine) → Type 0
+KnowOne scenario first rows =
+    (asks : Asks) (client : ClientState) → Among asks scenario.clients → has_gone rows (client_actor asks.client) ≡ false → value player_table (client_seat (route_of first) asks) rows ≡ Client client → (entry : Draw × Way) × (client.known ≡ entry ∷ [])
+
+-- So in such a line clients ask leaders.
+abbrev pub LinesAskLeaders : Type 0
+LinesAskLeaders =
+    (words : ℕ → ℕ → ℕ × ℕ) (scenario : Scenario) (set : Setting) (first : Base) (others : List Base) (before after : List (Row Mail OrderLine))
+    → IsValid scenario → scenario.groups ≡ first ∷ others → IsSetting set → IsLinkedSetting set → AreSeated scenario set → IsAsking words scenario set first before → NobodyWaits scenario first before → KnowOne scenario first before → AreRequests words scenario set before after
+    → ((asks : Asks) → Among asks scenario.clients → owed (system_of as_nodes words scenario) (token_owing asks.client) before ≤ 1) → AllAskLeaders scenario set first (before ++ after)

@@ -1,0 +1,93 @@
+-- That a group's log in a lawful journal of a valid scenario is one, where it has leaders.
+use Rattle.std.specs.Prelude.{◌≡◌, ℕ, ◌+◌, ◌-◌, ◌≤◌, true, false, List, [], ◌++◌, take, is_some, Some, None, ◌⊎◌}
+use Rattle.sc_base.specs.declared.names.Ballot.{Ballot}
+use Rattle.sc_base.specs.declared.names.Draw.{Draw}
+use Rattle.sc_cmd.specs.declared.commands.Command.{Command}
+use Rattle.sc_cmd.specs.declared.cores.Base.{Base}
+use Rattle.sc_cmd.specs.declared.orders.OrderLine.{OrderLine}
+use Rattle.sc_mail.specs.declared.bodies.Mail.{Mail}
+use Rattle.sc_mail.specs.declared.bodies.MailBody.TheVariants.{Accepted, Learn, Install}
+use Rattle.sc_mail.specs.declared.roles.Role.TheVariants.{Node}
+use Rattle.sc_base.specs.Roster.{is_member}
+use Rattle.sc_actor.specs.declared.actors.Seat.{Seat}
+use Rattle.sc_actor.specs.declared.rows.Event.{Event}
+use Rattle.sc_actor.specs.Mail.{mails, numbered}
+use Rattle.sc_actor.specs.Replay.{value}
+use Rattle.sc_machine_table.specs.Group.{group_of}
+use Rattle.sc_machine_table.specs.Logs.{state_after}
+use Rattle.sc_scenario.specs.declared.scenarios.Scenario.{Scenario}
+use Rattle.sc_node_table.specs.Execute.{entered}
+use Rattle.sc_node_table.specs.Node.{NodeState, replica_of, group_of_mail}
+use Rattle.sc_node_table.specs.Replica.{ReplicaState, next, last_slot}
+use Rattle.sc_node_table.specs.Rows.{mailed}
+use Rattle.sc_sound.specs.Logs.{decided_log}
+use Rattle.sc_sound.specs.Players.{Ahead, Player, births, player_table}
+use Rattle.sc_log_law.specs.Descent.{Rows}
+use Rattle.sc_following_law.specs.Following.{members_at}
+use Rattle.sc_following_law.specs.Hints.{Tellers}
+use Rattle.sc_calm_rows_law.specs.Groups.{view_at}
+use Rattle.sc_calm_rows_law.specs.Turns.{IsSeat, with_event, made_children, AreAsBegun}
+use Rattle.sc_calm_logs_law.specs.Logged.{logged_sets, IsGroupOf, HasReplica}
+use Rattle.sc_calm_groups_law.specs.Led.{Ends}
+use Rattle.sc_calm_groups_law.specs.Logged.{HasRounds, RestsBy, CountsAsMember}
+use Rattle.sc_calm_groups_law.specs.Through.{IsRowOf, Delivers, HasOneLog}
+
+-- whether the group is gone in the state in which a slot is the next one, by its log in a journal; behind the log's end, in the last state
+abbrev pub over_at : Ahead → Base → Rows → Ends
+over_at ahead base journal slot = is_some (state_after (group_of base) (take (slot - 1) (decided_log ahead base journal))).core.gone
+
+-- Each group of a lawful journal of a valid scenario begins with a first member, and is not gone then.
+pub record GroupsBeginStanding : Type 0 where
+  pub first : (ahead : Ahead) (words : ℕ → ℕ → ℕ × ℕ) (scenario : Scenario) (journal : Rows) (base : Base) → IsGroupOf ahead words scenario journal base → is_member base.core.members base.core.first ≡ true
+  pub stands : (ahead : Ahead) (words : ℕ → ℕ → ℕ × ℕ) (scenario : Scenario) (journal : Rows) (base : Base) → IsGroupOf ahead words scenario journal base → base.core.gone ≡ None
+
+-- A group that is gone by its log stays so ..
+pub record EndsAreLogged : Type 0 where
+  pub stays : (ahead : Ahead) (base : Base) (journal : Rows) (slot later : ℕ) → slot ≤ later → over_at ahead base journal slot ≡ true → over_at ahead base journal later ≡ true
+  -- .. as it begins it is not
+  pub begins : (ahead : Ahead) (words : ℕ → ℕ → ℕ × ℕ) (scenario : Scenario) (journal : Rows) (base : Base) → IsGroupOf ahead words scenario journal base → (slot : ℕ) → slot ≤ 1 → over_at ahead base journal slot ≡ false
+  -- .. and after any rows of the journal each replica says so of it at its next slot
+  pub replicas : (ahead : Ahead) (words : ℕ → ℕ → ℕ × ℕ) (scenario : Scenario) (journal : Rows) (base : Base) → IsGroupOf ahead words scenario journal base
+      → (rows : Rows) (seat : Seat Player) (node : NodeState) (r : ReplicaState) → HasReplica ahead scenario journal base rows seat node r → is_some r.group.core.gone ≡ over_at ahead base journal (next r)
+  -- .. also with an entry more that a mail tells it
+  pub entered : (ahead : Ahead) (words : ℕ → ℕ → ℕ × ℕ) (scenario : Scenario) (journal : Rows) (base : Base) → IsGroupOf ahead words scenario journal base
+      → (rows : Rows) (seat : Seat Player) (node : NodeState) (r : ReplicaState) → HasReplica ahead scenario journal base rows seat node r
+      → (number : ℕ) (mail : Mail) (slot : ℕ) (command : Command) → numbered (mails rows) number ≡ Some mail → mail.body ≡ Learn base.core.id slot command → slot ≡ next r
+      → is_some (entered command r).group.core.gone ≡ over_at ahead base journal (next (entered command r))
+  -- .. and by a vote one that leads executes nothing of a group that is gone
+  pub voted : (ahead : Ahead) (words : ℕ → ℕ → ℕ × ℕ) (scenario : Scenario) (journal : Rows) (base : Base) → IsGroupOf ahead words scenario journal base
+      → (rows : Rows) (seat : Seat Player) (node : NodeState) (r : ReplicaState) → HasReplica ahead scenario journal base rows seat node r → r.running ≡ true → r.group.core.gone ≡ None
+      → (number : ℕ) (mail : Mail) (ballot : Ballot) (slot : ℕ) → numbered (mails rows) number ≡ Some mail → mail.body ≡ Accepted base.core.id ballot slot → RestsBy (over_at ahead base journal) (mailed mail.from mail.body (r, [])).0.0
+
+-- By each entry of a group's log no member is lost, or nobody comes.
+abbrev pub MembersMoveOneWay : Type 0
+MembersMoveOneWay = (ahead : Ahead) (words : ℕ → ℕ → ℕ × ℕ) (scenario : Scenario) (journal : Rows) (base : Base) → IsGroupOf ahead words scenario journal base
+    → (slot : ℕ) → ((who : ℕ) → is_member (members_at (logged_sets ahead base journal) slot) who ≡ true → is_member (members_at (logged_sets ahead base journal) (slot + 1)) who ≡ true)
+    ⊎ ((who : ℕ) → is_member (members_at (logged_sets ahead base journal) (slot + 1)) who ≡ true → is_member (members_at (logged_sets ahead base journal) slot) who ≡ true)
+
+-- Each child that a node makes by a mail is a group of the journal, as it began, of which the node is a member.
+abbrev pub ChildrenAreBegun : Type 0
+ChildrenAreBegun = (ahead : Ahead) (words : ℕ → ℕ → ℕ × ℕ) (scenario : Scenario) (journal : Rows) (base : Base) → IsGroupOf ahead words scenario journal base
+    → (rows more : Rows) → journal ≡ rows ++ more → (seat : Seat Player) (node : NodeState) → IsSeat (births ahead scenario) seat → value player_table seat rows ≡ Node node
+    → (number : ℕ) (mail : Mail) (group : Draw) → numbered (mails rows) number ≡ Some mail → group_of_mail mail.body ≡ Some group
+    → AreAsBegun base seat.who (made_children (replica_of group node.replicas) mail.from mail.body)
+
+-- What is left to be asked of the first rows of a journal, in which a group has leaders: the one that leads at a slot is a member there; no replica has used up its rounds; what is told and sent is of slots up to the last one; and who executes an entry as a leader and a member leads at its slot, and it alone sends the state of it.
+pub record HasLeaders (ahead : Ahead) (by : Tellers) (scenario : Scenario) (journal front : Rows) (base : Base) : Type 0 where
+  pub leads : (slot : ℕ) → is_member (members_at (logged_sets ahead base journal) slot) (by slot) ≡ true
+  -- each replica after any of the rows
+  pub rounds : (rows more : Rows) (node : ℕ) (r : ReplicaState) → front ≡ rows ++ more → view_at (births ahead scenario) rows base.core.id node ≡ Some r → HasRounds r
+  -- an entry that a replica is told at its next slot
+  pub told : (rows : Rows) (seat : Seat Player) (number : ℕ) (mail : Mail) (slot : ℕ) (command : Command) (r : ReplicaState) → Delivers front rows seat number mail → mail.body ≡ Learn base.core.id slot command
+      → view_at (births ahead scenario) rows base.core.id seat.who ≡ Some r → slot ≡ next r → slot ≤ last_slot
+  -- a state that is sent
+  pub sent : (rows : Rows) (seat : Seat Player) (number : ℕ) (mail : Mail) (slot : ℕ) (state : Base) (sets : List (List ℕ)) → Delivers front rows seat number mail → mail.body ≡ Install base.core.id slot state sets
+      → (mail.from ≡ by slot) × (slot ≤ last_slot)
+  -- entries that a leader executes
+  pub counted : (rows : Rows) (seat : Seat Player) (event : Event OrderLine) (r after : ReplicaState) → IsRowOf front rows seat event → view_at (births ahead scenario) rows base.core.id seat.who ≡ Some r → r.running ≡ true
+      → view_at (births ahead scenario) (with_event rows seat event) base.core.id seat.who ≡ Some after → CountsAsMember (logged_sets ahead base journal) by r after seat.who
+
+-- So a group's log is one in the first rows of a journal, where it has leaders in these: the members of its slots, and where it is gone, are those of the whole journal.
+abbrev pub LedLogsAreOne : Type 0
+LedLogsAreOne = (ahead : Ahead) (words : ℕ → ℕ → ℕ × ℕ) (by : Tellers) (scenario : Scenario) (journal front more : Rows) (base : Base) → IsGroupOf ahead words scenario journal base → journal ≡ front ++ more → HasLeaders ahead by scenario journal front base
+    → HasOneLog (logged_sets ahead base journal) (over_at ahead base journal) by (births ahead scenario) front base

@@ -1,0 +1,41 @@
+-- Replicas of one group that executed as much are in one state.
+use Rattle.std.specs.Prelude.{◌≡◌, ℕ, ◌≤◌, true, List, [], ◌∷◌, ◌++◌, Some}
+use Rattle.sc_base.specs.declared.names.Draw.{Draw}
+use Rattle.sc_cmd.specs.declared.cores.Base.{Base}
+use Rattle.sc_cmd.specs.declared.orders.OrderLine.{OrderLine}
+use Rattle.sc_mail.specs.declared.bodies.Mail.{Mail}
+use Rattle.sc_actor.specs.declared.rows.Row.{Row}
+use Rattle.sc_node_table.specs.Replica.{ReplicaState}
+use Rattle.sc_scenario.specs.declared.scenarios.Scenario.{Scenario}
+use Rattle.sc_scenario.specs.Valid.{IsValid}
+use Rattle.sc_sound.specs.Players.{Lawful, system_of, as_nodes}
+use Rattle.sc_orderly_law.specs.Orderly.{rest, is_born}
+use Rattle.sc_calm_law.specs.Laws.{MayPump}
+use Rattle.sc_calm_law.specs.Owed.{Ways}
+use Rattle.sc_calm_law.specs.Quiet.{View as Replicas, HasReplica}
+use Rattle.sc_budget_law.specs.AskingLines.{AreRequests, AreSeated}
+use Rattle.sc_budget_law.specs.AskingQuiet.{replicas_after, setting_at, AreFramesOf, DoHintsRise, IsQuietJournal}
+use Rattle.sc_budget_law.specs.CalmAsking.{IsLinkedSetting}
+use Rattle.sc_budget_law.specs.Frames.{Frame}
+use Rattle.sc_calm_answers_law.specs.QuietLines.{HaveOneLog}
+
+-- all replicas may pump
+abbrev pub AllMayPump : Replicas → Type 0
+AllMayPump at = (group : Draw) (node : ℕ) (r : ReplicaState) → at group node ≡ Some r → MayPump r
+
+-- so it is in each lawful journal of a valid scenario, whose replicas are at its nodes
+abbrev pub LawfulJournalsHaveOneLog : Type 0
+LawfulJournalsHaveOneLog =
+    (words : ℕ → ℕ → ℕ × ℕ) (scenario : Scenario) (rows : List (Row Mail OrderLine)) → IsValid scenario → Lawful as_nodes words scenario rows
+    → ((group : Draw) (node : ℕ) → HasReplica (replicas_after scenario rows) group node → (1 ≤ node) × (node ≤ scenario.nodes)) → HaveOneLog (replicas_after scenario rows)
+
+-- .. and so a line of requests in a lawful journal leaves it quiet, and all replicas may pump if all might before
+abbrev pub LawfulLinesLeaveQuiet : Type 0
+LawfulLinesLeaveQuiet =
+    (words : ℕ → ℕ → ℕ × ℕ) (scenario : Scenario) (first : Base) (others : List Base) (before after : List (Row Mail OrderLine)) (frames : List Frame) (ways : Ways)
+    → IsValid scenario → scenario.groups ≡ first ∷ others → IsQuietJournal words scenario first before → AreFramesOf (replicas_after scenario before) frames → DoHintsRise (replicas_after scenario before) ways
+    → IsLinkedSetting (setting_at (replicas_after scenario before) frames ways) → AreSeated scenario (setting_at (replicas_after scenario before) frames ways)
+    → AreRequests words scenario (setting_at (replicas_after scenario before) frames ways) before after
+    → ((who : ℕ) → is_born (system_of as_nodes words scenario) who ≡ true → rest (system_of as_nodes words scenario) (before ++ after) who ≡ [])
+    → Lawful as_nodes words scenario (before ++ after)
+    → IsQuietJournal words scenario first (before ++ after) × (AllMayPump (replicas_after scenario before) → AllMayPump (replicas_after scenario (before ++ after)))

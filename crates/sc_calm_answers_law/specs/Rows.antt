@@ -1,0 +1,59 @@
+-- That each row of a line of requests finds what it needs.
+use Rattle.std.specs.Prelude.{◌≡◌, ℕ, ◌≤◌, ◌==◌, ◌++◌, false, List, ◌∷◌, find, Some}
+use Rattle.sc_base.specs.Among.{Among, Each}
+use Rattle.sc_base.specs.Limits.{client_actor}
+use Rattle.sc_cmd.specs.declared.cores.Base.{Base}
+use Rattle.sc_cmd.specs.declared.orders.OrderLine.{OrderLine}
+use Rattle.sc_mail.specs.declared.bodies.Mail.{Mail}
+use Rattle.sc_mail.specs.declared.roles.Role.TheVariants.{Node, Client}
+use Rattle.sc_actor.specs.declared.actors.Seat.{Seat}
+use Rattle.sc_actor.specs.declared.rows.Event.{Event}
+use Rattle.sc_actor.specs.declared.rows.Row.{Row}
+use Rattle.sc_actor.specs.Replay.{value}
+use Rattle.sc_actor.specs.System.{has_gone}
+use Rattle.sc_client_table.specs.Client.{Client as ClientState}
+use Rattle.sc_node_table.specs.Node.{NodeState}
+use Rattle.sc_scenario.specs.declared.scenarios.Asks.{Asks}
+use Rattle.sc_scenario.specs.declared.scenarios.Scenario.{Scenario}
+use Rattle.sc_scenario.specs.Valid.{IsValid}
+use Rattle.sc_orderly_law.specs.Orderly.{IsTidy, IsInOrder}
+use Rattle.sc_orderly_law.specs.Owing.{owed}
+use Rattle.sc_sound.specs.Players.{Player, player_table, births, node_seat, client_seat, route_of, system_of, as_nodes}
+use Rattle.sc_calm_law.specs.Charts.{Chart}
+use Rattle.sc_calm_law.specs.Keeping.{FindsCalm}
+use Rattle.sc_calm_law.specs.Laws.{MayPump}
+use Rattle.sc_calm_law.specs.Reach.{sent_on}
+use Rattle.sc_budget_law.specs.Asking.{IsAsking, AreFarFromLast}
+use Rattle.sc_budget_law.specs.AskingLines.{AreRequests, NobodyWaits, AreSeated}
+use Rattle.sc_budget_law.specs.CalmAsking.{IsLinkedSetting}
+use Rattle.sc_budget_law.specs.CalmNode.{Setting, IsSetting}
+use Rattle.sc_calm_answers_law.specs.RequestsFinding.{CountsAs}
+use Rattle.sc_calm_answers_law.specs.Hearing.{AreReached, KnowOne}
+use Rattle.sc_calm_answers_law.specs.Tokens.{token_owing}
+
+-- each replica of each node may pump
+abbrev pub NodesMayPump : Scenario → List (Row Mail OrderLine) → Type 0
+NodesMayPump scenario rows =
+    (me : ℕ) (node : NodeState) → 1 ≤ me → me ≤ scenario.nodes → value player_table (node_seat as_nodes scenario.groups scenario.policy me) rows ≡ Node node → Each MayPump node.replicas
+
+-- a client that was not told to go is not sent on more often than any
+abbrev pub AreNear : Scenario → Chart → Base → List (Row Mail OrderLine) → Type 0
+AreNear scenario chart first rows =
+    (asks : Asks) (client : ClientState) → Among asks scenario.clients → value player_table (client_seat (route_of first) asks) rows ≡ Client client → has_gone rows (client_actor asks.client) ≡ false → sent_on chart.reach client.known ≤ chart.reach.most
+
+-- what holds where a line of requests begins: nobody waits, who has not gone knows one group alone, and each client's request is under way once at most
+pub record MayBegin (words : ℕ → ℕ → ℕ × ℕ) (scenario : Scenario) (set : Setting) (first : Base) (before : List (Row Mail OrderLine)) : Type 0 where
+  pub asking : IsAsking words scenario set first before
+  pub waits : NobodyWaits scenario first before
+  pub knows : KnowOne scenario first before
+  pub once : (asks : Asks) → Among asks scenario.clients → owed (system_of as_nodes words scenario) (token_owing asks.client) before ≤ 1
+
+-- Whatever comes next in such a line, in order, finds what it needs, by a chart that counts as the setting does.
+abbrev pub RequestRowsFindCalm : Type 0
+RequestRowsFindCalm =
+    (words : ℕ → ℕ → ℕ × ℕ) (scenario : Scenario) (set : Setting) (chart : Chart) (first : Base) (others : List Base) (before after : List (Row Mail OrderLine)) (seat : Seat Player) (event : Event OrderLine)
+    → IsValid scenario → scenario.groups ≡ first ∷ others → IsSetting set → IsLinkedSetting set → AreSeated scenario set → AreReached set → CountsAs set chart
+    → MayBegin words scenario set first before → AreRequests words scenario set before after → IsAsking words scenario set first (before ++ after) → IsTidy (before ++ after) → AreFarFromLast scenario set (before ++ after)
+    → NodesMayPump scenario (before ++ after) → AreNear scenario chart first (before ++ after)
+    → find (λ other. other.who == seat.who) (births as_nodes scenario) ≡ Some seat → IsInOrder (system_of as_nodes words scenario) (before ++ after) seat.who event
+    → FindsCalm chart (births as_nodes scenario) (before ++ after) seat event

@@ -1,0 +1,64 @@
+-- What a line of requests may begin with in a quiet journal.
+use Rattle.std.specs.Prelude.{◌≡◌, ℕ, ◌≤◌, Bool, List, [], ◌∷◌, Option}
+use Rattle.sc_base.specs.Among.{Each}
+use Rattle.sc_base.specs.declared.names.Draw.{Draw}
+use Rattle.sc_cmd.specs.declared.cores.Base.{Base}
+use Rattle.sc_cmd.specs.declared.orders.OrderLine.{OrderLine}
+use Rattle.sc_mail.specs.declared.bodies.Mail.{Mail}
+use Rattle.sc_mail.specs.declared.roles.Role.TheVariants.{Node}
+use Rattle.sc_actor.specs.declared.rows.Row.{Row}
+use Rattle.sc_actor.specs.Replay.{value}
+use Rattle.sc_node_table.specs.Node.{NodeState}
+use Rattle.sc_node_table.specs.Replica.{ReplicaState, name_of}
+use Rattle.sc_scenario.specs.declared.scenarios.Scenario.{Scenario}
+use Rattle.sc_scenario.specs.Valid.{IsValid}
+use Rattle.sc_sound.specs.Players.{Lawful, player_table, node_seat, system_of, as_nodes}
+use Rattle.sc_orderly_law.specs.Owing.{under_way, owed}
+use Rattle.sc_budget_law.specs.Asking.{IsAsking}
+use Rattle.sc_budget_law.specs.AskingQuiet.{replicas_after, setting_at, AreFramesOf, ways_at, IsQuietJournal}
+use Rattle.sc_budget_law.specs.CalmNode.{Setting}
+use Rattle.sc_budget_law.specs.Frames.{Frame}
+use Rattle.sc_calm_answers_law.specs.Hearing.{AreReached, KnowOne}
+use Rattle.sc_calm_answers_law.specs.Tokens.{token_owing}
+
+-- In a quiet journal a client that was not told to go knows one group alone.
+abbrev pub QuietJournalsKnowOne : Type 0
+QuietJournalsKnowOne = (words : ℕ → ℕ → ℕ × ℕ) (scenario : Scenario) (first : Base) (rows : List (Row Mail OrderLine)) → IsQuietJournal words scenario first rows → KnowOne scenario first rows
+
+-- In a quiet journal no mail is under way.
+abbrev pub QuietJournalsHaveNoMail : Type 0
+QuietJournalsHaveNoMail =
+    (words : ℕ → ℕ → ℕ × ℕ) (scenario : Scenario) (first : Base) (rows : List (Row Mail OrderLine)) → IsQuietJournal words scenario first rows → under_way (system_of as_nodes words scenario) rows ≡ []
+
+-- no two of these replicas are of one group
+abbrev pub AreNamedOnce : List ReplicaState → Type 0
+AreNamedOnce [] = Unit {0}
+AreNamedOnce (r ∷ replicas) = Each (λ (other : ReplicaState). name_of other ≡ name_of r → ⊥) replicas × AreNamedOnce replicas
+
+-- In a quiet journal, where no node has two replicas of one group, each client's request is under way once at most, counting one where none waits.
+abbrev pub QuietJournalsCountOnce : Type 0
+QuietJournalsCountOnce =
+    (words : ℕ → ℕ → ℕ × ℕ) (scenario : Scenario) (set : Setting) (first : Base) (others : List Base) (rows : List (Row Mail OrderLine)) (c : ℕ)
+    → IsValid scenario → scenario.groups ≡ first ∷ others → IsAsking words scenario set first rows → IsQuietJournal words scenario first rows
+    → ((me : ℕ) (node : NodeState) → 1 ≤ me → me ≤ scenario.nodes → value player_table (node_seat as_nodes scenario.groups scenario.policy me) rows ≡ Node node → AreNamedOnce node.replicas)
+    → owed (system_of as_nodes words scenario) (token_owing c) rows ≤ 1
+
+-- By the ways of the latest rounds each node that leads a group of a quiet journal is reached.
+abbrev pub QuietLeadersAreReached : Type 0
+QuietLeadersAreReached =
+    (words : ℕ → ℕ → ℕ × ℕ) (scenario : Scenario) (first : Base) (rows : List (Row Mail OrderLine)) (frames : List Frame) (latest : Draw → ℕ) (most : ℕ) (asks : Draw → Option (Draw × Bool))
+    → IsQuietJournal words scenario first rows → AreFramesOf (replicas_after scenario rows) frames
+    → AreReached (setting_at (replicas_after scenario rows) frames (ways_at (replicas_after scenario rows) latest most asks))
+
+-- In a lawful journal of a valid scenario no node has two replicas of one group.
+abbrev pub LawfulReplicasAreNamedOnce : Type 0
+LawfulReplicasAreNamedOnce =
+    (words : ℕ → ℕ → ℕ × ℕ) (scenario : Scenario) (rows : List (Row Mail OrderLine)) (me : ℕ) (node : NodeState) → IsValid scenario → Lawful as_nodes words scenario rows
+    → 1 ≤ me → me ≤ scenario.nodes → value player_table (node_seat as_nodes scenario.groups scenario.policy me) rows ≡ Node node → AreNamedOnce node.replicas
+
+-- .. and so each client's request is under way once at most, where such a journal is quiet.
+abbrev pub LawfulQuietJournalsCountOnce : Type 0
+LawfulQuietJournalsCountOnce =
+    (words : ℕ → ℕ → ℕ × ℕ) (scenario : Scenario) (set : Setting) (first : Base) (others : List Base) (rows : List (Row Mail OrderLine)) (c : ℕ)
+    → IsValid scenario → scenario.groups ≡ first ∷ others → IsAsking words scenario set first rows → IsQuietJournal words scenario first rows → Lawful as_nodes words scenario rows
+    → owed (system_of as_nodes words scenario) (token_owing c) rows ≤ 1

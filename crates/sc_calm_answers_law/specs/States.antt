@@ -1,0 +1,30 @@
+-- The states of a group by its log: what each replica has, and that one by which a member goes is locked in no transaction.
+use Rattle.std.specs.Prelude.{◌≡◌, ℕ, suc, ◌-◌, ◌≤◌, true, false, take}
+use Rattle.sc_cmd.specs.declared.cores.Base.{Base}
+use Rattle.sc_cmd.specs.declared.cores.Lock.TheVariants.{Free}
+use Rattle.sc_base.specs.Roster.{is_member}
+use Rattle.sc_actor.specs.declared.actors.Seat.{Seat}
+use Rattle.sc_machine_table.specs.Group.{Group, group_of}
+use Rattle.sc_machine_table.specs.Logs.{state_after}
+use Rattle.sc_scenario.specs.declared.scenarios.Scenario.{Scenario}
+use Rattle.sc_node_table.specs.Node.{NodeState}
+use Rattle.sc_node_table.specs.Replica.{ReplicaState, next}
+use Rattle.sc_sound.specs.Logs.{decided_log}
+use Rattle.sc_sound.specs.Players.{Ahead, Player}
+use Rattle.sc_log_law.specs.Descent.{Rows}
+use Rattle.sc_following_law.specs.Following.{members_at}
+use Rattle.sc_calm_logs_law.specs.Logged.{logged_sets, IsGroupOf, HasReplica}
+
+-- the group after the entries before a slot, by its log in a journal
+abbrev pub state_at : Ahead → Base → Rows → ℕ → Group
+state_at ahead base journal slot = state_after (group_of base) (take (slot - 1) (decided_log ahead base journal))
+
+-- after any rows of a lawful journal each replica's state is the log's at its next slot
+abbrev pub ReplicasRunLogs : Type 0
+ReplicasRunLogs = (ahead : Ahead) (words : ℕ → ℕ → ℕ × ℕ) (scenario : Scenario) (journal : Rows) (base : Base) → IsGroupOf ahead words scenario journal base
+    → (rows : Rows) (seat : Seat Player) (node : NodeState) (r : ReplicaState) → HasReplica ahead scenario journal base rows seat node r → (1 ≤ next r) × (r.group ≡ state_at ahead base journal (next r))
+
+-- the state after an entry by which a member goes is locked in no transaction
+abbrev pub LeaversFree : Type 0
+LeaversFree = (ahead : Ahead) (words : ℕ → ℕ → ℕ × ℕ) (scenario : Scenario) (journal : Rows) (base : Base) → IsGroupOf ahead words scenario journal base → (slot who : ℕ)
+    → is_member (members_at (logged_sets ahead base journal) slot) who ≡ true → is_member (members_at (logged_sets ahead base journal) (suc slot)) who ≡ false → (state_at ahead base journal (suc slot)).core.lock ≡ Free

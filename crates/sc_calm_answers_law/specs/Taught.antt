@@ -1,0 +1,27 @@
+-- That members of groups learn all entries in journals whose rows come in time.
+use Rattle.std.specs.Prelude.{◌≡◌, ℕ, [], ◌++◌}
+use Rattle.sc_cmd.specs.declared.cores.Base.{Base}
+use Rattle.sc_orderly_law.specs.Timely.{AreInTime}
+use Rattle.sc_scenario.specs.declared.scenarios.Scenario.{Scenario}
+use Rattle.sc_sound.specs.Players.{births, as_nodes}
+use Rattle.sc_calm_law.specs.Charts.{players}
+use Rattle.sc_log_law.specs.Descent.{Rows}
+use Rattle.sc_following_law.specs.Hints.{Tellers}
+use Rattle.sc_calm_logs_law.specs.Logged.{logged_sets, IsGroupOf}
+use Rattle.sc_calm_groups_law.specs.Taught.{IsTaughtOn}
+use Rattle.sc_calm_groups_law.specs.Through.{IsSentSo, HasOneLog}
+use Rattle.sc_calm_answers_law.specs.Led.{over_at}
+use Rattle.sc_calm_answers_law.specs.Tellers.{tellers_at, AreFew}
+
+-- So it is of each group of a lawful journal of a valid scenario at the births, whoever leads later ..
+abbrev pub GroupsBeginTaught : Type 0
+GroupsBeginTaught = (words : ℕ → ℕ → ℕ × ℕ) (by : Tellers) (scenario : Scenario) (journal : Rows) (base : Base) → IsGroupOf as_nodes words scenario journal base
+    → IsTaughtOn (logged_sets as_nodes base journal) (over_at as_nodes base journal) by words (births as_nodes scenario) [] base
+
+-- .. and after first rows of the journal whose rows come in time, in which its log is one, where its mail is sent so
+abbrev pub GroupsAreTaught : Type 0
+GroupsAreTaught =
+    (words : ℕ → ℕ → ℕ × ℕ) (scenario : Scenario) (journal front more : Rows) (base : Base) → IsGroupOf as_nodes words scenario journal base → AreInTime (players words (births as_nodes scenario)) journal → AreFew as_nodes scenario journal base → journal ≡ front ++ more
+    → IsSentSo (births as_nodes scenario) front base
+    → IsTaughtOn (logged_sets as_nodes base journal) (over_at as_nodes base journal) (tellers_at as_nodes scenario base journal) words (births as_nodes scenario) front base
+    × HasOneLog (logged_sets as_nodes base journal) (over_at as_nodes base journal) (tellers_at as_nodes scenario base journal) (births as_nodes scenario) front base

@@ -1,4 +1,0 @@
-pub mod Led
-pub mod States
-pub mod Taught
-pub mod Tellers

@@ -1,3 +1,0 @@
-mod Cuts
-pub mod Cycle
-mod Round

@@ -1,5 +1,0 @@
-mod Meeting
-mod SetLemmas
-pub mod Pairs
-pub mod Rising
-pub mod UnionLemmas
