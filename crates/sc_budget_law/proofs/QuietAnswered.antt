@@ -91,7 +91,7 @@ replies_row seat rows row =
     by true = replies_step (value player_table seat rows) (input_of (mails rows) row.event)
     by false = omega arith
 
-replies_more : (seat : Seat Player) (rows more : Journal) → length (replies_of (value player_table seat rows)) ≤ length (replies_of (value player_table seat (rows ++ more)))
+pub replies_more : (seat : Seat Player) (rows more : Journal) → length (replies_of (value player_table seat rows)) ≤ length (replies_of (value player_table seat (rows ++ more)))
 replies_more seat rows [] = (let same = ap (λ l. length (replies_of (value player_table seat l))) (append-nil rows) in omega (arith, same))
 replies_more seat rows (row ∷ more) =
     let one = replies_row seat rows row in
@@ -212,7 +212,7 @@ module _ (words : ℕ → ℕ → ℕ × ℕ) (scenario : Scenario) (stage_ : Is
 -- ---- the law
 
 -- the first line that delivers
-first_delivery : (lines : List SchedLine) → list_any delivers lines ≡ true → (front : List SchedLine) × (many : SchedLine) × (back : List SchedLine) × (lines ≡ front ++ many ∷ back) × (delivers many ≡ true)
+pub first_delivery : (lines : List SchedLine) → list_any delivers lines ≡ true → (front : List SchedLine) × (many : SchedLine) × (back : List SchedLine) × (lines ≡ front ++ many ∷ back) × (delivers many ≡ true)
 first_delivery [] e = cc
 first_delivery (line_ ∷ lines) e = by (delivers line_) refl e (first_delivery lines)
   where
@@ -221,7 +221,7 @@ first_delivery (line_ ∷ lines) e = by (delivers line_) refl e (first_delivery 
     by true is e' more = ([], line_, lines, refl, is)
     by false is e' more = (let r = more e' in (line_ ∷ r.0, r.1, r.2, ap (λ l. line_ ∷ l) r.3, r.4))
 
-many_line : (line_ : SchedLine) → delivers line_ ≡ true → IsManyLine (line_of line_)
+pub many_line : (line_ : SchedLine) → delivers line_ ≡ true → IsManyLine (line_of line_)
 many_line (Settle most) e = tt
 many_line (Free most workers) e = tt
 many_line (Go client) e = cc

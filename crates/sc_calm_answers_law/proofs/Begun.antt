@@ -156,7 +156,7 @@ record IsIssuing (asks : Asks) (seat : Seat Player) (rows : Rows) : Type 0 where
   fresh : has_gone rows (client_actor asks.client) ≡ false → (client.waiting ≡ None) × (client.replies ≡ [])
   issued : (seq at : ℕ) → issue_row asks.client seq rows ≡ Some at → seq ≤ begun_ones client
 
-any_push : {X : Type 0} (p : X → Bool) (xs : List X) (x : X) → list_any p (xs ++ x ∷ []) ≡ (list_any p xs || p x)
+pub any_push : {X : Type 0} (p : X → Bool) (xs : List X) (x : X) → list_any p (xs ++ x ∷ []) ≡ (list_any p xs || p x)
 any_push p [] x = by (p x)
   where
     by : (b : Bool) → (b || false) ≡ (false || b)

@@ -137,7 +137,7 @@ module _ (births : List (Seat Player)) (rows : Rows) (name : Draw) where
   all_there (Node node) r e = (find_found (λ (x : ReplicaState). same_draw (name_of x) name) node.replicas r e).0
   all_there (Client client) r e = cc
 
-  in_all : (seats : List (Seat Player)) (seat : Seat Player) (r : ReplicaState) → Among seat seats → Among r (chart_replicas (value player_table seat rows)) → Among r (all_replicas seats rows)
+  pub in_all : (seats : List (Seat Player)) (seat : Seat Player) (r : ReplicaState) → Among seat seats → Among r (chart_replicas (value player_table seat rows)) → Among r (all_replicas seats rows)
   in_all [] seat r a here = absurd a
   in_all (s ∷ seats) seat r (inl e) here = among-left r (chart_replicas (value player_table s rows)) (all_replicas seats rows) (subst (λ x. Among r (chart_replicas (value player_table x rows))) (sym e) here)
   in_all (s ∷ seats) seat r (inr a) here = among-right r (chart_replicas (value player_table s rows)) (all_replicas seats rows) (in_all seats seat r a here)

@@ -30,7 +30,7 @@ use Rattle.sc_calm_groups_law.specs.Led.{Ends, IsWellLed}
 use Rattle.sc_calm_groups_law.specs.Through.{HasOneLog}
 
 -- one of some passes a test
-any_found : {X : Type 0} (p : X → Bool) (xs : List X) → list_any p xs ≡ true → (x : X) × Among x xs × (p x ≡ true)
+pub any_found : {X : Type 0} (p : X → Bool) (xs : List X) → list_any p xs ≡ true → (x : X) × Among x xs × (p x ≡ true)
 any_found p [] e = absurd (true≢false (sym e))
 any_found {X} p (x ∷ xs) e = by (p x) refl (any_found p xs) e
   where

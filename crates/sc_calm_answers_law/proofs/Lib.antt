@@ -3,6 +3,7 @@ pub mod Accepting
 pub mod Acts
 pub mod Affairs
 pub mod Along
+mod Answered
 pub mod Arcs
 pub mod Asked
 pub mod Ballots
@@ -17,6 +18,7 @@ pub mod Born
 pub mod BornAsBegun
 pub mod Borne
 mod Calls
+mod ChartRests
 pub mod Children
 pub mod Chosen
 pub mod Clients
@@ -102,11 +104,14 @@ pub mod LinkWorlds
 pub mod Linking
 pub mod Lists
 pub mod Logs
+mod Lone
 pub mod Meeting
 pub mod Missed
 pub mod Moving
 mod NamedOnce
 pub mod Names
+mod Naming
+mod Nearness
 pub mod Needs
 pub mod Newest
 pub mod Nodes
@@ -155,6 +160,9 @@ pub mod SaidNodes
 pub mod SaidParts
 pub mod SaidRows
 pub mod Seeing
+mod SegmentParts
+mod SegmentRows
+mod Segments
 pub mod SentHomes
 pub mod SentJournals
 pub mod SentSaying
@@ -204,6 +212,7 @@ pub mod TrueRounds
 pub mod TrueSending
 pub mod TrueTurns
 pub mod Turned
+mod Unbegun
 pub mod Unborn
 pub mod Unsettled
 pub mod Viewing

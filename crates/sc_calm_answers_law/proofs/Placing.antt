@@ -33,7 +33,7 @@ use Rattle.sc_calm_answers_law.proofs.KeptSeen.{from_map, found_once, split_amon
 
 -- ---- a client stays a client
 
-client_stays : (who : ℕ) (sent : List Mail) (rows : Rows) (client : ClientState) → (later : ClientState) × (replay player_table who (Client client) sent rows ≡ Client later)
+pub client_stays : (who : ℕ) (sent : List Mail) (rows : Rows) (client : ClientState) → (later : ClientState) × (replay player_table who (Client client) sent rows ≡ Client later)
 client_stays who sent [] client = (client, refl)
 client_stays who sent (row ∷ rows) client = by (eqb row.who who) (input_of sent row.event) (λ later. client_stays who (sent ++ row.sent) rows later)
   where

@@ -102,7 +102,7 @@ append_among (z ∷ xs) ys x a = inr (append_among xs ys x a)
 
 -- ---- the longest way, and no ends
 
-way_low : (most latest : ℕ) (o : Option ReplicaState) → way_by most latest o ≤ most
+pub way_low : (most latest : ℕ) (o : Option ReplicaState) → way_by most latest o ≤ most
 way_low most latest None = omega arith
 way_low most latest (Some r) = by (r.running || is_some r.group.core.gone)
   where

@@ -1,5 +1,6 @@
 pub mod Above
 pub mod Along
+pub mod Answered
 pub mod Arcs
 pub mod Bearing
 pub mod Begins
@@ -35,6 +36,7 @@ pub mod Lines
 pub mod Links
 pub mod Meeting
 pub mod Missed
+pub mod Naming
 pub mod New
 pub mod Noted
 pub mod Offered

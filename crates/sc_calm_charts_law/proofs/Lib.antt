@@ -2,4 +2,3 @@ mod Ends
 mod Following
 mod Fronts
 pub mod Names
-pub mod Segments

@@ -41,7 +41,7 @@ module _ (P : Draw → Type 0) where
   extends_on : (a b c : List Draw) → Extends P a b → Extends P b c → Extends P a c
   extends_on a b c one two = (one.0 ++ two.0, two.1 ∙ ap (λ names. names ++ two.0) one.1 ∙ append_assoc a one.0 two.0, Each-append P one.0 two.0 one.2 two.2)
 
-  more_names : (names more : List Draw) → Each P more → Extends P names (with_names names more)
+  pub more_names : (names more : List Draw) → Each P more → Extends P names (with_names names more)
   more_names names [] each = ([], sym (append-nil names), tt)
   more_names names (name ∷ more) each = extends_on names (with_name names name) (with_names (with_name names name) more) (here (is_seen name names)) (more_names (with_name names name) more each.1)
     where
@@ -57,16 +57,19 @@ module _ (births : List (Seat Player)) (rows : Rows) (row : Row Mail OrderLine) 
       ap (λ (front : Rows). with_names (names_upto births (rows ++ row ∷ []) n) (led_names births front)) front
       ∙ ap (λ names. with_names names (led_names births (take (suc n) rows))) (names_same n (omega (arith, low)))
 
-  -- the names after one more row are those before it, and those of groups that are led now
-  pub names_grow : Extends (λ group. is_led births (rows ++ row ∷ []) group ≡ true) (names_at births rows) (names_at births (rows ++ row ∷ []))
-  names_grow =
+  -- the names after one more row are those before it, with those of groups that are led now
+  pub names_push : names_at births (rows ++ row ∷ []) ≡ with_names (names_at births rows) (led_names births (rows ++ row ∷ []))
+  names_push =
       let long : length (rows ++ row ∷ []) ≡ suc (length rows) = (let push = length_push rows row in omega (arith, push)) in
       let whole : take (suc (length rows)) (rows ++ row ∷ []) ≡ rows ++ row ∷ [] = take_all (suc (length rows)) (rows ++ row ∷ []) (omega (arith, long)) in
-      let led = λ (group : Draw). is_led births (rows ++ row ∷ []) group ≡ true in
-      let added = led_names births (rows ++ row ∷ []) in
       let same = names_same (length rows) (omega arith) in
-      let more = more_names led (names_at births rows) added (Each-passes (λ name. is_led births (rows ++ row ∷ []) name) (map name_of (all_replicas births (rows ++ row ∷ [])))) in
-      (more.0, ap (names_upto births (rows ++ row ∷ [])) long ∙ (ap (λ names. with_names names (led_names births (take (suc (length rows)) (rows ++ row ∷ [])))) same ∙ (ap (λ (front : Rows). with_names (names_at births rows) (led_names births front)) whole ∙ more.1)), more.2)
+      ap (names_upto births (rows ++ row ∷ [])) long ∙ (ap (λ names. with_names names (led_names births (take (suc (length rows)) (rows ++ row ∷ [])))) same ∙ ap (λ (front : Rows). with_names (names_at births rows) (led_names births front)) whole)
+
+  -- .. so they go on, by groups that are led
+  pub names_grow : Extends (λ group. is_led births (rows ++ row ∷ []) group ≡ true) (names_at births rows) (names_at births (rows ++ row ∷ []))
+  names_grow =
+      let more = more_names (λ group. is_led births (rows ++ row ∷ []) group ≡ true) (names_at births rows) (led_names births (rows ++ row ∷ [])) (Each-passes (λ name. is_led births (rows ++ row ∷ []) name) (map name_of (all_replicas births (rows ++ row ∷ [])))) in
+      (more.0, names_push ∙ more.1, more.2)
 
 -- ---- no name twice
 

@@ -58,9 +58,9 @@ module _ (s : System Player Mail OrderLine) where
     pub fronts : (rows : Rows) (row : Row Mail OrderLine) → Fits (rows ++ row ∷ []) → Fits rows
     pub begins : Rests []
     pub goes : (quiet : Rows) (row : Row Mail OrderLine) → Fits (quiet ++ row ∷ []) → AreInTime s (quiet ++ row ∷ []) → Rests quiet → is_told row.event ≡ false → Asks quiet (row ∷ [])
-    pub asks : (quiet rows : Rows) (row : Row Mail OrderLine) → Fits (quiet ++ (rows ++ row ∷ [])) → AreInTime s (quiet ++ (rows ++ row ∷ [])) → Rests quiet → Asks quiet rows → is_told row.event ≡ false → Asks quiet (rows ++ row ∷ [])
+    pub asks : (quiet rows : Rows) (row : Row Mail OrderLine) → Fits (quiet ++ (rows ++ row ∷ [])) → AreInTime s (quiet ++ (rows ++ row ∷ [])) → quiet_front s (quiet ++ rows) ≡ quiet → Rests quiet → Asks quiet rows → is_told row.event ≡ false → Asks quiet (rows ++ row ∷ [])
     pub told : (quiet : Rows) (row : Row Mail OrderLine) → Fits (quiet ++ row ∷ []) → AreInTime s (quiet ++ row ∷ []) → Rests quiet → is_told row.event ≡ true → Orders quiet (row ∷ [])
-    pub orders : (quiet rows : Rows) (row : Row Mail OrderLine) (number : ℕ) → Fits (quiet ++ (rows ++ row ∷ [])) → AreInTime s (quiet ++ (rows ++ row ∷ [])) → Rests quiet → Orders quiet rows → row.event ≡ Deliver number → Orders quiet (rows ++ row ∷ [])
+    pub orders : (quiet rows : Rows) (row : Row Mail OrderLine) (number : ℕ) → Fits (quiet ++ (rows ++ row ∷ [])) → AreInTime s (quiet ++ (rows ++ row ∷ [])) → quiet_front s (quiet ++ rows) ≡ quiet → Rests quiet → Orders quiet rows → row.event ≡ Deliver number → Orders quiet (rows ++ row ∷ [])
     pub answered : (quiet rows : Rows) → Fits (quiet ++ rows) → AreInTime s (quiet ++ rows) → Rests quiet → Asks quiet rows → is_quiet s (quiet ++ rows) ≡ true → Rests (quiet ++ rows)
     pub over : (quiet rows : Rows) → Fits (quiet ++ rows) → AreInTime s (quiet ++ rows) → Rests quiet → Orders quiet rows → is_quiet s (quiet ++ rows) ≡ true → Rests (quiet ++ rows)
 
@@ -117,11 +117,11 @@ module _ (s : System Player Mail OrderLine) where
             again still (inl asks) = parts.answered quiet (behind ++ row ∷ []) (subst Fits whole fits) (subst (AreInTime s) whole timely) rests asks (ap (is_quiet s) (sym whole) ∙ still)
             again still (inr order) = parts.over quiet (behind ++ row ∷ []) (subst Fits whole fits) (subst (AreInTime s) whole timely) rests order.holds (ap (is_quiet s) (sym whole) ∙ still)
 
-        calm : IsCalmRow s rows row × ComesInTime s rows row.event
+        pub calm : IsCalmRow s rows row × ComesInTime s rows row.event
         calm = last_in_time s rows row timely
 
         -- an order comes where it is quiet
-        told_quiet : (event : Event OrderLine) → is_told event ≡ true → ComesInTime s rows event → is_quiet s rows ≡ true
+        pub told_quiet : (event : Event OrderLine) → is_told event ≡ true → ComesInTime s rows event → is_quiet s rows ≡ true
         told_quiet (Told order) told comes = comes
         told_quiet (Deliver number) told comes = absurd (true≢false (sym told))
         told_quiet Tick told comes = absurd (true≢false (sym told))
@@ -147,7 +147,7 @@ module _ (s : System Player Mail OrderLine) where
             both_ways (is_told order.first.event) untold order.tells
 
         -- an order goes on by deliveries alone
-        delivered : (quiet behind : Rows) → rows ≡ quiet ++ behind → quiet_front s rows ≡ quiet → IsOrdered quiet behind → is_told row.event ≡ false → (number : ℕ) × (row.event ≡ Deliver number)
+        pub delivered : (quiet behind : Rows) → rows ≡ quiet ++ behind → quiet_front s rows ≡ quiet → IsOrdered quiet behind → is_told row.event ≡ false → (number : ℕ) × (row.event ≡ Deliver number)
         delivered quiet behind e front order untold = by calm.0.event (ap (λ (r : Row Mail OrderLine). r.event) calm.0.row_is) calm.0.calm
           where
             by : (event : Event OrderLine) → row.event ≡ event → IsCalmEvent s rows calm.0.seat.who event → (number : ℕ) × (row.event ≡ Deliver number)
@@ -166,7 +166,7 @@ module _ (s : System Player Mail OrderLine) where
             let asks = parts.goes quiet row (subst (λ r. Fits (r ++ row ∷ [])) there fits) (subst (λ r. AreInTime s (r ++ row ∷ [])) there timely) rests untold in
             goes_on quiet behind e front rests (inl (subst (λ b. Asks quiet (b ++ row ∷ [])) (sym none) asks))
         untold_row quiet behind e front rests untold (inr (inl asks)) =
-            goes_on quiet behind e front rests (inl (parts.asks quiet behind row (subst Fits (ap (λ r. r ++ row ∷ []) e ∙ append_assoc quiet behind (row ∷ [])) fits) (subst (AreInTime s) (ap (λ r. r ++ row ∷ []) e ∙ append_assoc quiet behind (row ∷ [])) timely) rests asks untold))
+            goes_on quiet behind e front rests (inl (parts.asks quiet behind row (subst Fits (ap (λ r. r ++ row ∷ []) e ∙ append_assoc quiet behind (row ∷ [])) fits) (subst (AreInTime s) (ap (λ r. r ++ row ∷ []) e ∙ append_assoc quiet behind (row ∷ [])) timely) (subst (λ r. quiet_front s r ≡ quiet) e front) rests asks untold))
         untold_row quiet behind e front rests untold (inr (inr order)) =
             let d = delivered quiet behind e front order untold in
             goes_on quiet behind e front rests (inr (record {
@@ -174,7 +174,7 @@ module _ (s : System Player Mail OrderLine) where
               more = order.more ++ row ∷ [];
               behind_are = ap (λ b. b ++ row ∷ []) order.behind_are;
               tells = order.tells;
-              holds = parts.orders quiet behind row d.0 (subst Fits (ap (λ r. r ++ row ∷ []) e ∙ append_assoc quiet behind (row ∷ [])) fits) (subst (AreInTime s) (ap (λ r. r ++ row ∷ []) e ∙ append_assoc quiet behind (row ∷ [])) timely) rests order.holds d.1;
+              holds = parts.orders quiet behind row d.0 (subst Fits (ap (λ r. r ++ row ∷ []) e ∙ append_assoc quiet behind (row ∷ [])) fits) (subst (AreInTime s) (ap (λ r. r ++ row ∷ []) e ∙ append_assoc quiet behind (row ∷ [])) timely) (subst (λ r. quiet_front s r ≡ quiet) e front) rests order.holds d.1;
             }))
 
         next : IsSegment rows → IsSegment after

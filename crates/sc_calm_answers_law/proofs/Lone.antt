@@ -1,0 +1,37 @@
+-- Each replica that runs after some rows of a calm journal leads its group alone, where all groups are well led.
+use Rattle.std.proofs.Common.{◌≡◌, ℕ, true, Some, sym, ◌∙◌, ap, subst}
+use Rattle.sc_base.specs.Among.{Among}
+use Rattle.sc_base.specs.declared.names.Draw.{Draw}
+use Rattle.sc_cmd.specs.declared.orders.OrderLine.{OrderLine}
+use Rattle.sc_node_table.specs.Replica.{ReplicaState, name_of}
+use Rattle.sc_scenario.specs.Valid.{ValidScenariosAreBounded}
+use Rattle.sc_scenario.specs.declared.scenarios.Scenario.{Scenario}
+use Rattle.sc_sound.specs.Players.{births, as_nodes}
+use Rattle.sc_calm_law.specs.Totals.{Rows}
+use Rattle.sc_calm_rows_law.specs.Groups.{view_at}
+use Rattle.sc_calm_charts_law.specs.Charting.{all_replicas}
+use Rattle.sc_calm_scenes_law.specs.Turns.{LeadsAlone}
+use Rattle.sc_calm_answers_law.specs.Starts.{LawfulReplicasAreNamedOnce}
+use Rattle.sc_calm_answers_law.specs.Guided.{WellLedLeadAlone}
+use Rattle.sc_calm_answers_law.specs.Journal.{IsCalmJournal, IsFront, AreSent}
+use Rattle.sc_calm_answers_law.specs.KeptAsking.{AllLeadAlone}
+use Rattle.sc_calm_answers_law.specs.KnownFronts.{FrontsAreFound}
+use Rattle.sc_calm_answers_law.specs.Viewing.{ViewsAgree}
+use Rattle.sc_calm_answers_law.proofs.OrderedKnown.{named_there}
+use Rattle.sc_calm_answers_law.proofs.Placing.{place_of}
+
+module _ (all_bounded : ValidScenariosAreBounded) (found_law : FrontsAreFound) (alone_law : WellLedLeadAlone) (once_law : LawfulReplicasAreNamedOnce) (agree_law : ViewsAgree)
+    (words : ℕ → ℕ → ℕ × ℕ) (scenario : Scenario) (journal rows : Rows) (calm : IsCalmJournal words scenario journal) (front : IsFront journal rows) (sent : AreSent words scenario journal rows) where
+  -- of each name
+  pub leads_at : (name : Draw) (node : ℕ) (r : ReplicaState) → view_at (births as_nodes scenario) rows name node ≡ Some r → r.running ≡ true → LeadsAlone (births as_nodes scenario) rows name node r
+  leads_at name node r e runs =
+      let g = named_there found_law words scenario journal rows calm front name (node, r, e) in
+      let t = sent g.0 g.1 in
+      subst (λ n. LeadsAlone (births as_nodes scenario) rows n node r) g.2 (alone_law.alone _ _ _ words (births as_nodes scenario) rows g.0 t.course node r t.led (ap (λ n. view_at (births as_nodes scenario) rows n node) g.2 ∙ e) runs).0
+
+  -- of each player
+  pub all_lead : AllLeadAlone (births as_nodes scenario) rows
+  all_lead r a runs =
+      let f = found_law words scenario journal rows calm front in
+      let p = place_of all_bounded once_law agree_law words scenario rows calm.valid f.lawful f.homes r a in
+      (p.0, leads_at (name_of r) p.0 r p.1 runs)

@@ -1,0 +1,30 @@
+-- That every request of a calm scenario at its budget is answered.
+use Rattle.std.specs.Prelude.{◌≡◌, ℕ, ◌≤◌, true, false, List, ◌∷◌}
+use Rattle.sc_cmd.specs.declared.cores.Base.{Base}
+use Rattle.sc_cmd.specs.declared.orders.OrderLine.{OrderLine}
+use Rattle.sc_mail.specs.declared.bodies.Mail.{Mail}
+use Rattle.sc_actor.specs.declared.rows.Row.{Row}
+use Rattle.sc_actor.specs.Walk.{is_quiet, unsettled}
+use Rattle.sc_scenario.specs.Valid.{IsValid}
+use Rattle.sc_scenario.specs.declared.scenarios.Scenario.{Scenario}
+use Rattle.sc_sound.specs.Players.{system_of, schedule, as_nodes, Lawful, Whole}
+use Rattle.sc_budget_law.specs.AskingQuiet.{IsQuietJournal}
+use Rattle.sc_budget_law.specs.Budget.{AreAnswered}
+use Rattle.sc_budget_law.specs.Calm.{orders_of, IsCalmAtBudget}
+
+-- In each lawful journal of a valid calm scenario at its budget no line is cut off with mail pending.
+abbrev pub CalmLinesSettle : Type 0
+CalmLinesSettle =
+    (words : ℕ → ℕ → ℕ × ℕ) (scenario : Scenario) (journal : List (Row Mail OrderLine)) → IsValid scenario → IsCalmAtBudget scenario → Lawful as_nodes words scenario journal
+    → unsettled (system_of as_nodes words scenario) (schedule scenario) journal ≡ false
+
+-- Each lawful journal of one that gives an order, in which no mail is pending, is as a quiet journal asks it.
+abbrev pub CalmJournalsRest : Type 0
+CalmJournalsRest =
+    (words : ℕ → ℕ → ℕ × ℕ) (scenario : Scenario) (first : Base) (others : List Base) (rows : List (Row Mail OrderLine)) → IsValid scenario → IsCalmAtBudget scenario → 1 ≤ orders_of scenario → scenario.groups ≡ first ∷ others
+    → Lawful as_nodes words scenario rows → is_quiet (system_of as_nodes words scenario) rows ≡ true → IsQuietJournal words scenario first rows
+
+-- So in each whole journal of a valid calm scenario at its budget every request of a client that goes before a line of deliveries is answered.
+abbrev pub CalmRequestsAreAnswered : Type 0
+CalmRequestsAreAnswered =
+    (words : ℕ → ℕ → ℕ × ℕ) (scenario : Scenario) (journal : List (Row Mail OrderLine)) → IsValid scenario → IsCalmAtBudget scenario → Lawful as_nodes words scenario journal → Whole as_nodes words scenario journal → AreAnswered scenario journal
