@@ -50,7 +50,7 @@ use Rattle.sc_budget_law.specs.Frames.{Frame}
 use Rattle.sc_budget_law.specs.PlainClient.{IsBegun}
 use Rattle.sc_budget_law.specs.PlainMail.{IsPlainBody, IsPlainMail}
 use Rattle.sc_calm_answers_law.specs.RequestsFinding.{CountsAs}
-use Rattle.sc_calm_answers_law.specs.Rows.{AreNear, MayBegin, RequestRowsFindCalm}
+use Rattle.sc_calm_answers_law.specs.Rows.{NodesMayPump, AreNear, MayBegin, RequestRowsFindCalm}
 use Rattle.sc_calm_answers_law.specs.Starts.{QuietJournalsKnowOne, LawfulQuietJournalsCountOnce}
 use Rattle.sc_calm_answers_law.specs.Cuts.{QuietGroupsHaveCuts}
 use Rattle.sc_calm_answers_law.specs.Round.{StandingGroupsAreRound}
@@ -193,7 +193,7 @@ module _ (all_bounded : ValidScenariosAreBounded) (frames_law : QuietJournalsHav
             (views.nodes scenario rows frame.core.id node (all_bounded scenario calm.valid) (known.homes rows front) ∙ e)).0
 
     module _ (seat : Seat Player) (event : Event OrderLine) (next_front : IsFront journal (with_event (quiet ++ after) seat event)) (seated : IsSeat (births as_nodes scenario) seat) (in_order : IsInOrder s (quiet ++ after) seat.who event)
-        (own : quiet_front s (quiet ++ after) ≡ quiet) (near : AreNear scenario (chart_at far sent s (quiet ++ after)) first (quiet ++ after)) where
+        (own : quiet_front s (quiet ++ after) ≡ quiet) (pump : NodesMayPump scenario (quiet ++ after)) (near : AreNear scenario (chart_at far sent s (quiet ++ after)) first (quiet ++ after)) where
       abbrev row : Row Mail OrderLine
       row = row_of player_table seat rows event
 
@@ -230,7 +230,7 @@ module _ (all_bounded : ValidScenariosAreBounded) (frames_law : QuietJournalsHav
           finds_law words scenario set (chart_at far sent s rows) first others quiet after seat event calm.valid groups is_setting_ linked_
           (quiet_of.seated all_bounded frames_law rise_law ask_law cuts_law round_law linked_law words scenario first others far sent journal quiet calm groups rests known)
           (quiet_of.reached all_bounded frames_law rise_law ask_law cuts_law round_law linked_law words scenario first others far sent journal quiet calm groups rests known)
-          counts may asked.requests asked.asking tidy far_off (known.pumps rows front) near seated in_order
+          counts may asked.requests asked.asking tidy far_off pump near seated in_order
 
       requests : AreRequests words scenario set quiet (after ++ row ∷ [])
       requests ahead back r e = elim (snoc_parts after row ahead r back e) [
@@ -269,8 +269,8 @@ requests_begin all_bounded frames_law rise_law ask_law cuts_law round_law linked
     begin all_bounded frames_law rise_law ask_law cuts_law round_law linked_law views count_law know_one count_once go_on finds_law slots_left last_law words scenario first others far sent journal quiet calm groups rests known
 
 pub requests_keep : ValidScenariosAreBounded → QuietJournalsHaveFrames → ChartHintsRise → QuietJournalsAsk → QuietGroupsHaveCuts → StandingGroupsAreRound → QuietSettingsAreLinked → ViewsAgree → QuietChartsCount → QuietJournalsKnowOne → LawfulQuietJournalsCountOnce → RequestsGoOn → RequestRowsFindCalm → SlotsAreLeft → ReplicasLast → RequestsKeepCalm
-requests_keep all_bounded frames_law rise_law ask_law cuts_law round_law linked_law views count_law know_one count_once go_on finds_law slots_left last_law words scenario first others far sent journal quiet after seat event calm groups rests known asked next_front seated in_order own near =
-    keeps all_bounded frames_law rise_law ask_law cuts_law round_law linked_law views count_law know_one count_once go_on finds_law slots_left last_law words scenario first others far sent journal quiet calm groups rests known after (front_before journal (quiet ++ after) (row_of player_table seat (quiet ++ after) event ∷ []) next_front) asked seat event next_front seated in_order own near
+requests_keep all_bounded frames_law rise_law ask_law cuts_law round_law linked_law views count_law know_one count_once go_on finds_law slots_left last_law words scenario first others far sent journal quiet after seat event calm groups rests known asked next_front seated in_order own pump near =
+    keeps all_bounded frames_law rise_law ask_law cuts_law round_law linked_law views count_law know_one count_once go_on finds_law slots_left last_law words scenario first others far sent journal quiet calm groups rests known after (front_before journal (quiet ++ after) (row_of player_table seat (quiet ++ after) event ∷ []) next_front) asked seat event next_front seated in_order own pump near
 
 pub requests_leave_young : ValidScenariosAreBounded → QuietJournalsHaveFrames → ChartHintsRise → QuietJournalsAsk → QuietGroupsHaveCuts → StandingGroupsAreRound → QuietSettingsAreLinked → ViewsAgree → QuietChartsCount → QuietJournalsKnowOne → LawfulQuietJournalsCountOnce → RequestsGoOn → RequestRowsFindCalm → SlotsAreLeft → ReplicasLast → RequestsLeaveYoung
 requests_leave_young all_bounded frames_law rise_law ask_law cuts_law round_law linked_law views count_law know_one count_once go_on finds_law slots_left last_law words scenario first others far sent journal quiet after base calm groups rests front known asked among =

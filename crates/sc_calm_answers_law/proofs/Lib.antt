@@ -5,6 +5,8 @@ pub mod Affairs
 pub mod Along
 pub mod Arcs
 pub mod Asked
+pub mod AskedFronts
+pub mod AskedSince
 pub mod Ballots
 pub mod Bearing
 pub mod BearingLogs

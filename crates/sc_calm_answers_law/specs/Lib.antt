@@ -1,6 +1,7 @@
 pub mod Above
 pub mod Along
 pub mod Arcs
+pub mod AskedSince
 pub mod Bearing
 pub mod Begins
 pub mod Beside

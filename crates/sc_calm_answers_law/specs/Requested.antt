@@ -36,13 +36,12 @@ use Rattle.sc_calm_answers_law.specs.Resting.{RestsAt}
 abbrev pub setting_of : (ℕ → ℕ → ℕ × ℕ) → Scenario → ℕ → ℕ → Rows → Setting
 setting_of words scenario far sent quiet = setting_at (replicas_after scenario quiet) (frames_after scenario quiet) (chart_at far sent (players words (births as_nodes scenario)) quiet).ways
 
--- What else is known of a calm journal and one of its quiet fronts: there the entries are the logs and make one map, and replicas that are gone agree where; replicas are at nodes of the scenario, and may pump, after all first rows; first members are players; and ways may be longer by one than orders were told.
+-- What else is known of a calm journal and one of its quiet fronts: there the entries are the logs and make one map, and replicas that are gone agree where; replicas are at nodes of the scenario after all first rows; first members are players; and ways may be longer by one than orders were told.
 pub record IsKnownFront (words : ℕ → ℕ → ℕ × ℕ) (scenario : Scenario) (journal quiet : Rows) (far : ℕ) : Type 0 where
   pub one : IsOneMap (world_at as_nodes scenario.groups quiet)
   pub logs : AreItsLogs as_nodes scenario.groups quiet
   pub agree : GoneAgree (replicas_after scenario quiet)
   pub homes : (rows : Rows) → IsFront journal rows → AreAtNodes scenario rows
-  pub pumps : (rows : Rows) → IsFront journal rows → NodesMayPump scenario rows
   pub born : (base : Base) → Among base (groups_at as_nodes scenario.groups journal) → (who : ℕ) → is_member base.core.members who ≡ true → is_born (players words (births as_nodes scenario)) who ≡ true
   pub room : orders quiet + 1 ≤ far
 
@@ -57,13 +56,13 @@ RequestsBegin =
     (words : ℕ → ℕ → ℕ × ℕ) (scenario : Scenario) (first : Base) (others : List Base) (far sent : ℕ) (journal quiet : Rows) → IsCalmJournal words scenario journal → scenario.groups ≡ first ∷ others → RestsAt words scenario first journal quiet
     → IsKnownFront words scenario journal quiet far → IsRequested words scenario first far sent quiet [] × NobodyWaits scenario first quiet
 
--- .. and whatever comes next in order, which tells no order, finds what keeps the journal calm, and leaves it so.
+-- .. and whatever comes next in order, which tells no order, where each replica may pump, finds what keeps the journal calm, and leaves it so.
 abbrev pub RequestsKeepCalm : Type 0
 RequestsKeepCalm =
     (words : ℕ → ℕ → ℕ × ℕ) (scenario : Scenario) (first : Base) (others : List Base) (far sent : ℕ) (journal quiet after : Rows) (seat : Seat Player) (event : Event OrderLine) → IsCalmJournal words scenario journal → scenario.groups ≡ first ∷ others
     → RestsAt words scenario first journal quiet → IsKnownFront words scenario journal quiet far → IsRequested words scenario first far sent quiet after → IsFront journal (with_event (quiet ++ after) seat event) → IsSeat (births as_nodes scenario) seat
     → IsInOrder (players words (births as_nodes scenario)) (quiet ++ after) seat.who event → quiet_front (players words (births as_nodes scenario)) (quiet ++ after) ≡ quiet
-    → AreNear scenario (chart_at far sent (players words (births as_nodes scenario)) (quiet ++ after)) first (quiet ++ after)
+    → NodesMayPump scenario (quiet ++ after) → AreNear scenario (chart_at far sent (players words (births as_nodes scenario)) (quiet ++ after)) first (quiet ++ after)
     → FindsCalm (chart_at far sent (players words (births as_nodes scenario)) (quiet ++ after)) (births as_nodes scenario) (quiet ++ after) seat event
     × IsRequested words scenario first far sent quiet (after ++ row_of player_table seat (quiet ++ after) event ∷ [])
 
