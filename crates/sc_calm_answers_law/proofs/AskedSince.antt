@@ -31,7 +31,6 @@ use Rattle.sc_scenario.specs.Valid.{ValidScenariosAreBounded}
 use Rattle.sc_sound.specs.GroupsOf.{groups_at}
 use Rattle.sc_sound.specs.Players.{Player, player_table, births, node_seat, as_nodes}
 use Rattle.sc_calm_law.specs.Charts.{players}
-use Rattle.sc_calm_law.specs.Keeping.{FindsCalm}
 use Rattle.sc_calm_law.specs.Totals.{Rows}
 use Rattle.sc_calm_orders_law.specs.Parts.{work_by, works_in, works_flying, works_ready, works}
 use Rattle.sc_calm_rows_law.specs.Groups.{view_at}
@@ -41,9 +40,8 @@ use Rattle.sc_calm_mail_law.specs.Lasting.{ReplicasLast}
 use Rattle.sc_calm_logs_law.specs.Logged.{logged_sets}
 use Rattle.sc_calm_scenes_law.specs.Fresh.{IsThere}
 use Rattle.sc_calm_scenes_law.specs.Quiet.{GoesToActor}
-use Rattle.sc_calm_charts_law.specs.Charting.{names_at, all_replicas, chart_at}
+use Rattle.sc_calm_charts_law.specs.Charting.{names_at, all_replicas}
 use Rattle.sc_calm_charts_law.specs.Ends.{GoInTurn}
-use Rattle.sc_calm_charts_law.specs.Fronts.{quiet_front}
 use Rattle.sc_budget_law.specs.Asking.{IsAskingNode}
 use Rattle.sc_budget_law.specs.AskingLines.{NobodyWaits}
 use Rattle.sc_budget_law.specs.AskingQuiet.{replicas_after, QuietJournalsAsk}
@@ -63,7 +61,6 @@ use Rattle.sc_calm_answers_law.specs.KeptRising.{ChartHintsRise}
 use Rattle.sc_calm_answers_law.specs.Hinting.{NextRowsRise}
 use Rattle.sc_calm_answers_law.specs.RiseRising.{IsRisingOn}
 use Rattle.sc_calm_answers_law.specs.RiseRounds.{IsBallotSince, RequestsKeepBallots, RoundsAreSeen}
-use Rattle.sc_calm_answers_law.specs.Rows.{AreNear}
 use Rattle.sc_calm_answers_law.specs.Known.{StillFrontsAreFree}
 use Rattle.sc_calm_answers_law.specs.KnownFronts.{IsQuietFront, IsFoundFront, FrontsAreFound}
 use Rattle.sc_calm_answers_law.specs.KnownTurns.{NoneGoes, FrontsStayInTurn}
@@ -71,8 +68,8 @@ use Rattle.sc_calm_answers_law.specs.Strangers.{NoMailForStrangers}
 use Rattle.sc_calm_answers_law.specs.Journal.{IsCalmJournal, IsFront, AreSent}
 use Rattle.sc_calm_answers_law.specs.Resting.{RestsAt}
 use Rattle.sc_calm_answers_law.specs.OverJournals.{RestsBesides, RequestsLeaveResting}
-use Rattle.sc_calm_answers_law.specs.Requested.{setting_of, IsKnownFront, IsRequested, RequestsBegin, RequestsKeepCalm, RequestsLeaveYoung}
-use Rattle.sc_calm_answers_law.specs.AskedSince.{RestingFrontsAreKnown, SentNodesMayPump, IsAskedSince, RequestsBeginAsked, RequestsStayAsked, RequestsKeepGroups, RequestsRestAgain}
+use Rattle.sc_calm_answers_law.specs.Requested.{setting_of, IsKnownFront, IsRequested, RequestsBegin, RequestsStay, RequestsFindCalm, RequestsLeaveYoung}
+use Rattle.sc_calm_answers_law.specs.AskedSince.{RestingFrontsAreKnown, SentNodesMayPump, IsAskedSince, RequestsBeginAsked, RequestsStayAsked, AskedRowsFindCalm, RequestsKeepGroups, RequestsRestAgain}
 use Rattle.sc_calm_answers_law.proofs.AskedFronts.{journal_group, journal_few, quiet_marks}
 use Rattle.sc_calm_answers_law.proofs.BetweenRequests.{front_timely}
 use Rattle.sc_calm_answers_law.proofs.KeptSeen.{nodes_numbered}
@@ -244,11 +241,10 @@ begin_asked known_law begin_law ballots_law no_law words scenario first others f
 
 -- ---- each row keeps it
 
-module _ (all_bounded : ValidScenariosAreBounded) (found_law : FrontsAreFound) (few_law : SlotsAreLeft) (pump_law : SentNodesMayPump) (keep_law : RequestsKeepCalm) (young_law : RequestsLeaveYoung) (next_law : NextRowsAreSent) (rise_law : NextRowsRise) (ballots_law : RequestsKeepBallots)
+module _ (all_bounded : ValidScenariosAreBounded) (found_law : FrontsAreFound) (few_law : SlotsAreLeft) (stay_law : RequestsStay) (young_law : RequestsLeaveYoung) (next_law : NextRowsAreSent) (rise_law : NextRowsRise) (ballots_law : RequestsKeepBallots)
     (words : ℕ → ℕ → ℕ × ℕ) (scenario : Scenario) (first : Base) (others : List Base) (far sends : ℕ) (journal quiet after : Rows) (seat : Seat Player) (event : Event OrderLine) (calm : IsCalmJournal words scenario journal) (groups : scenario.groups ≡ first ∷ others)
     (asked : IsAskedSince words scenario first far sends journal quiet after) (front : IsFront journal (with_event (quiet ++ after) seat event)) (seated : IsSeat (births as_nodes scenario) seat)
-    (in_order : IsInOrder (players words (births as_nodes scenario)) (quiet ++ after) seat.who event) (own : quiet_front (players words (births as_nodes scenario)) (quiet ++ after) ≡ quiet)
-    (near : AreNear scenario (chart_at far sends (players words (births as_nodes scenario)) (quiet ++ after)) first (quiet ++ after)) where
+    (in_order : IsInOrder (players words (births as_nodes scenario)) (quiet ++ after) seat.who event) where
   abbrev s : System Player Mail OrderLine
   s = players words (births as_nodes scenario)
 
@@ -257,11 +253,6 @@ module _ (all_bounded : ValidScenariosAreBounded) (found_law : FrontsAreFound) (
 
   timely : AreInTime s (with_event (quiet ++ after) seat event)
   timely = front_timely words scenario journal (with_event (quiet ++ after) seat event) calm front
-
-  kept : FindsCalm (chart_at far sends s (quiet ++ after)) (births as_nodes scenario) (quiet ++ after) seat event × IsRequested words scenario first far sends quiet (after ++ row ∷ [])
-  kept =
-      keep_law words scenario first others far sends journal quiet after seat event calm groups asked.rests asked.known asked.requested front seated in_order own
-      (pump_law words scenario journal (quiet ++ after) calm asked.front asked.sent) near
 
   steps : (base : Base) (among : Among base (groups_at as_nodes scenario.groups journal))
       → IsSentStep (logged_sets as_nodes base journal) (over_at as_nodes base journal) (tellers_at as_nodes scenario base journal) words (births as_nodes scenario) (quiet ++ after) seat event base (asked.sent base among).course
@@ -279,24 +270,26 @@ module _ (all_bounded : ValidScenariosAreBounded) (found_law : FrontsAreFound) (
         (λ r e runs. none_work all_bounded found_law words scenario first far sends journal quiet after calm asked base.core.id seat.who r e runs) (asked.ballots base among);
   }
 
-  stays : FindsCalm (chart_at far sends s (quiet ++ after)) (births as_nodes scenario) (quiet ++ after) seat event × IsAskedSince words scenario first far sends journal quiet (after ++ row ∷ [])
+  stays : IsAskedSince words scenario first far sends journal quiet (after ++ row ∷ [])
   stays =
       let whole = append_assoc quiet after (row ∷ []) in
-      let then = subst (IsHeld words scenario first journal quiet asked.rests) whole held in (
-        kept.0,
-        record {
-          rests = asked.rests;
-          known = asked.known;
-          front = subst (IsFront journal) whole front;
-          requested = kept.1;
-          sent = then.sent;
-          rising = then.rising;
-          ballots = then.ballots;
-        },
-      )
+      let then = subst (IsHeld words scenario first journal quiet asked.rests) whole held in
+      record {
+        rests = asked.rests;
+        known = asked.known;
+        front = subst (IsFront journal) whole front;
+        requested = stay_law words scenario first others far sends journal quiet after seat event calm groups asked.rests asked.known asked.requested asked.front seated in_order;
+        sent = then.sent;
+        rising = then.rising;
+        ballots = then.ballots;
+      }
 
-pub stay_asked : ValidScenariosAreBounded → FrontsAreFound → SlotsAreLeft → SentNodesMayPump → RequestsKeepCalm → RequestsLeaveYoung → NextRowsAreSent → NextRowsRise → RequestsKeepBallots → RequestsStayAsked
+pub stay_asked : ValidScenariosAreBounded → FrontsAreFound → SlotsAreLeft → RequestsStay → RequestsLeaveYoung → NextRowsAreSent → NextRowsRise → RequestsKeepBallots → RequestsStayAsked
 stay_asked = stays
+
+pub asked_find : SentNodesMayPump → RequestsFindCalm → AskedRowsFindCalm
+asked_find pump_law find_law words scenario first others far sends journal quiet after seat event calm groups asked seated in_order own near =
+    find_law words scenario first others far sends journal quiet after seat event calm groups asked.rests asked.known asked.requested asked.front seated in_order own (pump_law words scenario journal (quiet ++ after) calm asked.front asked.sent) near
 
 -- ---- the groups stay the same, and the journal rests again
 

@@ -56,15 +56,20 @@ RequestsBeginAsked =
     (words : ℕ → ℕ → ℕ × ℕ) (scenario : Scenario) (first : Base) (others : List Base) (far sends : ℕ) (journal quiet : Rows) → IsCalmJournal words scenario journal → scenario.groups ≡ first ∷ others → RestsAt words scenario first journal quiet → orders quiet + 1 ≤ far
     → IsAskedSince words scenario first far sends journal quiet [] × NobodyWaits scenario first quiet
 
--- .. and whatever comes next in order, which tells no order, finds what keeps the journal calm, and leaves it so, where no client is sent on more often than any.
+-- .. and whatever comes next in order, which tells no order, leaves it so ..
 abbrev pub RequestsStayAsked : Type 0
 RequestsStayAsked =
     (words : ℕ → ℕ → ℕ × ℕ) (scenario : Scenario) (first : Base) (others : List Base) (far sends : ℕ) (journal quiet after : Rows) (seat : Seat Player) (event : Event OrderLine) → IsCalmJournal words scenario journal → scenario.groups ≡ first ∷ others
     → IsAskedSince words scenario first far sends journal quiet after → IsFront journal (with_event (quiet ++ after) seat event) → IsSeat (births as_nodes scenario) seat
-    → IsInOrder (players words (births as_nodes scenario)) (quiet ++ after) seat.who event → quiet_front (players words (births as_nodes scenario)) (quiet ++ after) ≡ quiet
-    → AreNear scenario (chart_at far sends (players words (births as_nodes scenario)) (quiet ++ after)) first (quiet ++ after)
+    → IsInOrder (players words (births as_nodes scenario)) (quiet ++ after) seat.who event → IsAskedSince words scenario first far sends journal quiet (after ++ row_of player_table seat (quiet ++ after) event ∷ [])
+
+-- .. and finds what keeps the journal calm, where no client is sent on more often than any.
+abbrev pub AskedRowsFindCalm : Type 0
+AskedRowsFindCalm =
+    (words : ℕ → ℕ → ℕ × ℕ) (scenario : Scenario) (first : Base) (others : List Base) (far sends : ℕ) (journal quiet after : Rows) (seat : Seat Player) (event : Event OrderLine) → IsCalmJournal words scenario journal → scenario.groups ≡ first ∷ others
+    → IsAskedSince words scenario first far sends journal quiet after → IsSeat (births as_nodes scenario) seat → IsInOrder (players words (births as_nodes scenario)) (quiet ++ after) seat.who event
+    → quiet_front (players words (births as_nodes scenario)) (quiet ++ after) ≡ quiet → AreNear scenario (chart_at far sends (players words (births as_nodes scenario)) (quiet ++ after)) first (quiet ++ after)
     → FindsCalm (chart_at far sends (players words (births as_nodes scenario)) (quiet ++ after)) (births as_nodes scenario) (quiet ++ after) seat event
-    × IsAskedSince words scenario first far sends journal quiet (after ++ row_of player_table seat (quiet ++ after) event ∷ [])
 
 -- While clients ask, the groups that have replicas are those that had any in the quiet.
 abbrev pub RequestsKeepGroups : Type 0

@@ -1,6 +1,7 @@
 //! All that holds while clients ask alone since a quiet front of a calm journal. Definitions and
 //! laws, no logic.
 ghost use Rattle.sc_calm_answers_law.specs.AskedSince.{
+  AskedRowsFindCalm,
   RequestsBeginAsked,
   RequestsKeepGroups,
   RequestsRestAgain,
@@ -9,7 +10,9 @@ ghost use Rattle.sc_calm_answers_law.specs.AskedSince.{
   SentNodesMayPump,
 };
 
-use crate::between_laws::{requests_begin, requests_keep_calm, requests_leave_young};
+use crate::between_laws::{
+    requests_begin, requests_find_calm, requests_leave_young, requests_stay,
+};
 use crate::kept_laws::chart_hints_rise;
 use crate::known_laws::{
     fronts_are_found, fronts_gone_agree, fronts_stay_in_turn, no_mail_for_strangers,
@@ -58,20 +61,26 @@ pub fn requests_begin_asked()
     no_mail_for_strangers();
 }
 
-/// Whatever comes while clients ask alone finds what keeps the journal calm, and leaves it so, where no
-/// client is sent on more often than any.
+/// Whatever comes in order while clients ask alone, which tells no order, leaves it so.
 pub fn requests_stay_asked()
     ensures { RequestsStayAsked }
 {
     valid_scenarios_are_bounded();
     fronts_are_found();
     slots_are_left();
-    sent_nodes_may_pump();
-    requests_keep_calm();
+    requests_stay();
     requests_leave_young();
     next_rows_are_sent();
     next_rows_rise();
     requests_keep_ballots();
+}
+
+/// .. and finds what keeps the journal calm, where no client is sent on more often than any.
+pub fn asked_rows_find_calm()
+    ensures { AskedRowsFindCalm }
+{
+    sent_nodes_may_pump();
+    requests_find_calm();
 }
 
 /// While clients ask alone, the groups that have replicas are those that had any in the quiet.
