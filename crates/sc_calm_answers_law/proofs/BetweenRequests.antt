@@ -50,7 +50,7 @@ use Rattle.sc_budget_law.specs.Frames.{Frame}
 use Rattle.sc_budget_law.specs.PlainClient.{IsBegun}
 use Rattle.sc_budget_law.specs.PlainMail.{IsPlainBody, IsPlainMail}
 use Rattle.sc_calm_answers_law.specs.RequestsFinding.{CountsAs}
-use Rattle.sc_calm_answers_law.specs.Rows.{AreNear, MayBegin, RequestRowsFindCalm}
+use Rattle.sc_calm_answers_law.specs.Rows.{NodesMayPump, AreNear, MayBegin, RequestRowsFindCalm}
 use Rattle.sc_calm_answers_law.specs.Starts.{QuietJournalsKnowOne, LawfulQuietJournalsCountOnce}
 use Rattle.sc_calm_answers_law.specs.Cuts.{QuietGroupsHaveCuts}
 use Rattle.sc_calm_answers_law.specs.Round.{StandingGroupsAreRound}
@@ -58,11 +58,10 @@ use Rattle.sc_calm_answers_law.specs.SettingCounting.{QuietChartsCount}
 use Rattle.sc_calm_answers_law.specs.Settings.{frames_after, QuietJournalsHaveFrames, QuietSettingsAreLinked}
 use Rattle.sc_calm_answers_law.specs.Journal.{IsCalmJournal, IsFront}
 use Rattle.sc_calm_answers_law.specs.Resting.{RestsAt}
-use Rattle.sc_calm_answers_law.proofs.JournalFronts.{fronts_of as front_before}
 use Rattle.sc_calm_answers_law.specs.KeptRising.{ChartHintsRise}
 use Rattle.sc_calm_answers_law.specs.Viewing.{ViewsAgree}
 use Rattle.sc_calm_answers_law.proofs.Delivering.{there_or}
-use Rattle.sc_calm_answers_law.specs.Requested.{setting_of, IsKnownFront, IsRequested, RequestsBegin, RequestsKeepCalm, RequestsLeaveYoung}
+use Rattle.sc_calm_answers_law.specs.Requested.{setting_of, IsKnownFront, IsRequested, RequestsBegin, RequestsStay, RequestsFindCalm, RequestsLeaveYoung}
 use Rattle.sc_calm_answers_law.proofs.Setting as quiet_of
 
 snoc_parts : {X : Type 0} (xs : List X) (last : X) (before : List X) (x : X) (after : List X) → xs ++ last ∷ [] ≡ before ++ x ∷ after → ((before ≡ xs) × (x ≡ last)) ⊎ ((rest : List X) × (xs ≡ before ++ x ∷ rest))
@@ -192,19 +191,9 @@ module _ (all_bounded : ValidScenariosAreBounded) (frames_law : QuietJournalsHav
             (slots_left words scenario rows frame.core.id node r timely (front_short words scenario journal rows calm front)
             (views.nodes scenario rows frame.core.id node (all_bounded scenario calm.valid) (known.homes rows front) ∙ e)).0
 
-    module _ (seat : Seat Player) (event : Event OrderLine) (next_front : IsFront journal (with_event (quiet ++ after) seat event)) (seated : IsSeat (births as_nodes scenario) seat) (in_order : IsInOrder s (quiet ++ after) seat.who event)
-        (own : quiet_front s (quiet ++ after) ≡ quiet) (near : AreNear scenario (chart_at far sent s (quiet ++ after)) first (quiet ++ after)) where
+    module _ (seat : Seat Player) (event : Event OrderLine) (seated : IsSeat (births as_nodes scenario) seat) (in_order : IsInOrder s (quiet ++ after) seat.who event) where
       abbrev row : Row Mail OrderLine
       row = row_of player_table seat rows event
-
-      counts : CountsAs set (chart_at far sent s (quiet ++ after))
-      counts =
-          let lawful = quiet_of.lawful all_bounded frames_law rise_law ask_law cuts_law round_law linked_law words scenario first others far sent journal quiet calm groups rests known in
-          let frames = quiet_of.frames all_bounded frames_law rise_law ask_law cuts_law round_law linked_law words scenario first others far sent journal quiet calm groups rests known in
-          let still = quiet_of.own_front words scenario quiet rests.calm in
-          other_ways (setting_at (replicas_after scenario quiet) (frames_after scenario quiet) (chart_at far sent s rows).ways) set (chart_at far sent s rows) refl refl
-          (λ group node. ap (λ q. far_at far (births as_nodes scenario) q group node) (still ∙ sym own))
-          (count_law words scenario first others quiet rows far sent (frames_after scenario quiet) rests.turn calm.valid groups lawful rests.is (known.homes quiet rests.front) frames rests.reach known.agree own rests.turns)
 
       orderly : IsOrderly s (quiet ++ after) row
       orderly = record { seat = seat; born = seated; event = event; row_is = refl; in_order = in_order }
@@ -215,23 +204,6 @@ module _ (all_bounded : ValidScenariosAreBounded) (frames_law : QuietJournalsHav
       linked_ : IsLinkedSetting set
       linked_ = quiet_of.linked all_bounded frames_law rise_law ask_law cuts_law round_law linked_law words scenario first others far sent journal quiet calm groups rests known
 
-      may : MayBegin words scenario set first quiet
-      may = record {
-        asking = quiet_of.asking all_bounded frames_law rise_law ask_law cuts_law round_law linked_law words scenario first others far sent journal quiet calm groups rests known;
-        waits = quiet_of.waits all_bounded frames_law rise_law ask_law cuts_law round_law linked_law words scenario first others far sent journal quiet calm groups rests known;
-        knows = know_one words scenario first quiet rests.is;
-        once = λ asks a. count_once words scenario set first others quiet asks.client calm.valid groups
-            (quiet_of.asking all_bounded frames_law rise_law ask_law cuts_law round_law linked_law words scenario first others far sent journal quiet calm groups rests known) rests.is
-            (quiet_of.lawful all_bounded frames_law rise_law ask_law cuts_law round_law linked_law words scenario first others far sent journal quiet calm groups rests known);
-      }
-
-      finds : FindsCalm (chart_at far sent s (quiet ++ after)) (births as_nodes scenario) (quiet ++ after) seat event
-      finds =
-          finds_law words scenario set (chart_at far sent s rows) first others quiet after seat event calm.valid groups is_setting_ linked_
-          (quiet_of.seated all_bounded frames_law rise_law ask_law cuts_law round_law linked_law words scenario first others far sent journal quiet calm groups rests known)
-          (quiet_of.reached all_bounded frames_law rise_law ask_law cuts_law round_law linked_law words scenario first others far sent journal quiet calm groups rests known)
-          counts may asked.requests asked.asking tidy far_off (known.pumps rows front) near seated in_order
-
       requests : AreRequests words scenario set quiet (after ++ row ∷ [])
       requests ahead back r e = elim (snoc_parts after row ahead r back e) [
         | inl p ↦ subst (λ a. IsTidy (quiet ++ a) × AreFarFromLast scenario set (quiet ++ a) × IsOrderly s (quiet ++ a) r) (sym p.0) (tidy, far_off, subst (IsOrderly s (quiet ++ after)) (sym p.1) orderly)
@@ -241,8 +213,35 @@ module _ (all_bounded : ValidScenariosAreBounded) (frames_law : QuietJournalsHav
       asking : IsAsking words scenario set first (quiet ++ (after ++ row ∷ []))
       asking = subst (IsAsking words scenario set first) (append_assoc quiet after (row ∷ [])) (go_on words scenario set first others (quiet ++ after) row calm.valid groups is_setting_ linked_ tidy far_off asked.asking orderly)
 
-      keeps : FindsCalm (chart_at far sent s (quiet ++ after)) (births as_nodes scenario) (quiet ++ after) seat event × IsRequested words scenario first far sent quiet (after ++ row ∷ [])
-      keeps = (finds, record { requests = requests; asking = asking })
+      stays : IsRequested words scenario first far sent quiet (after ++ row ∷ [])
+      stays = record { requests = requests; asking = asking }
+
+      module _ (own : quiet_front s (quiet ++ after) ≡ quiet) (pump : NodesMayPump scenario (quiet ++ after)) (near : AreNear scenario (chart_at far sent s (quiet ++ after)) first (quiet ++ after)) where
+        counts : CountsAs set (chart_at far sent s (quiet ++ after))
+        counts =
+            let lawful = quiet_of.lawful all_bounded frames_law rise_law ask_law cuts_law round_law linked_law words scenario first others far sent journal quiet calm groups rests known in
+            let frames = quiet_of.frames all_bounded frames_law rise_law ask_law cuts_law round_law linked_law words scenario first others far sent journal quiet calm groups rests known in
+            let still = quiet_of.own_front words scenario quiet rests.calm in
+            other_ways (setting_at (replicas_after scenario quiet) (frames_after scenario quiet) (chart_at far sent s rows).ways) set (chart_at far sent s rows) refl refl
+            (λ group node. ap (λ q. far_at far (births as_nodes scenario) q group node) (still ∙ sym own))
+            (count_law words scenario first others quiet rows far sent (frames_after scenario quiet) rests.turn calm.valid groups lawful rests.is (known.homes quiet rests.front) frames rests.reach known.agree own rests.turns)
+
+        may : MayBegin words scenario set first quiet
+        may = record {
+          asking = quiet_of.asking all_bounded frames_law rise_law ask_law cuts_law round_law linked_law words scenario first others far sent journal quiet calm groups rests known;
+          waits = quiet_of.waits all_bounded frames_law rise_law ask_law cuts_law round_law linked_law words scenario first others far sent journal quiet calm groups rests known;
+          knows = know_one words scenario first quiet rests.is;
+          once = λ asks a. count_once words scenario set first others quiet asks.client calm.valid groups
+              (quiet_of.asking all_bounded frames_law rise_law ask_law cuts_law round_law linked_law words scenario first others far sent journal quiet calm groups rests known) rests.is
+              (quiet_of.lawful all_bounded frames_law rise_law ask_law cuts_law round_law linked_law words scenario first others far sent journal quiet calm groups rests known);
+        }
+
+        finds : FindsCalm (chart_at far sent s (quiet ++ after)) (births as_nodes scenario) (quiet ++ after) seat event
+        finds =
+            finds_law words scenario set (chart_at far sent s rows) first others quiet after seat event calm.valid groups is_setting_ linked_
+            (quiet_of.seated all_bounded frames_law rise_law ask_law cuts_law round_law linked_law words scenario first others far sent journal quiet calm groups rests known)
+            (quiet_of.reached all_bounded frames_law rise_law ask_law cuts_law round_law linked_law words scenario first others far sent journal quiet calm groups rests known)
+            counts may asked.requests asked.asking tidy far_off pump near seated in_order
 
     -- no frame has the name of a group that was nowhere
     nowhere_apart : (name : Draw) → IsNowhere (births as_nodes scenario) quiet name → (frame : Frame) → Among frame set.frames → frame.core.id ≡ name → ⊥
@@ -268,9 +267,13 @@ pub requests_begin : ValidScenariosAreBounded → QuietJournalsHaveFrames → Ch
 requests_begin all_bounded frames_law rise_law ask_law cuts_law round_law linked_law views count_law know_one count_once go_on finds_law slots_left last_law words scenario first others far sent journal quiet calm groups rests known =
     begin all_bounded frames_law rise_law ask_law cuts_law round_law linked_law views count_law know_one count_once go_on finds_law slots_left last_law words scenario first others far sent journal quiet calm groups rests known
 
-pub requests_keep : ValidScenariosAreBounded → QuietJournalsHaveFrames → ChartHintsRise → QuietJournalsAsk → QuietGroupsHaveCuts → StandingGroupsAreRound → QuietSettingsAreLinked → ViewsAgree → QuietChartsCount → QuietJournalsKnowOne → LawfulQuietJournalsCountOnce → RequestsGoOn → RequestRowsFindCalm → SlotsAreLeft → ReplicasLast → RequestsKeepCalm
-requests_keep all_bounded frames_law rise_law ask_law cuts_law round_law linked_law views count_law know_one count_once go_on finds_law slots_left last_law words scenario first others far sent journal quiet after seat event calm groups rests known asked next_front seated in_order own near =
-    keeps all_bounded frames_law rise_law ask_law cuts_law round_law linked_law views count_law know_one count_once go_on finds_law slots_left last_law words scenario first others far sent journal quiet calm groups rests known after (front_before journal (quiet ++ after) (row_of player_table seat (quiet ++ after) event ∷ []) next_front) asked seat event next_front seated in_order own near
+pub requests_stay : ValidScenariosAreBounded → QuietJournalsHaveFrames → ChartHintsRise → QuietJournalsAsk → QuietGroupsHaveCuts → StandingGroupsAreRound → QuietSettingsAreLinked → ViewsAgree → QuietChartsCount → QuietJournalsKnowOne → LawfulQuietJournalsCountOnce → RequestsGoOn → RequestRowsFindCalm → SlotsAreLeft → ReplicasLast → RequestsStay
+requests_stay all_bounded frames_law rise_law ask_law cuts_law round_law linked_law views count_law know_one count_once go_on finds_law slots_left last_law words scenario first others far sent journal quiet after seat event calm groups rests known asked front seated in_order =
+    stays all_bounded frames_law rise_law ask_law cuts_law round_law linked_law views count_law know_one count_once go_on finds_law slots_left last_law words scenario first others far sent journal quiet calm groups rests known after front asked seat event seated in_order
+
+pub requests_find : ValidScenariosAreBounded → QuietJournalsHaveFrames → ChartHintsRise → QuietJournalsAsk → QuietGroupsHaveCuts → StandingGroupsAreRound → QuietSettingsAreLinked → ViewsAgree → QuietChartsCount → QuietJournalsKnowOne → LawfulQuietJournalsCountOnce → RequestsGoOn → RequestRowsFindCalm → SlotsAreLeft → ReplicasLast → RequestsFindCalm
+requests_find all_bounded frames_law rise_law ask_law cuts_law round_law linked_law views count_law know_one count_once go_on finds_law slots_left last_law words scenario first others far sent journal quiet after seat event calm groups rests known asked front seated in_order own pump near =
+    finds all_bounded frames_law rise_law ask_law cuts_law round_law linked_law views count_law know_one count_once go_on finds_law slots_left last_law words scenario first others far sent journal quiet calm groups rests known after front asked seat event seated in_order own pump near
 
 pub requests_leave_young : ValidScenariosAreBounded → QuietJournalsHaveFrames → ChartHintsRise → QuietJournalsAsk → QuietGroupsHaveCuts → StandingGroupsAreRound → QuietSettingsAreLinked → ViewsAgree → QuietChartsCount → QuietJournalsKnowOne → LawfulQuietJournalsCountOnce → RequestsGoOn → RequestRowsFindCalm → SlotsAreLeft → ReplicasLast → RequestsLeaveYoung
 requests_leave_young all_bounded frames_law rise_law ask_law cuts_law round_law linked_law views count_law know_one count_once go_on finds_law slots_left last_law words scenario first others far sent journal quiet after base calm groups rests front known asked among =

@@ -6,6 +6,8 @@ pub mod Along
 mod Answered
 pub mod Arcs
 pub mod Asked
+pub mod AskedFronts
+pub mod AskedSince
 pub mod Ballots
 pub mod Bearing
 pub mod BearingLogs

@@ -2,6 +2,7 @@ pub mod Above
 pub mod Along
 pub mod Answered
 pub mod Arcs
+pub mod AskedSince
 pub mod Bearing
 pub mod Begins
 pub mod Beside

@@ -18,7 +18,7 @@ use Rattle.sc_sound.specs.Players.{Player, player_table, births, as_nodes}
 use Rattle.sc_calm_law.specs.Charts.{players}
 use Rattle.sc_calm_law.specs.Keeping.{FindsCalm}
 use Rattle.sc_calm_law.specs.Totals.{Rows}
-use Rattle.sc_calm_rows_law.specs.Turns.{IsSeat, with_event}
+use Rattle.sc_calm_rows_law.specs.Turns.{IsSeat}
 use Rattle.sc_calm_answers_law.specs.SentJournals.{IsQuietWhileYoung}
 use Rattle.sc_calm_charts_law.specs.Charting.{chart_at}
 use Rattle.sc_calm_charts_law.specs.Fronts.{quiet_front}
@@ -36,13 +36,12 @@ use Rattle.sc_calm_answers_law.specs.Resting.{RestsAt}
 abbrev pub setting_of : (ℕ → ℕ → ℕ × ℕ) → Scenario → ℕ → ℕ → Rows → Setting
 setting_of words scenario far sent quiet = setting_at (replicas_after scenario quiet) (frames_after scenario quiet) (chart_at far sent (players words (births as_nodes scenario)) quiet).ways
 
--- What else is known of a calm journal and one of its quiet fronts: there the entries are the logs and make one map, and replicas that are gone agree where; replicas are at nodes of the scenario, and may pump, after all first rows; first members are players; and ways may be longer by one than orders were told.
+-- What else is known of a calm journal and one of its quiet fronts: there the entries are the logs and make one map, and replicas that are gone agree where; replicas are at nodes of the scenario after all first rows; first members are players; and ways may be longer by one than orders were told.
 pub record IsKnownFront (words : ℕ → ℕ → ℕ × ℕ) (scenario : Scenario) (journal quiet : Rows) (far : ℕ) : Type 0 where
   pub one : IsOneMap (world_at as_nodes scenario.groups quiet)
   pub logs : AreItsLogs as_nodes scenario.groups quiet
   pub agree : GoneAgree (replicas_after scenario quiet)
   pub homes : (rows : Rows) → IsFront journal rows → AreAtNodes scenario rows
-  pub pumps : (rows : Rows) → IsFront journal rows → NodesMayPump scenario rows
   pub born : (base : Base) → Among base (groups_at as_nodes scenario.groups journal) → (who : ℕ) → is_member base.core.members who ≡ true → is_born (players words (births as_nodes scenario)) who ≡ true
   pub room : orders quiet + 1 ≤ far
 
@@ -57,15 +56,21 @@ RequestsBegin =
     (words : ℕ → ℕ → ℕ × ℕ) (scenario : Scenario) (first : Base) (others : List Base) (far sent : ℕ) (journal quiet : Rows) → IsCalmJournal words scenario journal → scenario.groups ≡ first ∷ others → RestsAt words scenario first journal quiet
     → IsKnownFront words scenario journal quiet far → IsRequested words scenario first far sent quiet [] × NobodyWaits scenario first quiet
 
--- .. and whatever comes next in order, which tells no order, finds what keeps the journal calm, and leaves it so.
-abbrev pub RequestsKeepCalm : Type 0
-RequestsKeepCalm =
+-- .. and whatever comes next in order, which tells no order, leaves it so ..
+abbrev pub RequestsStay : Type 0
+RequestsStay =
     (words : ℕ → ℕ → ℕ × ℕ) (scenario : Scenario) (first : Base) (others : List Base) (far sent : ℕ) (journal quiet after : Rows) (seat : Seat Player) (event : Event OrderLine) → IsCalmJournal words scenario journal → scenario.groups ≡ first ∷ others
-    → RestsAt words scenario first journal quiet → IsKnownFront words scenario journal quiet far → IsRequested words scenario first far sent quiet after → IsFront journal (with_event (quiet ++ after) seat event) → IsSeat (births as_nodes scenario) seat
+    → RestsAt words scenario first journal quiet → IsKnownFront words scenario journal quiet far → IsRequested words scenario first far sent quiet after → IsFront journal (quiet ++ after) → IsSeat (births as_nodes scenario) seat
+    → IsInOrder (players words (births as_nodes scenario)) (quiet ++ after) seat.who event → IsRequested words scenario first far sent quiet (after ++ row_of player_table seat (quiet ++ after) event ∷ [])
+
+-- .. and finds what keeps the journal calm, where each replica may pump and no client is sent on more often than any.
+abbrev pub RequestsFindCalm : Type 0
+RequestsFindCalm =
+    (words : ℕ → ℕ → ℕ × ℕ) (scenario : Scenario) (first : Base) (others : List Base) (far sent : ℕ) (journal quiet after : Rows) (seat : Seat Player) (event : Event OrderLine) → IsCalmJournal words scenario journal → scenario.groups ≡ first ∷ others
+    → RestsAt words scenario first journal quiet → IsKnownFront words scenario journal quiet far → IsRequested words scenario first far sent quiet after → IsFront journal (quiet ++ after) → IsSeat (births as_nodes scenario) seat
     → IsInOrder (players words (births as_nodes scenario)) (quiet ++ after) seat.who event → quiet_front (players words (births as_nodes scenario)) (quiet ++ after) ≡ quiet
-    → AreNear scenario (chart_at far sent (players words (births as_nodes scenario)) (quiet ++ after)) first (quiet ++ after)
+    → NodesMayPump scenario (quiet ++ after) → AreNear scenario (chart_at far sent (players words (births as_nodes scenario)) (quiet ++ after)) first (quiet ++ after)
     → FindsCalm (chart_at far sent (players words (births as_nodes scenario)) (quiet ++ after)) (births as_nodes scenario) (quiet ++ after) seat event
-    × IsRequested words scenario first far sent quiet (after ++ row_of player_table seat (quiet ++ after) event ∷ [])
 
 -- While clients ask, no first member of a group that has no replica of it yet is sent anything of it.
 abbrev pub RequestsLeaveYoung : Type 0

@@ -2,8 +2,9 @@
 //! no logic.
 ghost use Rattle.sc_calm_answers_law.specs.Requested.{
   RequestsBegin,
-  RequestsKeepCalm,
+  RequestsFindCalm,
   RequestsLeaveYoung,
+  RequestsStay,
 };
 
 use crate::kept_laws::{chart_hints_rise, views_agree};
@@ -39,9 +40,31 @@ pub fn requests_begin()
     replicas_last();
 }
 
-/// Whatever comes while clients ask alone finds what keeps the journal calm, and leaves it so.
-pub fn requests_keep_calm()
-    ensures { RequestsKeepCalm }
+/// Whatever comes in order while clients ask alone, which tells no order, leaves it so.
+pub fn requests_stay()
+    ensures { RequestsStay }
+{
+    valid_scenarios_are_bounded();
+    quiet_journals_have_frames();
+    chart_hints_rise();
+    quiet_journals_ask();
+    quiet_groups_have_cuts();
+    standing_groups_are_round();
+    quiet_settings_are_linked();
+    views_agree();
+    quiet_charts_count();
+    quiet_journals_know_one();
+    lawful_quiet_journals_count_once();
+    requests_go_on();
+    request_rows_find_calm();
+    slots_are_left();
+    replicas_last();
+}
+
+/// .. and finds what keeps the journal calm, where each replica may pump and no client is sent on
+/// more often than any.
+pub fn requests_find_calm()
+    ensures { RequestsFindCalm }
 {
     valid_scenarios_are_bounded();
     quiet_journals_have_frames();

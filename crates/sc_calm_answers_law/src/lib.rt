@@ -10,9 +10,16 @@ pub use answer_laws::{
     quiet_journals_begin,
 };
 
+mod asked_laws;
+
+pub use asked_laws::{
+    asked_rows_find_calm, requests_begin_asked, requests_keep_groups, requests_rest_again,
+    requests_stay_asked, resting_fronts_are_known, sent_nodes_may_pump,
+};
+
 mod between_laws;
 
-pub use between_laws::{requests_begin, requests_keep_calm, requests_leave_young};
+pub use between_laws::{requests_begin, requests_find_calm, requests_leave_young, requests_stay};
 
 mod finding_laws;
 

@@ -1,0 +1,84 @@
+-- All that holds while clients ask alone since a quiet front of a calm journal: it begins so, each row keeps it, and the journal rests again once it is quiet.
+use Rattle.std.specs.Prelude.{◌≡◌, ℕ, ◌+◌, ◌≤◌, true, List, [], ◌∷◌, ◌++◌}
+use Rattle.sc_base.specs.Among.{Among, Each}
+use Rattle.sc_base.specs.declared.names.Draw.{Draw}
+use Rattle.sc_cmd.specs.declared.cores.Base.{Base}
+use Rattle.sc_cmd.specs.declared.orders.OrderLine.{OrderLine}
+use Rattle.sc_actor.specs.Mail.{mails}
+use Rattle.sc_actor.specs.System.{row_of}
+use Rattle.sc_actor.specs.Walk.{is_quiet}
+use Rattle.sc_actor.specs.declared.actors.Seat.{Seat}
+use Rattle.sc_actor.specs.declared.rows.Event.{Event}
+use Rattle.sc_orderly_law.specs.Orderly.{IsInOrder, orders}
+use Rattle.sc_scenario.specs.declared.scenarios.Scenario.{Scenario}
+use Rattle.sc_sound.specs.GroupsOf.{groups_at}
+use Rattle.sc_sound.specs.Players.{Player, player_table, births, as_nodes}
+use Rattle.sc_calm_law.specs.Charts.{players}
+use Rattle.sc_calm_law.specs.Keeping.{FindsCalm}
+use Rattle.sc_calm_law.specs.Totals.{Rows}
+use Rattle.sc_calm_rows_law.specs.Turns.{IsSeat, with_event}
+use Rattle.sc_calm_scenes_law.specs.Fresh.{IsThere}
+use Rattle.sc_calm_scenes_law.specs.Quiet.{GoesToActor}
+use Rattle.sc_calm_charts_law.specs.Charting.{chart_at}
+use Rattle.sc_calm_charts_law.specs.Fronts.{quiet_front}
+use Rattle.sc_calm_logs_law.specs.Logged.{logged_sets}
+use Rattle.sc_budget_law.specs.AskingLines.{NobodyWaits}
+use Rattle.sc_calm_answers_law.specs.Tellers.{tellers_at}
+use Rattle.sc_calm_answers_law.specs.RiseRising.{IsRisingOn}
+use Rattle.sc_calm_answers_law.specs.RiseRounds.{IsBallotSince}
+use Rattle.sc_calm_answers_law.specs.Rows.{NodesMayPump, AreNear}
+use Rattle.sc_calm_answers_law.specs.Journal.{IsCalmJournal, IsFront, AreSent}
+use Rattle.sc_calm_answers_law.specs.Resting.{RestsAt}
+use Rattle.sc_calm_answers_law.specs.Requested.{IsKnownFront, IsRequested}
+
+-- A quiet front that rests is known so, where ways may be longer by one than orders were told.
+abbrev pub RestingFrontsAreKnown : Type 0
+RestingFrontsAreKnown =
+    (words : ℕ → ℕ → ℕ × ℕ) (scenario : Scenario) (first : Base) (journal quiet : Rows) (far : ℕ) → IsCalmJournal words scenario journal → RestsAt words scenario first journal quiet → orders quiet + 1 ≤ far → IsKnownFront words scenario journal quiet far
+
+-- In a front of a calm journal whose groups are well led each replica of each node may pump.
+abbrev pub SentNodesMayPump : Type 0
+SentNodesMayPump = (words : ℕ → ℕ → ℕ × ℕ) (scenario : Scenario) (journal rows : Rows) → IsCalmJournal words scenario journal → IsFront journal rows → AreSent words scenario journal rows → NodesMayPump scenario rows
+
+-- Since a quiet front that rests, and is known, clients asked alone: players and mail are as requests leave them, all groups are well led, what becomes of those that left a group is as hints rise by, and each group keeps its ballot.
+pub record IsAskedSince (words : ℕ → ℕ → ℕ × ℕ) (scenario : Scenario) (first : Base) (far sends : ℕ) (journal quiet after : Rows) : Type 0 where
+  pub rests : RestsAt words scenario first journal quiet
+  pub known : IsKnownFront words scenario journal quiet far
+  pub front : IsFront journal (quiet ++ after)
+  pub requested : IsRequested words scenario first far sends quiet after
+  pub sent : AreSent words scenario journal (quiet ++ after)
+  pub rising : (base : Base) (among : Among base (groups_at as_nodes scenario.groups journal)) → IsRisingOn (logged_sets as_nodes base journal) (tellers_at as_nodes scenario base journal) words (births as_nodes scenario) (quiet ++ after) base (sent base among).course
+  pub ballots : (base : Base) (among : Among base (groups_at as_nodes scenario.groups journal)) → IsBallotSince (rests.sent base among).course (sent base among).course
+
+-- So it is with nothing behind, and no request waits ..
+abbrev pub RequestsBeginAsked : Type 0
+RequestsBeginAsked =
+    (words : ℕ → ℕ → ℕ × ℕ) (scenario : Scenario) (first : Base) (others : List Base) (far sends : ℕ) (journal quiet : Rows) → IsCalmJournal words scenario journal → scenario.groups ≡ first ∷ others → RestsAt words scenario first journal quiet → orders quiet + 1 ≤ far
+    → IsAskedSince words scenario first far sends journal quiet [] × NobodyWaits scenario first quiet
+
+-- .. and whatever comes next in order, which tells no order, leaves it so ..
+abbrev pub RequestsStayAsked : Type 0
+RequestsStayAsked =
+    (words : ℕ → ℕ → ℕ × ℕ) (scenario : Scenario) (first : Base) (others : List Base) (far sends : ℕ) (journal quiet after : Rows) (seat : Seat Player) (event : Event OrderLine) → IsCalmJournal words scenario journal → scenario.groups ≡ first ∷ others
+    → IsAskedSince words scenario first far sends journal quiet after → IsFront journal (with_event (quiet ++ after) seat event) → IsSeat (births as_nodes scenario) seat
+    → IsInOrder (players words (births as_nodes scenario)) (quiet ++ after) seat.who event → IsAskedSince words scenario first far sends journal quiet (after ++ row_of player_table seat (quiet ++ after) event ∷ [])
+
+-- .. and finds what keeps the journal calm, where no client is sent on more often than any.
+abbrev pub AskedRowsFindCalm : Type 0
+AskedRowsFindCalm =
+    (words : ℕ → ℕ → ℕ × ℕ) (scenario : Scenario) (first : Base) (others : List Base) (far sends : ℕ) (journal quiet after : Rows) (seat : Seat Player) (event : Event OrderLine) → IsCalmJournal words scenario journal → scenario.groups ≡ first ∷ others
+    → IsAskedSince words scenario first far sends journal quiet after → IsSeat (births as_nodes scenario) seat → IsInOrder (players words (births as_nodes scenario)) (quiet ++ after) seat.who event
+    → quiet_front (players words (births as_nodes scenario)) (quiet ++ after) ≡ quiet → AreNear scenario (chart_at far sends (players words (births as_nodes scenario)) (quiet ++ after)) first (quiet ++ after)
+    → FindsCalm (chart_at far sends (players words (births as_nodes scenario)) (quiet ++ after)) (births as_nodes scenario) (quiet ++ after) seat event
+
+-- While clients ask, the groups that have replicas are those that had any in the quiet.
+abbrev pub RequestsKeepGroups : Type 0
+RequestsKeepGroups =
+    (words : ℕ → ℕ → ℕ × ℕ) (scenario : Scenario) (first : Base) (others : List Base) (far sends : ℕ) (journal quiet after : Rows) → IsCalmJournal words scenario journal → scenario.groups ≡ first ∷ others → IsAskedSince words scenario first far sends journal quiet after → (name : Draw)
+    → (IsThere (births as_nodes scenario) (quiet ++ after) name → IsThere (births as_nodes scenario) quiet name) × (IsThere (births as_nodes scenario) quiet name → IsThere (births as_nodes scenario) (quiet ++ after) name)
+
+-- Where it is quiet again, and errands went to players, the journal rests again.
+abbrev pub RequestsRestAgain : Type 0
+RequestsRestAgain =
+    (words : ℕ → ℕ → ℕ × ℕ) (scenario : Scenario) (first : Base) (others : List Base) (far sends : ℕ) (journal quiet after : Rows) → IsCalmJournal words scenario journal → scenario.groups ≡ first ∷ others → IsAskedSince words scenario first far sends journal quiet after
+    → is_quiet (players words (births as_nodes scenario)) (quiet ++ after) ≡ true → Each (GoesToActor words (births as_nodes scenario)) (mails (quiet ++ after)) → RestsAt words scenario first journal (quiet ++ after)
