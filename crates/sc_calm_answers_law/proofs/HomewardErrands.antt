@@ -74,7 +74,7 @@ to_is from to (Told order result) entry e = no_pair entry e
 abbrev IsFor : Stage → ℕ → Type 0
 IsFor stage to = ((deal : Deal) × (stage ≡ Asks deal to)) ⊎ ((group : Draw) × Among (group, to) (leads_of stage))
 
-leads_to : (group : Draw) (one other : Pair) → one ≡ other → (group, to_of one.1) ≡ (group, to_of other.1)
+leads_to : (group : Draw) (one other : Pair) → one ≡ other → ◌≡◌ {A = Draw × ℕ} (group, to_of one.1) (group, to_of other.1)
 leads_to group one other e = ap (λ (x : Pair). (group, to_of x.1)) e
 
 errand_for_in : (stage : Stage) (t : Draw × Errand) → Among t (tokens errands_of (parties_of stage)) → IsFor stage (to_of t.1)
