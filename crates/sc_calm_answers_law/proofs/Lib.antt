@@ -66,6 +66,9 @@ pub mod HomeBearing
 pub mod HomeBringing
 pub mod HomeNaming
 pub mod HomeNodes
+mod Homeward
+mod HomewardAsking
+mod HomewardErrands
 pub mod JournalFronts
 pub mod Keeping
 pub mod KeptAll
@@ -188,6 +191,7 @@ pub mod Still
 pub mod Strangers
 pub mod Strays
 mod Taken
+mod Takers
 pub mod Taking
 pub mod Tasks
 pub mod Taught

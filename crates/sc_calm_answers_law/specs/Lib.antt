@@ -21,6 +21,7 @@ pub mod Given
 pub mod Guided
 pub mod Hearing
 pub mod Hinting
+pub mod Homeward
 pub mod Journal
 pub mod JournalUnder
 pub mod KeptAsking
@@ -70,6 +71,7 @@ pub mod Short
 pub mod Starts
 pub mod States
 pub mod Strangers
+pub mod Takers
 pub mod Tasks
 pub mod Taught
 pub mod Tellers

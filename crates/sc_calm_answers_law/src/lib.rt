@@ -40,6 +40,13 @@ mod front_laws;
 
 pub use front_laws::{journals_begin_resting, orders_leave_resting};
 
+mod homeward_laws;
+
+pub use homeward_laws::{
+    homeward_goes_to_actors, ordered_errands_go_home, refusals_go_home, requests_send_no_errands,
+    takers_are_nodes,
+};
+
 mod journal_laws;
 
 pub use journal_laws::fronts_of_fronts;
