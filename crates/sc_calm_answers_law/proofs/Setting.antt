@@ -19,7 +19,7 @@ use Rattle.sc_calm_law.specs.Quiet.{StandsQuiet}
 use Rattle.sc_calm_law.specs.Totals.{Rows}
 use Rattle.sc_calm_charts_law.specs.Charting.{chart_at}
 use Rattle.sc_calm_charts_law.specs.Fronts.{quiet_front}
-use Rattle.sc_calm_charts_law.proofs.Segments.{front_whole}
+use Rattle.sc_calm_answers_law.proofs.Segments.{front_whole}
 use Rattle.sc_budget_law.specs.Asking.{IsAsking}
 use Rattle.sc_budget_law.specs.AskingLines.{AreRequests, NobodyWaits, AreSeated}
 use Rattle.sc_budget_law.specs.AskingQuiet.{replicas_after, setting_at, DoHintsRise, AreFramesOf, QuietJournalsAsk}

@@ -28,7 +28,7 @@ use Rattle.sc_calm_law.specs.Charts.{players}
 use Rattle.sc_calm_law.specs.Totals.{Rows}
 use Rattle.sc_calm_answers_law.proofs.Begun.{any_push}
 
-as_player : ClientState → Player
+abbrev as_player : ClientState → Player
 as_player client = Client client
 
 module _ (words : ℕ → ℕ → ℕ × ℕ) (seats : List (Seat Player)) (who me : ℕ) (requests : List Op) (first : Route) where

@@ -88,3 +88,4 @@ pub mod Viewing
 pub mod Votes
 pub mod Works
 pub mod Young
+pub mod Tmp

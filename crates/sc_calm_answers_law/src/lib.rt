@@ -143,3 +143,7 @@ pub use request_laws::{
     quiet_journals_have_no_mail, quiet_journals_know_one, quiet_leaders_are_reached,
     request_rows_find_calm, requests_are_taken_calmly, tokens_never_rise, tokens_stay,
 };
+
+mod tmp_laws;
+
+pub use tmp_laws::{tmp_one, tmp_two};

@@ -1,4 +1,4 @@
 mod Ends
 mod Following
-mod Fronts
+pub mod Fronts
 pub mod Names
