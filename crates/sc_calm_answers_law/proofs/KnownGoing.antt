@@ -37,7 +37,7 @@ use Rattle.sc_calm_answers_law.proofs.KnownFronts.{IsClient, replayed_client, cl
 
 -- ---- lists
 
-once_among : (group : Draw) (names : List Draw) → StandsOnce group names → Among group names
+pub once_among : (group : Draw) (names : List Draw) → StandsOnce group names → Among group names
 once_among group [] once = absurd once
 once_among group (name ∷ names) (inl here) = inl here.0
 once_among group (name ∷ names) (inr more) = inr (once_among group names more.1)

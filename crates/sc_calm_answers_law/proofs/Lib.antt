@@ -105,11 +105,16 @@ pub mod Logs
 pub mod Meeting
 pub mod Missed
 pub mod Moving
+pub mod NameLists
 mod NamedOnce
 pub mod Names
+pub mod NamesStay
+pub mod Near
 pub mod Needs
 pub mod Newest
 pub mod Nodes
+pub mod NoneWaiting
+pub mod NoneWaits
 pub mod Noted
 pub mod Numbers
 pub mod Offered

@@ -35,7 +35,9 @@ pub mod Lines
 pub mod Links
 pub mod Meeting
 pub mod Missed
+pub mod Near
 pub mod New
+pub mod NoneWaits
 pub mod Noted
 pub mod Offered
 pub mod OneLog
