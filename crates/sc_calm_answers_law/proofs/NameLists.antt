@@ -69,31 +69,33 @@ module _ (names : List Draw) (replicas : List ReplicaState) (turn : Draw → ℕ
   abbrev from : ℕ → Draw → Bool
   from least name = is_some (went_in name replicas) && nat_le least (turn name)
 
+  -- one that is gone so is later than one that went before it
+  from_less : (least most : ℕ) → least ≤ most → (x : Draw) → from most x ≡ true → from least x ≡ true
+  from_less least most low x t =
+      let parts = and_parts (is_some (went_in x replicas)) (nat_le most (turn x)) t in
+      let high = leb-true most (turn x) parts.1 in
+      and_from (is_some (went_in x replicas)) (nat_le least (turn x)) parts.0 (le-leb least (turn x) (omega (arith, high, low)))
+
+  from_off : (group : Draw) → from (turn group + 1) group ≡ false
+  from_off group = elim (cases_Bool (from (turn group + 1) group)) [
+    | inl t ↦ (let high = leb-true (turn group + 1) (turn group) (and_parts (is_some (went_in group replicas)) (nat_le (turn group + 1) (turn group)) t).1 in absurd (omega (arith, high)))
+    | inr f ↦ f
+  ]
+
   ends_from : (n : ℕ) (group : Draw) (least : ℕ) → (is_some (went_in group replicas) ≡ true → least ≤ turn group) → ends_by n replicas group ≤ length (filter (from least) names)
   ends_from zero group least later = omega arith
-  ends_from (suc n) group least later = by (went_in group replicas) refl
+  ends_from (suc n) group least later = by (went_in group replicas) refl (λ other low more. ends_from n other low more)
     where
-      by : (o : Option Route) → went_in group replicas ≡ o → elim o [ None ↦ 0 | Some into ↦ 1 + ends_by n replicas into.group ] ≤ length (filter (from least) names)
-      by None e = omega arith
-      by (Some into) e =
+      by : (o : Option Route) → went_in group replicas ≡ o → ((other : Draw) (low : ℕ) → (is_some (went_in other replicas) ≡ true → low ≤ turn other) → ends_by n replicas other ≤ length (filter (from low) names))
+          → elim o [ None ↦ 0 | Some into ↦ 1 + ends_by n replicas into.group ] ≤ length (filter (from least) names)
+      by None e rest = omega arith
+      by (Some into) e rest =
           let g = goes group into e in
           let low : least ≤ turn group = later (ap is_some e) in
-          let rest : ends_by n replicas into.group ≤ length (filter (from (turn group + 1)) names) = ends_from n into.group (turn group + 1) (λ gone. (let up = g.1 gone in omega (arith, up))) in
-          let one = fewer_by (from (turn group + 1)) (from least) earlier names group (named group into e) off (and_from (is_some (went_in group replicas)) (nat_le least (turn group)) (ap is_some e) (le-leb least (turn group) low)) in
-          omega (arith, rest, one)
-        where
-          earlier : (x : Draw) → from (turn group + 1) x ≡ true → from least x ≡ true
-          earlier x t =
-              let parts = and_parts (is_some (went_in x replicas)) (nat_le (turn group + 1) (turn x)) t in
-              let high = leb-true (turn group + 1) (turn x) parts.1 in
-              let low : least ≤ turn group = later (ap is_some e) in
-              and_from (is_some (went_in x replicas)) (nat_le least (turn x)) parts.0 (le-leb least (turn x) (omega (arith, high, low)))
-
-          off : from (turn group + 1) group ≡ false
-          off = elim (cases_Bool (from (turn group + 1) group)) [
-            | inl t ↦ (let high = leb-true (turn group + 1) (turn group) (and_parts (is_some (went_in group replicas)) (nat_le (turn group + 1) (turn group)) t).1 in absurd (omega (arith, high)))
-            | inr f ↦ f
-          ]
+          let behind : ends_by n replicas into.group ≤ length (filter (from (turn group + 1)) names) = rest into.group (turn group + 1) (λ gone. (let up = g.1 gone in omega (arith, up))) in
+          let one = fewer_by (from (turn group + 1)) (from least) (from_less least (turn group + 1) (omega (arith, low))) names group (named group into e) (from_off group)
+          (and_from (is_some (went_in group replicas)) (nat_le least (turn group)) (ap is_some e) (le-leb least (turn group) low)) in
+          omega (arith, behind, one)
 
   -- as many ends lead there at most as groups are gone
   ends_few : (n : ℕ) (group : Draw) → ends_by n replicas group ≤ length (filter (λ name. is_some (went_in name replicas)) names)

@@ -1,10 +1,11 @@
 -- Names of groups are few: those of the scenario, and one more for each order at most.
-use Rattle.std.proofs.Common.{◌≡◌, ℕ, ◌+◌, ◌≤◌, ◌||◌, Bool, true, false, true≢false, List, [], ◌∷◌, ◌++◌, ◌⊎◌, length, map, take, Option, Some, None, inl, inr, refl, sym, ◌∙◌, ap, subst, arith, append_assoc, append-nil, length-append}
+use Rattle.std.proofs.Common.{◌≡◌, ℕ, ◌+◌, ◌≤◌, ◌||◌, Bool, true, false, true≢false, cond, List, [], ◌∷◌, ◌++◌, ◌⊎◌, length, map, take, Option, Some, None, inl, inr, refl, sym, ◌∙◌, ap, subst, arith, append_assoc, append-nil, length-append}
 use Rattle.std.specs.List.{list_any}
 use Rattle.std.specs.Prelude.{is_some}
 use Rattle.std.proofs.lemmas.Bool.{cases_Bool}
 use Rattle.std.proofs.lemmas.List.{length-map, take_all}
 use Rattle.sc_base.specs.Among.{Among, Each}
+use Rattle.sc_base.specs.Same.{same_draw}
 use Rattle.sc_base.specs.declared.names.Draw.{Draw}
 use Rattle.sc_cmd.specs.declared.cores.Base.{Base}
 use Rattle.sc_cmd.specs.declared.links.Route.{Route}
@@ -23,7 +24,7 @@ use Rattle.sc_scenario.specs.declared.scenarios.Scenario.{Scenario}
 use Rattle.sc_node_table.specs.Node.{replica_of}
 use Rattle.sc_node_table.specs.Replica.{ReplicaState, name_of}
 use Rattle.sc_paxos_law.proofs.Among.{Among-left, Among-right}
-use Rattle.sc_paxos_words.proofs.ListLemmas.{Each-among, Each-passes}
+use Rattle.sc_paxos_words.proofs.ListLemmas.{Each-among, Each-append, Each-passes}
 use Rattle.sc_sound.specs.Players.{Player, player_table, births, as_nodes}
 use Rattle.sc_whole_law.proofs.Seats.{all_apart}
 use Rattle.sc_calm_law.specs.Parties.{StandsOnce}
@@ -48,18 +49,18 @@ use Rattle.sc_calm_answers_law.proofs.OrderedKnown.{named_there}
 
 -- ---- lists
 
--- what holds of names and of more holds of both
-both_names : (P : Draw → Type 0) (names more : List Draw) → Each P names → Each P more → Each P (with_names names more)
-both_names P names [] old new = old
-both_names P names (name ∷ more) old new = both_names P _ more (by (list_any _ names)) new.1
+-- what holds of names and of one more holds of both
+one_more : (P : Draw → Type 0) (names : List Draw) (name : Draw) → Each P names → P name → Each P (cond (list_any (λ other. same_draw other name) names) names (names ++ name ∷ []))
+one_more P names name old new = by (list_any (λ other. same_draw other name) names)
   where
-    put : (xs : List Draw) → Each P xs → Each P (xs ++ name ∷ [])
-    put [] each = (new.0, tt)
-    put (x ∷ xs) each = (each.0, put xs each.1)
-
     by : (b : Bool) → Each P (cond b names (names ++ name ∷ []))
     by true = old
-    by false = put names old
+    by false = Each-append P names (name ∷ []) old (new, tt)
+
+-- .. and of more
+both_names : (P : Draw → Type 0) (names more : List Draw) → Each P names → Each P more → Each P (with_names names more)
+both_names P names [] old new = old
+both_names P names (name ∷ more) old new = both_names P (cond (list_any (λ other. same_draw other name) names) names (names ++ name ∷ [])) more (one_more P names name old new.0) new.1
 
 -- ---- groups that are led
 
@@ -100,16 +101,24 @@ module _ (all_bounded : ValidScenariosAreBounded) (led_once : LedStandOnce) (fou
   born_led : Each (λ name. is_led all [] name ≡ true) (names_at all [])
   born_led = both_names (λ name. is_led all [] name ≡ true) [] (led_names all []) tt (Each-passes (λ name. is_led all [] name) (map name_of (all_replicas all [])))
 
+  -- the names of the scenario's groups
+  abbrev ids : List Draw
+  ids = map (λ (base : Base). base.core.id) scenario.groups
+
+  is_led_born : (group : Draw) → Among group (names_at all []) → is_led all [] group ≡ true
+  is_led_born group a = Each-among (λ (name : Draw). is_led all [] name ≡ true) (names_at all []) group born_led a
+
+  of_scenario : (group : Draw) → Among group (names_at all []) → Among group ids
+  of_scenario group a =
+      let found = found_law words scenario journal [] calm (record { more = journal; is = refl }) in
+      let there = there_led [] group (is_led_born group a) in
+      let of = found.replicas group there.0 there.1 (found.views group there.0 ∙ there.2) in
+      subst (λ n. Among n ids) of.named (map_among (λ (base : Base). base.core.id) scenario.groups of.base of.among)
+
   born_few : HasFewNames scenario []
   born_few =
-      let ids = map (λ (base : Base). base.core.id) scenario.groups in
-      let found = found_law words scenario journal [] calm (record { more = journal; is = refl }) in
-      let within : (group : Draw) → Among group (names_at all []) → Among group (map (λ (base : Base). base.core.id) scenario.groups) = λ group a.
-          (let there = there_led [] group (Each-among (λ (name : Draw). is_led all [] name ≡ true) (names_at all []) group born_led a) in
-          let of = found.replicas group there.0 there.1 (found.views group there.0 ∙ there.2) in
-          subst (λ n. Among n (map (λ (base : Base). base.core.id) scenario.groups)) of.named (map_among (λ (base : Base). base.core.id) scenario.groups of.base of.among)) in
-      let low = apart_few (names_at all []) (map (λ (base : Base). base.core.id) scenario.groups) (once_apart (names_at all []) (λ group a. led_stands [] group (Each-among (λ (name : Draw). is_led all [] name ≡ true) (names_at all []) group born_led a))) within in
-      let long = length-map (λ (base : Base). base.core.id) scenario.groups in
+      let low = apart_few (names_at all []) ids (once_apart (names_at all []) (λ group a. led_stands [] group (is_led_born group a))) of_scenario in
+      let long = length-map scenario.groups (λ (base : Base). base.core.id) in
       omega (arith, low, long)
 
   -- ---- since a quiet front that rests
@@ -166,12 +175,9 @@ module _ (all_bounded : ValidScenariosAreBounded) (led_once : LedStandOnce) (fou
                 absurd (new_name (names_at all quiet ++ name ∷ []) (other ∷ more) (e ∙ sym (append_assoc (names_at all quiet) (name ∷ []) (other ∷ more))) other led.1.0 (inl refl) (Among-right other (names_at all quiet) (name ∷ []) (inl (one ∙ sym two))))
         keeps (inr same) = (let grown = names_grow all rows row in by grown.0 (grown.1 ∙ ap (λ l. l ++ grown.0) same) grown.2)
           where
-            abbrev names : List Draw
-            names = names_at all quiet ++ task.name ∷ []
-
             by : (more : List Draw) → names_at all (rows ++ row ∷ []) ≡ (names_at all quiet ++ task.name ∷ []) ++ more → Each (λ name. is_led all (rows ++ row ∷ []) name ≡ true) more → HasNamesSince all quiet (rows ++ row ∷ []) task
             by [] e led = inr (e ∙ append-nil (names_at all quiet ++ task.name ∷ []))
-            by (name ∷ more) e led = absurd (new_name names (name ∷ more) e name led.0 (inl refl) (elim (old_or name led.0) [
+            by (name ∷ more) e led = absurd (new_name (names_at all quiet ++ task.name ∷ []) (name ∷ more) e name led.0 (inl refl) (elim (old_or name led.0) [
               | inl old ↦ Among-left name (names_at all quiet) (task.name ∷ []) old
               | inr is ↦ Among-right name (names_at all quiet) (task.name ∷ []) (inl (sym is))
             ]))
