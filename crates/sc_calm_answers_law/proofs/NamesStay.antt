@@ -1,5 +1,5 @@
 -- Names of groups are few: those of the scenario, and one more for each order at most.
-use Rattle.std.proofs.Common.{◌≡◌, ℕ, ◌+◌, ◌≤◌, ◌||◌, Bool, true, false, true≢false, cond, List, [], ◌∷◌, ◌++◌, ◌⊎◌, length, map, take, Option, Some, None, inl, inr, refl, sym, ◌∙◌, ap, subst, arith, append_assoc, append-nil, length-append}
+use Rattle.std.proofs.Common.{◌≡◌, ℕ, ◌+◌, ◌||◌, Bool, true, false, true≢false, cond, List, [], ◌∷◌, ◌++◌, ◌⊎◌, length, map, Option, Some, None, inl, inr, refl, sym, ◌∙◌, ap, subst, arith, append_assoc, append-nil, length-append}
 use Rattle.std.specs.List.{list_any}
 use Rattle.std.specs.Prelude.{is_some}
 use Rattle.std.proofs.lemmas.Bool.{cases_Bool}
@@ -8,12 +8,10 @@ use Rattle.sc_base.specs.Among.{Among, Each}
 use Rattle.sc_base.specs.Same.{same_draw}
 use Rattle.sc_base.specs.declared.names.Draw.{Draw}
 use Rattle.sc_cmd.specs.declared.cores.Base.{Base}
-use Rattle.sc_cmd.specs.declared.links.Route.{Route}
 use Rattle.sc_cmd.specs.declared.orders.OrderLine.{OrderLine}
 use Rattle.sc_mail.specs.declared.bodies.Mail.{Mail}
 use Rattle.sc_mail.specs.declared.roles.Role.TheVariants.{Node, Client}
 use Rattle.sc_actor.specs.declared.actors.Seat.{Seat}
-use Rattle.sc_actor.specs.declared.rows.Event.{Event}
 use Rattle.sc_actor.specs.declared.rows.Row.{Row}
 use Rattle.sc_actor.specs.Replay.{value}
 use Rattle.sc_actor.specs.System.{row_of}
@@ -29,8 +27,7 @@ use Rattle.sc_sound.specs.Players.{Player, player_table, births, as_nodes}
 use Rattle.sc_whole_law.proofs.Seats.{all_apart}
 use Rattle.sc_calm_law.specs.Parties.{StandsOnce}
 use Rattle.sc_calm_law.specs.Totals.{Rows, is_leading, is_led, leads}
-use Rattle.sc_calm_rows_law.specs.Groups.{replica_in, replicas_of, view_at}
-use Rattle.sc_calm_rows_law.specs.Turns.{with_event}
+use Rattle.sc_calm_rows_law.specs.Groups.{replica_in, replicas_of}
 use Rattle.sc_calm_charts_law.specs.Charting.{all_replicas, led_names, names_at, with_names}
 use Rattle.sc_calm_charts_law.specs.Following.{LedStandOnce}
 use Rattle.sc_calm_charts_law.proofs.Names.{names_grow}

@@ -1,19 +1,12 @@
 -- A client that was not told to go is sent on no more often than there are names: it knows one group alone.
-use Rattle.std.proofs.Common.{◌≡◌, ℕ, ◌+◌, ◌≤◌, false, List, [], ◌∷◌, ◌++◌, length, inl, inr, refl, sym, ◌∙◌, ap, subst, arith, append-nil}
-use Rattle.sc_base.specs.Among.{Among}
-use Rattle.sc_base.specs.Limits.{client_actor}
+use Rattle.std.proofs.Common.{◌≡◌, ℕ, ◌≤◌, List, [], ◌∷◌, ◌++◌, length, refl, sym, ◌∙◌, subst, arith, append-nil}
 use Rattle.sc_base.specs.declared.names.Draw.{Draw}
 use Rattle.sc_cmd.specs.declared.cores.Base.{Base}
 use Rattle.sc_lookup.specs.declared.ways.Way.{Way}
-use Rattle.sc_mail.specs.declared.roles.Role.TheVariants.{Client}
-use Rattle.sc_actor.specs.Replay.{value}
-use Rattle.sc_actor.specs.System.{has_gone}
-use Rattle.sc_client_table.specs.Client.{Client as ClientState}
 use Rattle.sc_scenario.specs.Valid.{ValidScenariosAreBounded}
-use Rattle.sc_scenario.specs.declared.scenarios.Asks.{Asks}
 use Rattle.sc_scenario.specs.declared.scenarios.Scenario.{Scenario}
 use Rattle.sc_node_table.specs.Replica.{ReplicaState}
-use Rattle.sc_sound.specs.Players.{player_table, births, client_seat, route_of, as_nodes}
+use Rattle.sc_sound.specs.Players.{births, as_nodes}
 use Rattle.sc_calm_law.specs.Charts.{Chart, players}
 use Rattle.sc_calm_law.specs.Reach.{sent_on}
 use Rattle.sc_calm_law.specs.Totals.{Rows}

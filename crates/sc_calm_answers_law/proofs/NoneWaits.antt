@@ -1,7 +1,7 @@
 -- No act waits at a replica with nothing in flight, row by row since a quiet front of a calm journal.
-use Rattle.std.proofs.Common.{◌≡◌, ℕ, ◌+◌, ◌≤◌, eqb, Bool, true, false, true≢false, List, [], ◌∷◌, ◌++◌, length, Option, Some, None, inl, inr, refl, sym, ◌∙◌, ap, subst, arith}
+use Rattle.std.proofs.Common.{◌≡◌, ℕ, ◌≤◌, eqb, true, true≢false, List, [], length, Some, inl, inr, refl, sym, ◌∙◌, ap, subst, arith}
 use Rattle.std.proofs.lemmas.Bool.{cases_Bool, eq-eqb, eqb-true, le-leb}
-use Rattle.sc_base.specs.Among.{Among, Each}
+use Rattle.sc_base.specs.Among.{Among}
 use Rattle.sc_base.specs.declared.names.Draw.{Draw}
 use Rattle.sc_cmd.specs.declared.cores.Base.{Base}
 use Rattle.sc_cmd.specs.declared.orders.OrderLine.{OrderLine}
@@ -38,8 +38,7 @@ use Rattle.sc_calm_answers_law.specs.Tellers.{tellers_at}
 use Rattle.sc_calm_answers_law.specs.SentJournals.{IsSentThrough}
 use Rattle.sc_calm_answers_law.specs.KnownFronts.{FrontsAreFound}
 use Rattle.sc_calm_answers_law.specs.Strangers.{NoMailForStrangers}
-use Rattle.sc_calm_answers_law.specs.Journal.{IsCalmJournal, IsFront, IsNamedGroup, AreSent, GoesOnBy}
-use Rattle.sc_calm_answers_law.specs.Resting.{RestsAt}
+use Rattle.sc_calm_answers_law.specs.Journal.{IsCalmJournal, IsFront, IsNamedGroup, AreSent}
 use Rattle.sc_calm_answers_law.specs.NoneWaits.{HaveNoneWaiting, NoneWaits}
 use Rattle.sc_calm_answers_law.proofs.BetweenRequests.{front_short, front_timely}
 use Rattle.sc_calm_answers_law.proofs.Leading.{gives}
