@@ -113,13 +113,18 @@ mod Lone
 pub mod Meeting
 pub mod Missed
 pub mod Moving
+pub mod NameLists
 mod NamedOnce
 pub mod Names
+pub mod NamesStay
 mod Naming
+pub mod Near
 mod Nearness
 pub mod Needs
 pub mod Newest
 pub mod Nodes
+pub mod NoneWaiting
+pub mod NoneWaits
 pub mod Noted
 pub mod Numbers
 pub mod Offered

@@ -39,7 +39,9 @@ pub mod Links
 pub mod Meeting
 pub mod Missed
 pub mod Naming
+pub mod Near
 pub mod New
+pub mod NoneWaits
 pub mod Noted
 pub mod Offered
 pub mod OneLog
@@ -76,6 +78,7 @@ pub mod Tasks
 pub mod Taught
 pub mod Tellers
 pub mod There
+pub mod Tmp
 pub mod Tokens
 pub mod Told
 pub mod TrueBeginning
@@ -88,4 +91,3 @@ pub mod Viewing
 pub mod Votes
 pub mod Works
 pub mod Young
-pub mod Tmp

@@ -69,6 +69,10 @@ pub use known_laws::{
     quiet_fronts_have_groups, quiet_logs_are_executed, still_fronts_are_free, turns_go_on,
 };
 
+mod name_laws;
+
+pub use name_laws::{clients_are_near, names_stay_few};
+
 mod ordered_laws;
 
 pub use ordered_laws::{deliveries_keep_ordered, flights_are_entries, orders_begin_ordered};
@@ -110,6 +114,10 @@ pub use true_laws::{
     outcomes_are_taken, records_are_true, replicas_tell, settled_orders_begin,
     settled_orders_go_on, true_orders_begin, true_orders_go_on, votes_are_true,
 };
+
+mod wait_laws;
+
+pub use wait_laws::none_waits;
 
 mod work_laws;
 

@@ -1,0 +1,205 @@
+-- Names of groups are few: those of the scenario, and one more for each order at most.
+use Rattle.std.proofs.Common.{◌≡◌, ℕ, ◌+◌, ◌||◌, Bool, true, false, true≢false, cond, List, [], ◌∷◌, ◌++◌, ◌⊎◌, length, map, Option, Some, None, inl, inr, refl, sym, ◌∙◌, ap, subst, arith, append_assoc, append-nil, length-append}
+use Rattle.std.specs.List.{list_any}
+use Rattle.std.specs.Prelude.{is_some}
+use Rattle.std.proofs.lemmas.Bool.{cases_Bool}
+use Rattle.std.proofs.lemmas.List.{length-map, take_all}
+use Rattle.sc_base.specs.Among.{Among, Each}
+use Rattle.sc_base.specs.Same.{same_draw}
+use Rattle.sc_base.specs.declared.names.Draw.{Draw}
+use Rattle.sc_cmd.specs.declared.cores.Base.{Base}
+use Rattle.sc_cmd.specs.declared.orders.OrderLine.{OrderLine}
+use Rattle.sc_mail.specs.declared.bodies.Mail.{Mail}
+use Rattle.sc_mail.specs.declared.roles.Role.TheVariants.{Node, Client}
+use Rattle.sc_actor.specs.declared.actors.Seat.{Seat}
+use Rattle.sc_actor.specs.declared.rows.Row.{Row}
+use Rattle.sc_actor.specs.Replay.{value}
+use Rattle.sc_actor.specs.System.{row_of}
+use Rattle.sc_orderly_law.specs.Orderly.{orders}
+use Rattle.sc_orderly_law.proofs.Seats.{seat_found}
+use Rattle.sc_scenario.specs.Valid.{ValidScenariosAreBounded}
+use Rattle.sc_scenario.specs.declared.scenarios.Scenario.{Scenario}
+use Rattle.sc_node_table.specs.Node.{replica_of}
+use Rattle.sc_node_table.specs.Replica.{ReplicaState, name_of}
+use Rattle.sc_paxos_law.proofs.Among.{Among-left, Among-right}
+use Rattle.sc_paxos_words.proofs.ListLemmas.{Each-among, Each-append, Each-passes}
+use Rattle.sc_sound.specs.Players.{Player, player_table, births, as_nodes}
+use Rattle.sc_whole_law.proofs.Seats.{all_apart}
+use Rattle.sc_calm_law.specs.Parties.{StandsOnce}
+use Rattle.sc_calm_law.specs.Totals.{Rows, is_leading, is_led, leads}
+use Rattle.sc_calm_rows_law.specs.Groups.{replica_in, replicas_of}
+use Rattle.sc_calm_charts_law.specs.Charting.{all_replicas, led_names, names_at, with_names}
+use Rattle.sc_calm_charts_law.specs.Following.{LedStandOnce}
+use Rattle.sc_calm_charts_law.proofs.Names.{names_grow}
+use Rattle.sc_budget_law.proofs.Lists.{map_among}
+use Rattle.sc_calm_scenes_law.specs.Fresh.{IsNowhere, IsThere}
+use Rattle.sc_calm_answers_law.specs.Borne.{AreBorneSo}
+use Rattle.sc_calm_answers_law.specs.Journal.{IsCalmJournal, IsFront, IsNamedGroup}
+use Rattle.sc_calm_answers_law.specs.KnownFronts.{FrontsAreFound}
+use Rattle.sc_calm_answers_law.specs.Near.{HasFewNames, HasNamesSince, NamesStayFew}
+use Rattle.sc_calm_answers_law.specs.Resting.{RestsAt}
+use Rattle.sc_calm_answers_law.specs.Tasks.{Task}
+use Rattle.sc_calm_answers_law.proofs.Delivering.{gone_leads, led_there, there_or}
+use Rattle.sc_calm_answers_law.proofs.KnownGoing.{once_among}
+use Rattle.sc_calm_answers_law.proofs.NameLists.{apart_few, once_apart, once_split}
+use Rattle.sc_calm_answers_law.proofs.OrderedKnown.{named_there}
+
+-- ---- lists
+
+-- what holds of names and of one more holds of both
+one_more : (P : Draw → Type 0) (names : List Draw) (name : Draw) → Each P names → P name → Each P (cond (list_any (λ other. same_draw other name) names) names (names ++ name ∷ []))
+one_more P names name old new = by (list_any (λ other. same_draw other name) names)
+  where
+    by : (b : Bool) → Each P (cond b names (names ++ name ∷ []))
+    by true = old
+    by false = Each-append P names (name ∷ []) old (new, tt)
+
+-- .. and of more
+both_names : (P : Draw → Type 0) (names more : List Draw) → Each P names → Each P more → Each P (with_names names more)
+both_names P names [] old new = old
+both_names P names (name ∷ more) old new = both_names P (cond (list_any (λ other. same_draw other name) names) names (names ++ name ∷ [])) more (one_more P names name old new.0) new.1
+
+-- ---- groups that are led
+
+-- some seat leads
+led_seat : (group : Draw) (rows : Rows) (seats : List (Seat Player)) → list_any (λ seat. leads group (value player_table seat rows)) seats ≡ true → (seat : Seat Player) × Among seat seats × (leads group (value player_table seat rows) ≡ true)
+led_seat group rows [] led = absurd (true≢false (sym led))
+led_seat group rows (seat ∷ seats) led = elim (cases_Bool (leads group (value player_table seat rows))) [
+  | inl t ↦ (seat, inl refl, t)
+  | inr f ↦ (let more = led_seat group rows seats (sym (ap (λ b. b || list_any (λ other. leads group (value player_table other rows)) seats) f) ∙ led) in (more.0, inr more.1, more.2))
+]
+
+-- .. and has a replica
+leads_has : (group : Draw) (player : Player) → leads group player ≡ true → (r : ReplicaState) × (replica_of group (replicas_of player) ≡ Some r)
+leads_has group (Client client) led = absurd (true≢false (sym led))
+leads_has group (Node node) led = by (replica_of group node.replicas) refl led
+  where
+    by : (o : Option ReplicaState) → replica_of group node.replicas ≡ o → is_leading o ≡ true → (r : ReplicaState) × (replica_of group node.replicas ≡ Some r)
+    by None e t = absurd (true≢false (sym t))
+    by (Some r) e t = (r, e)
+
+module _ (all_bounded : ValidScenariosAreBounded) (led_once : LedStandOnce) (found_law : FrontsAreFound) (words : ℕ → ℕ → ℕ × ℕ) (scenario : Scenario) (journal : Rows) (calm : IsCalmJournal words scenario journal) where
+  abbrev all : List (Seat Player)
+  all = births as_nodes scenario
+
+  -- a group that is led is there
+  there_led : (rows : Rows) (name : Draw) → is_led all rows name ≡ true → IsThere all rows name
+  there_led rows name led =
+      let s = led_seat name rows all led in
+      let r = leads_has name (value player_table s.0 rows) s.2 in
+      (s.0.who, r.0, ap (replica_in name rows) (seat_found all s.0 (all_apart scenario (all_bounded scenario calm.valid)) s.1) ∙ r.1)
+
+  -- .. and its name stands once
+  led_stands : (rows : Rows) (name : Draw) → is_led all rows name ≡ true → StandsOnce name (names_at all rows)
+  led_stands rows name led = led_once all rows (length rows) name (omega arith) (subst (λ q. is_led all q name ≡ true) (sym (take_all (length rows) rows (omega arith))) led)
+
+  -- ---- at the births
+
+  born_led : Each (λ name. is_led all [] name ≡ true) (names_at all [])
+  born_led = both_names (λ name. is_led all [] name ≡ true) [] (led_names all []) tt (Each-passes (λ name. is_led all [] name) (map name_of (all_replicas all [])))
+
+  -- the names of the scenario's groups
+  abbrev ids : List Draw
+  ids = map (λ (base : Base). base.core.id) scenario.groups
+
+  is_led_born : (group : Draw) → Among group (names_at all []) → is_led all [] group ≡ true
+  is_led_born group a = Each-among (λ (name : Draw). is_led all [] name ≡ true) (names_at all []) group born_led a
+
+  of_scenario : (group : Draw) → Among group (names_at all []) → Among group ids
+  of_scenario group a =
+      let found = found_law words scenario journal [] calm (record { more = journal; is = refl }) in
+      let there = there_led [] group (is_led_born group a) in
+      let of = found.replicas group there.0 there.1 (found.views group there.0 ∙ there.2) in
+      subst (λ n. Among n ids) of.named (map_among (λ (base : Base). base.core.id) scenario.groups of.base of.among)
+
+  born_few : HasFewNames scenario []
+  born_few =
+      let low = apart_few (names_at all []) ids (once_apart (names_at all []) (λ group a. led_stands [] group (is_led_born group a))) of_scenario in
+      let long = length-map scenario.groups (λ (base : Base). base.core.id) in
+      omega (arith, low, long)
+
+  -- ---- since a quiet front that rests
+
+  module _ (first : Base) (quiet : Rows) (rests : RestsAt words scenario first journal quiet) where
+    -- each group that is there has a name
+    quiet_named : (name : Draw) → IsThere all quiet name → Among name (names_at all quiet)
+    quiet_named name there =
+        let found = found_law words scenario journal quiet calm rests.front in
+        once_among name (names_at all quiet) (led_stands quiet name (elim (rests.is.quiet.groups name there.0 (there.1, found.views name there.0 ∙ there.2)) [
+          | inl q ↦ led_there all quiet name q.lead.me q.lead (sym (found.views name q.lead.me) ∙ q.newest.is_there) (ap (λ b. b || is_some q.lead.group.core.gone) q.leads.running)
+          | inr g ↦ led_there all quiet name g.last.me g.last (sym (found.views name g.last.me) ∙ g.newest.is_there) (gone_leads g.last.running g.last.group.core.gone g.into g.went)
+        ]))
+
+    module _ (rows : Rows) (row : Row Mail OrderLine) where
+      abbrev then : Rows
+      then = rows ++ row ∷ []
+
+      -- a name that comes in is of none that was there before
+      new_name : (old more : List Draw) → names_at all (rows ++ row ∷ []) ≡ old ++ more → (name : Draw) → is_led all (rows ++ row ∷ []) name ≡ true → Among name more → Among name old → ⊥
+      new_name old more same name led new a = once_split name old more (subst (StandsOnce name) same (led_stands then name led)) a new
+
+      -- .. so none comes in where all were there in the quiet
+      none_new : ((name : Draw) → IsThere all (rows ++ row ∷ []) name → IsThere all quiet name) → names_at all rows ≡ names_at all quiet → names_at all (rows ++ row ∷ []) ≡ names_at all quiet
+      none_new was same = (let grown = names_grow all rows row in by grown.0 (grown.1 ∙ ap (λ l. l ++ grown.0) same) grown.2)
+        where
+          by : (more : List Draw) → names_at all (rows ++ row ∷ []) ≡ names_at all quiet ++ more → Each (λ name. is_led all (rows ++ row ∷ []) name ≡ true) more → names_at all (rows ++ row ∷ []) ≡ names_at all quiet
+          by [] e led = e ∙ append-nil (names_at all quiet)
+          by (name ∷ more) e led = absurd (new_name (names_at all quiet) (name ∷ more) e name led.0 (inl refl) (quiet_named name (was name (there_led then name led.0))))
+
+      -- .. and no other than the child's, where an order is under way
+      module _ (task : Task) (front : IsFront journal (rows ++ row ∷ [])) (borne : AreBorneSo scenario journal quiet (rows ++ row ∷ []) task) where
+        old_or : (name : Draw) → is_led all (rows ++ row ∷ []) name ≡ true → Among name (names_at all quiet) ⊎ (name ≡ task.name)
+        old_or name led = elim (there_or all quiet name) [
+          | inl there ↦ inl (quiet_named name there)
+          | inr nowhere ↦ (
+              let there = there_led then name led in
+              let g : IsNamedGroup scenario journal name = named_there found_law words scenario journal then calm front name there in
+              inr (sym g.2 ∙ (borne.only g.0 g.1 (subst (IsNowhere all quiet) (sym g.2) nowhere) (subst (IsThere all then) (sym g.2) there)).1))
+        ]
+
+        keeps : HasNamesSince all quiet rows task → HasNamesSince all quiet (rows ++ row ∷ []) task
+        keeps (inl same) = (let grown = names_grow all rows row in by grown.0 (grown.1 ∙ ap (λ l. l ++ grown.0) same) grown.2)
+          where
+            is_new : (name : Draw) (more : List Draw) → names_at all (rows ++ row ∷ []) ≡ names_at all quiet ++ more → is_led all (rows ++ row ∷ []) name ≡ true → Among name more → name ≡ task.name
+            is_new name more e led a = elim (old_or name led) [ inl old ↦ absurd (new_name (names_at all quiet) more e name led a old) | inr is ↦ is ]
+
+            by : (more : List Draw) → names_at all (rows ++ row ∷ []) ≡ names_at all quiet ++ more → Each (λ name. is_led all (rows ++ row ∷ []) name ≡ true) more → HasNamesSince all quiet (rows ++ row ∷ []) task
+            by [] e led = inl (e ∙ append-nil (names_at all quiet))
+            by (name ∷ []) e led = inr (e ∙ ap (λ n. names_at all quiet ++ n ∷ []) (is_new name (name ∷ []) e led.0 (inl refl)))
+            by (name ∷ other ∷ more) e led =
+                let one = is_new name (name ∷ other ∷ more) e led.0 (inl refl) in
+                let two = is_new other (name ∷ other ∷ more) e led.1.0 (inr (inl refl)) in
+                absurd (new_name (names_at all quiet ++ name ∷ []) (other ∷ more) (e ∙ sym (append_assoc (names_at all quiet) (name ∷ []) (other ∷ more))) other led.1.0 (inl refl) (Among-right other (names_at all quiet) (name ∷ []) (inl (one ∙ sym two))))
+        keeps (inr same) = (let grown = names_grow all rows row in by grown.0 (grown.1 ∙ ap (λ l. l ++ grown.0) same) grown.2)
+          where
+            by : (more : List Draw) → names_at all (rows ++ row ∷ []) ≡ (names_at all quiet ++ task.name ∷ []) ++ more → Each (λ name. is_led all (rows ++ row ∷ []) name ≡ true) more → HasNamesSince all quiet (rows ++ row ∷ []) task
+            by [] e led = inr (e ∙ append-nil (names_at all quiet ++ task.name ∷ []))
+            by (name ∷ more) e led = absurd (new_name (names_at all quiet ++ task.name ∷ []) (name ∷ more) e name led.0 (inl refl) (elim (old_or name led.0) [
+              | inl old ↦ Among-left name (names_at all quiet) (task.name ∷ []) old
+              | inr is ↦ Among-right name (names_at all quiet) (task.name ∷ []) (inl (sym is))
+            ]))
+
+    -- ---- while clients ask
+
+    stays : (front back : Rows) → ((one other : Rows) → front ++ back ≡ one ++ other → (name : Draw) → IsThere all (quiet ++ one) name → IsThere all quiet name) → names_at all (quiet ++ front) ≡ names_at all quiet → names_at all (quiet ++ (front ++ back)) ≡ names_at all quiet
+    stays front [] was same = ap (λ l. names_at all (quiet ++ l)) (append-nil front) ∙ same
+    stays front (row ∷ back) was same =
+        let place : front ++ row ∷ back ≡ (front ++ row ∷ []) ++ back = sym (append_assoc front (row ∷ []) back) in
+        let longer : (quiet ++ front) ++ row ∷ [] ≡ quiet ++ (front ++ row ∷ []) = append_assoc quiet front (row ∷ []) in
+        let one : names_at all ((quiet ++ front) ++ row ∷ []) ≡ names_at all quiet = none_new (quiet ++ front) row (λ name there. was (front ++ row ∷ []) back place name (subst (λ l. IsThere all l name) longer there)) same in
+        ap (λ l. names_at all (quiet ++ l)) place ∙ stays (front ++ row ∷ []) back (λ one_ other e. was one_ other (place ∙ e)) (ap (names_at all) (sym longer) ∙ one)
+
+-- one name more for one order more
+over_few : (scenario : Scenario) (quiet rows : Rows) (task : Task) → HasNamesSince (births as_nodes scenario) quiet rows task → orders rows ≡ orders quiet + 1 → HasFewNames scenario quiet → HasFewNames scenario rows
+over_few scenario quiet rows task (inl same) one few = (let long = ap length same in omega (arith, long, one, few))
+over_few scenario quiet rows task (inr same) one few = (let long = ap length same in let push = length-append (names_at (births as_nodes scenario) quiet) (task.name ∷ []) in omega (arith, long, push, one, few))
+
+pub names_stay : ValidScenariosAreBounded → LedStandOnce → FrontsAreFound → NamesStayFew
+names_stay all_bounded led_once found_law = record {
+  born = λ words scenario journal calm. born_few all_bounded led_once found_law words scenario journal calm;
+  asked = λ words scenario first journal quiet after calm rests was.
+      stays all_bounded led_once found_law words scenario journal calm first quiet rests [] after was (ap (names_at (births as_nodes scenario)) (append-nil quiet));
+  begins = λ births quiet task. inl refl;
+  goes_on = λ words scenario first journal quiet rows seat event task calm rests front borne has. keeps all_bounded led_once found_law words scenario journal calm first quiet rests rows (row_of player_table seat rows event) task front borne has;
+  over = over_few;
+}

@@ -1,0 +1,49 @@
+-- How often a client that was not told to go is sent on, and how many names there are.
+use Rattle.std.specs.Prelude.{◌≡◌, ℕ, ◌+◌, ◌≤◌, List, [], ◌∷◌, ◌++◌, length, ◌⊎◌}
+use Rattle.sc_base.specs.declared.names.Draw.{Draw}
+use Rattle.sc_cmd.specs.declared.cores.Base.{Base}
+use Rattle.sc_cmd.specs.declared.orders.OrderLine.{OrderLine}
+use Rattle.sc_actor.specs.declared.actors.Seat.{Seat}
+use Rattle.sc_actor.specs.declared.rows.Event.{Event}
+use Rattle.sc_orderly_law.specs.Orderly.{orders}
+use Rattle.sc_scenario.specs.declared.scenarios.Scenario.{Scenario}
+use Rattle.sc_sound.specs.Players.{Player, births, as_nodes}
+use Rattle.sc_calm_law.specs.Charts.{players}
+use Rattle.sc_calm_law.specs.Totals.{Rows}
+use Rattle.sc_calm_rows_law.specs.Turns.{with_event}
+use Rattle.sc_calm_charts_law.specs.Charting.{chart_at, names_at}
+use Rattle.sc_calm_charts_law.specs.Fronts.{quiet_front}
+use Rattle.sc_calm_scenes_law.specs.Fresh.{IsThere}
+use Rattle.sc_calm_answers_law.specs.Borne.{AreBorneSo}
+use Rattle.sc_calm_answers_law.specs.Journal.{IsCalmJournal, IsFront}
+use Rattle.sc_calm_answers_law.specs.Requested.{IsKnownFront, IsRequested}
+use Rattle.sc_calm_answers_law.specs.Resting.{RestsAt}
+use Rattle.sc_calm_answers_law.specs.Rows.{AreNear}
+use Rattle.sc_calm_answers_law.specs.Tasks.{Task}
+
+-- While clients ask since a quiet front that rests, one that was not told to go is sent on no more often than there are names of groups.
+abbrev pub ClientsAreNear : Type 0
+ClientsAreNear =
+    (words : ℕ → ℕ → ℕ × ℕ) (scenario : Scenario) (first : Base) (others : List Base) (far sent : ℕ) (journal quiet after : Rows) → IsCalmJournal words scenario journal → scenario.groups ≡ first ∷ others → RestsAt words scenario first journal quiet
+    → IsKnownFront words scenario journal quiet far → IsRequested words scenario first far sent quiet after → quiet_front (players words (births as_nodes scenario)) (quiet ++ after) ≡ quiet → length (names_at (births as_nodes scenario) quiet) ≤ sent
+    → AreNear scenario (chart_at far sent (players words (births as_nodes scenario)) (quiet ++ after)) first (quiet ++ after)
+
+-- there are no more names than groups of the scenario and orders
+abbrev pub HasFewNames : Scenario → Rows → Type 0
+HasFewNames scenario rows = length (names_at (births as_nodes scenario) rows) ≤ length scenario.groups + orders rows
+
+-- the names are those of the quiet, or one more, of the child that an order may make
+abbrev pub HasNamesSince : List (Seat Player) → Rows → Rows → Task → Type 0
+HasNamesSince births quiet rows task = (names_at births rows ≡ names_at births quiet) ⊎ (names_at births rows ≡ names_at births quiet ++ task.name ∷ [])
+
+-- Names are few at the births; they stay while clients ask, where all groups that are there were so in the quiet; one order adds no name but its child's; and so they are few in the next quiet.
+pub record NamesStayFew : Type 0 where
+  pub born : (words : ℕ → ℕ → ℕ × ℕ) (scenario : Scenario) (journal : Rows) → IsCalmJournal words scenario journal → HasFewNames scenario []
+  pub asked : (words : ℕ → ℕ → ℕ × ℕ) (scenario : Scenario) (first : Base) (journal quiet after : Rows) → IsCalmJournal words scenario journal → RestsAt words scenario first journal quiet
+      → ((front back : Rows) → after ≡ front ++ back → (name : Draw) → IsThere (births as_nodes scenario) (quiet ++ front) name → IsThere (births as_nodes scenario) quiet name)
+      → names_at (births as_nodes scenario) (quiet ++ after) ≡ names_at (births as_nodes scenario) quiet
+  pub begins : (births : List (Seat Player)) (quiet : Rows) (task : Task) → HasNamesSince births quiet quiet task
+  pub goes_on : (words : ℕ → ℕ → ℕ × ℕ) (scenario : Scenario) (first : Base) (journal quiet rows : Rows) (seat : Seat Player) (event : Event OrderLine) (task : Task) → IsCalmJournal words scenario journal → RestsAt words scenario first journal quiet
+      → IsFront journal (with_event rows seat event) → AreBorneSo scenario journal quiet (with_event rows seat event) task
+      → HasNamesSince (births as_nodes scenario) quiet rows task → HasNamesSince (births as_nodes scenario) quiet (with_event rows seat event) task
+  pub over : (scenario : Scenario) (quiet rows : Rows) (task : Task) → HasNamesSince (births as_nodes scenario) quiet rows task → orders rows ≡ orders quiet + 1 → HasFewNames scenario quiet → HasFewNames scenario rows

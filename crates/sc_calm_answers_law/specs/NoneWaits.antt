@@ -1,0 +1,31 @@
+-- That no act waits at a replica with nothing in flight, while an order is under way since a quiet front of a calm journal.
+use Rattle.std.specs.Prelude.{◌≡◌, ℕ, true, [], Some}
+use Rattle.sc_base.specs.declared.names.Draw.{Draw}
+use Rattle.sc_cmd.specs.declared.cores.Base.{Base}
+use Rattle.sc_cmd.specs.declared.orders.OrderLine.{OrderLine}
+use Rattle.sc_actor.specs.Walk.{is_quiet}
+use Rattle.sc_actor.specs.declared.actors.Seat.{Seat}
+use Rattle.sc_actor.specs.declared.rows.Event.TheVariants.{Deliver, Told}
+use Rattle.sc_scenario.specs.declared.scenarios.Scenario.{Scenario}
+use Rattle.sc_node_table.specs.Replica.{ReplicaState}
+use Rattle.sc_pump_law.specs.Waiting.{HasNoneWaiting}
+use Rattle.sc_sound.specs.Players.{Player, births, as_nodes}
+use Rattle.sc_calm_law.specs.Charts.{players}
+use Rattle.sc_calm_law.specs.Totals.{Rows}
+use Rattle.sc_calm_rows_law.specs.Groups.{view_at}
+use Rattle.sc_calm_rows_law.specs.Turns.{IsSeat, with_event}
+use Rattle.sc_calm_answers_law.specs.Journal.{IsCalmJournal, IsFront, AreSent, GoesOnBy}
+use Rattle.sc_calm_answers_law.specs.Resting.{RestsAt}
+
+-- each replica that runs has an act waiting only while something is in flight or ready, where it may offer
+abbrev pub HaveNoneWaiting : Scenario → Rows → Type 0
+HaveNoneWaiting scenario rows = (name : Draw) (node : ℕ) (r : ReplicaState) → view_at (births as_nodes scenario) rows name node ≡ Some r → r.running ≡ true → HasNoneWaiting r
+
+-- So it is once an order is told in a quiet front that rests, and after each delivery, where all groups are well led after the row; and in the next quiet front each replica that runs, with nothing in flight, has no act waiting.
+pub record NoneWaits : Type 0 where
+  pub begins : (words : ℕ → ℕ → ℕ × ℕ) (scenario : Scenario) (first : Base) (journal quiet : Rows) (seat : Seat Player) (line : OrderLine) → IsCalmJournal words scenario journal → RestsAt words scenario first journal quiet
+      → IsSeat (births as_nodes scenario) seat → IsFront journal (with_event quiet seat (Told line)) → AreSent words scenario journal (with_event quiet seat (Told line)) → HaveNoneWaiting scenario (with_event quiet seat (Told line))
+  pub goes_on : (words : ℕ → ℕ → ℕ × ℕ) (scenario : Scenario) (journal rows : Rows) (seat : Seat Player) (number : ℕ) → IsCalmJournal words scenario journal → GoesOnBy words scenario journal rows seat number
+      → AreSent words scenario journal (with_event rows seat (Deliver number)) → HaveNoneWaiting scenario rows → HaveNoneWaiting scenario (with_event rows seat (Deliver number))
+  pub over : (words : ℕ → ℕ → ℕ × ℕ) (scenario : Scenario) (journal rows : Rows) → IsCalmJournal words scenario journal → IsFront journal rows → AreSent words scenario journal rows → is_quiet (players words (births as_nodes scenario)) rows ≡ true
+      → HaveNoneWaiting scenario rows → (name : Draw) (node : ℕ) (r : ReplicaState) → view_at (births as_nodes scenario) rows name node ≡ Some r → r.running ≡ true → r.leader.flights ≡ [] → r.acts ≡ []
