@@ -1,27 +1,26 @@
 -- Refusals go to nodes, which alone ask to promise or to accept; and errands that go to nodes go to players.
-use Rattle.std.proofs.Common.{◌≡◌, ℕ, ◌+◌, eqb, List, [], ◌∷◌, ◌++◌, map, find, Option, Some, None, inl, inr, refl, sym, ◌∙◌, ap, subst, arith}
+use Rattle.std.proofs.Common.{◌≡◌, ℕ, ◌+◌, eqb, List, [], ◌∷◌, ◌++◌, map, find, Option, Some, None, inl, inr, refl, sym, subst, arith}
 use Rattle.std.specs.Option.{option_map}
-use Rattle.sc_base.specs.Among.{Among, Each}
+use Rattle.sc_base.specs.Among.{Each}
 use Rattle.sc_base.specs.declared.names.Ballot.{Ballot}
 use Rattle.sc_base.specs.declared.names.Draw.{Draw}
 use Rattle.sc_cmd.specs.declared.commands.Command.{Command}
 use Rattle.sc_cmd.specs.declared.orders.OrderLine.{OrderLine}
 use Rattle.sc_mail.specs.declared.bodies.Mail.{Mail}
 use Rattle.sc_mail.specs.declared.bodies.MailBody.{MailBody}
-use Rattle.sc_mail.specs.declared.bodies.MailBody.TheVariants.{Request, Answer, Prepare, Promise, Accept, Accepted, Nack, Learn, Ask, Install, TxPrepare, TxVote, TxOutcome, TxElsewhere, TxWatch, TxWatched, Told as ToldMail}
+use Rattle.sc_mail.specs.declared.bodies.MailBody.TheVariants.{Request}
 use Rattle.sc_mail.specs.declared.roles.Role.TheVariants.{Node, Client}
 use Rattle.sc_actor.specs.declared.actors.Seat.{Seat}
 use Rattle.sc_actor.specs.declared.rows.Event.{Event}
 use Rattle.sc_actor.specs.declared.rows.Event.TheVariants.{Deliver, Tick as TickEvent, Go, Told, Crash, Drop, Again}
-use Rattle.sc_actor.specs.declared.rows.Input.{Input}
 use Rattle.sc_actor.specs.declared.rows.Input.TheVariants.{Got, Go as GoInput, Told as ToldInput}
 use Rattle.sc_actor.specs.declared.rows.Row.{Row}
 use Rattle.sc_actor.specs.Mail.{mails, numbered}
 use Rattle.sc_actor.specs.Replay.{value, acted}
-use Rattle.sc_actor.specs.System.{System, row_of}
+use Rattle.sc_actor.specs.System.{row_of}
 use Rattle.sc_actor.proofs.ReplayLemmas.{mails-snoc}
 use Rattle.sc_group_law.proofs.RowSteps.{number_among}
-use Rattle.sc_orderly_law.specs.Orderly.{IsCalmEvent, is_born}
+use Rattle.sc_orderly_law.specs.Orderly.{IsCalmEvent}
 use Rattle.sc_orderly_law.specs.Timely.{AreInTime}
 use Rattle.sc_orderly_law.proofs.InTime.{by_time, in_time_before, last_in_time}
 use Rattle.sc_orderly_law.proofs.Resting.{is_born-from}
@@ -45,22 +44,7 @@ use Rattle.sc_calm_answers_law.proofs.SaidRows.{Refuses}
 -- what a client sends asks for no promise, and to accept nothing
 clients_unrefused : (me : ℕ) (state : AcceptorState Command) (body : MailBody) → IsClientsBody me body → Refuses state body → ⊥
 clients_unrefused me state (Request group client seq op) c r = r
-clients_unrefused me state (Answer group seq answer) c r = c
-clients_unrefused me state (Prepare group ballot from_slot) c r = c
-clients_unrefused me state (Promise group ballot reports) c r = c
-clients_unrefused me state (Accept group ballot slot command) c r = c
-clients_unrefused me state (Accepted group ballot slot) c r = c
-clients_unrefused me state (Nack group promised) c r = c
-clients_unrefused me state (Learn group slot command) c r = c
-clients_unrefused me state (Ask group from_slot) c r = c
-clients_unrefused me state (Install group slot base sets) c r = c
-clients_unrefused me state (TxPrepare tx offer) c r = c
-clients_unrefused me state (TxVote tx coord part vote) c r = c
-clients_unrefused me state (TxOutcome tx part outcome) c r = c
-clients_unrefused me state (TxElsewhere tx coord hint) c r = c
-clients_unrefused me state (TxWatch tx watch) c r = c
-clients_unrefused me state (TxWatched tx coord part vote) c r = c
-clients_unrefused me state (ToldMail order result) c r = c
+clients_unrefused me state _ c r = c
 
 module _ (scenario : Scenario) where
   abbrev all : List (Seat Player)

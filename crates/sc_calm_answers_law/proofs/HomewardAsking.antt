@@ -1,14 +1,13 @@
 -- While clients ask alone no errand is sent, to whomever.
-use Rattle.std.proofs.Common.{◌≡◌, ℕ, ◌≤◌, eqb, List, [], ◌∷◌, ◌++◌, find, Option, Some, None, ◌⊎◌, inl, inr, refl, sym, ◌∙◌, ap, subst, append_assoc}
-use Rattle.sc_base.specs.Among.{Among, Each}
-use Rattle.sc_base.specs.Limits.{client_actor}
+use Rattle.std.proofs.Common.{◌≡◌, ℕ, ◌≤◌, eqb, List, [], ◌∷◌, ◌++◌, find, Option, Some, None, inl, inr, refl, sym, ◌∙◌, ap, subst, append_assoc}
+use Rattle.sc_base.specs.Among.{Each}
 use Rattle.sc_base.specs.declared.names.Draw.{Draw}
 use Rattle.sc_cmd.specs.declared.cores.Base.{Base}
 use Rattle.sc_cmd.specs.declared.orders.OrderLine.{OrderLine}
 use Rattle.sc_mail.specs.declared.bodies.Mail.{Mail}
 use Rattle.sc_mail.specs.declared.bodies.MailBody.{MailBody}
-use Rattle.sc_mail.specs.declared.bodies.MailBody.TheVariants.{Request, Answer, Prepare, Promise, Accept, Accepted, Nack, Learn, Ask, Install, TxPrepare, TxVote, TxOutcome, TxElsewhere, TxWatch, TxWatched, Told as ToldMail}
-use Rattle.sc_mail.specs.declared.roles.Role.TheVariants.{Node, Client}
+use Rattle.sc_mail.specs.declared.bodies.MailBody.TheVariants.{Request, Answer, Accept, Accepted, Learn}
+use Rattle.sc_mail.specs.declared.roles.Role.TheVariants.{Client}
 use Rattle.sc_actor.specs.declared.actors.Seat.{Seat}
 use Rattle.sc_actor.specs.declared.rows.Event.{Event}
 use Rattle.sc_actor.specs.declared.rows.Event.TheVariants.{Deliver, Tick, Go, Told, Crash, Drop, Again}
@@ -54,41 +53,23 @@ use Rattle.sc_calm_answers_law.proofs.Setting as quiet_of
 no_errand : (entry : Draw × Errand) → None ≡ Some entry → ⊥
 no_errand entry e = cc
 
--- what clients and nodes say then is no errand
-module _ (begun : Requests) (set : Setting) (frame : Frame) (from to : ℕ) (entry : Draw × Errand) where
-  abbrev Says : MailBody → Type 0
-  Says body = IsPlainBody begun frame from to body ⊎ IsAsideBody begun set from to body
+-- what nodes and clients say then is none: of a group that stands ..
+plain_none : (begun : Requests) (frame : Frame) (from to : ℕ) (entry : Draw × Errand) (body : MailBody) → IsPlainBody begun frame from to body → errand_by from to body ≡ Some entry → ⊥
+plain_none begun frame from to entry (Request group client seq op) s e = no_errand entry e
+plain_none begun frame from to entry (Answer group seq answer) s e = no_errand entry e
+plain_none begun frame from to entry (Accept group ballot slot command) s e = no_errand entry e
+plain_none begun frame from to entry (Accepted group ballot slot) s e = no_errand entry e
+plain_none begun frame from to entry (Learn group slot command) s e = no_errand entry e
+plain_none begun frame from to entry _ s e = absurd s
 
-  never : ⊥ ⊎ ⊥ → ⊥
-  never (inl a) = a
-  never (inr a) = a
-
-  says_none : (body : MailBody) → IsPlainBody begun frame from to body ⊎ IsAsideBody begun set from to body → errand_by from to body ≡ Some entry → ⊥
-  says_none (TxPrepare tx offer) s e = never s
-  says_none (TxWatch tx watch) s e = never s
-  says_none (TxElsewhere tx coord hint) s e = never s
-  says_none (TxVote tx coord part vote) s e = never s
-  says_none (TxWatched tx coord part vote) s e = never s
-  says_none (TxOutcome tx part outcome) s e = never s
-  says_none (Request group client seq op) s e = no_errand entry e
-  says_none (Answer group seq answer) s e = no_errand entry e
-  says_none (Prepare group ballot from_slot) s e = no_errand entry e
-  says_none (Promise group ballot reports) s e = no_errand entry e
-  says_none (Accept group ballot slot command) s e = no_errand entry e
-  says_none (Accepted group ballot slot) s e = no_errand entry e
-  says_none (Nack group promised) s e = no_errand entry e
-  says_none (Learn group slot command) s e = no_errand entry e
-  says_none (Ask group from_slot) s e = no_errand entry e
-  says_none (Install group slot base sets) s e = no_errand entry e
-  says_none (ToldMail order result) s e = no_errand entry e
-
+-- .. or aside
 aside_none : (begun : Requests) (set : Setting) (from to : ℕ) (entry : Draw × Errand) (body : MailBody) → IsAsideBody begun set from to body → errand_by from to body ≡ Some entry → ⊥
 aside_none begun set from to entry (Request group client seq op) s e = no_errand entry e
 aside_none begun set from to entry (Answer group seq answer) s e = no_errand entry e
 aside_none begun set from to entry _ s e = absurd s
 
 calm_home : (scenario : Scenario) (begun : Requests) (set : Setting) (mail : Mail) → IsCalmMail begun set mail → GoesHome scenario mail
-calm_home scenario begun set mail (inl p) errand = absurd (says_none begun set p.frame mail.from mail.to errand.0 mail.body (inl p.says) errand.1)
+calm_home scenario begun set mail (inl p) errand = absurd (plain_none begun p.frame mail.from mail.to errand.0 mail.body p.says errand.1)
 calm_home scenario begun set mail (inr a) errand = absurd (aside_none begun set mail.from mail.to errand.0 mail.body a errand.1)
 
 -- ---- rows

@@ -45,8 +45,8 @@ use Rattle.sc_calm_answers_law.specs.RiseRising.{IsRisingOn}
 use Rattle.sc_calm_answers_law.specs.RiseRounds.{IsRoundSince, OrdersKeepRounds}
 use Rattle.sc_calm_answers_law.specs.KnownFronts.{FrontsAreFound, IsFoundFront}
 use Rattle.sc_calm_answers_law.specs.Strangers.{NoMailForStrangers}
-use Rattle.sc_calm_scenes_law.specs.Quiet.{GoesToActor}
 use Rattle.sc_actor.specs.Mail.{mails}
+use Rattle.sc_calm_answers_law.specs.Homeward.{GoesHome, OrderedErrandsGoHome, HomewardGoesToActors}
 use Rattle.sc_calm_answers_law.specs.Journal.{IsCalmJournal, IsFront, AreSent, IsNamedGroup}
 use Rattle.sc_calm_answers_law.specs.Resting.{RestsAt}
 use Rattle.sc_calm_answers_law.specs.JournalUnder.{IsUnder, IsYoungAt}
@@ -55,7 +55,7 @@ use Rattle.sc_calm_answers_law.specs.Viewing.{ViewsAgree}
 use Rattle.sc_calm_answers_law.specs.Borne.{ChildrenAreBorne}
 use Rattle.sc_calm_answers_law.specs.Young.{YoungGroupsStay}
 use Rattle.sc_calm_answers_law.specs.TrueBeginning.{TrueOrdersBegin}
-use Rattle.sc_calm_answers_law.specs.TrueHinted.{HintedOrdersBegin}
+use Rattle.sc_calm_answers_law.specs.TrueHinted.{IsHinted, HintedOrdersBegin}
 use Rattle.sc_calm_answers_law.specs.Settled.{SettledOrdersBegin}
 use Rattle.sc_calm_answers_law.specs.TrueUnder.{AreSeen}
 use Rattle.sc_calm_answers_law.specs.Works.{OrdersBeginWork, WorkStandsAlone}
@@ -66,8 +66,8 @@ use Rattle.sc_calm_answers_law.proofs.Clients.{gone_still, told_stays}
 use Rattle.sc_calm_answers_law.proofs.OrderedSending.{known_told}
 
 module _ (all_bounded : ValidScenariosAreBounded) (few_law : SlotsAreLeft) (logs_law : ReplicasRunLogs) (views_law : ViewsAreReplicas) (rosters_law : SlotsHaveRosters) (next_law : NextRowsAreSent) (newest_law : NewestStay) (found_law : FrontsAreFound) (no_law : NoMailForStrangers)
-    (agree_law : ViewsAgree) (plain_law : SentReplicas) (finds_law : OrdersRowsFind) (fresh_law : FreshGroupsStay) (young_law : YoungGroupsStay) (true_law : TrueOrdersBegin) (settled_law : SettledOrdersBegin) (hinted_law : HintedOrdersBegin) (work_law : OrdersBeginWork) (borne_law : ChildrenAreBorne) (rise_law : NextRowsRise) (rounds_law : OrdersKeepRounds) (stands_law : WorkStandsAlone) (calm_law : ToldOrdersFindCalm)
-    (words : ℕ → ℕ → ℕ × ℕ) (scenario : Scenario) (first : Base) (journal quiet : Rows) (seat : Seat Player) (line : OrderLine) (calm : IsCalmJournal words scenario journal) (rests : RestsAt words scenario first journal quiet) (errands : Each (GoesToActor words (births as_nodes scenario)) (mails quiet))
+    (agree_law : ViewsAgree) (plain_law : SentReplicas) (finds_law : OrdersRowsFind) (fresh_law : FreshGroupsStay) (young_law : YoungGroupsStay) (true_law : TrueOrdersBegin) (settled_law : SettledOrdersBegin) (hinted_law : HintedOrdersBegin) (work_law : OrdersBeginWork) (borne_law : ChildrenAreBorne) (rise_law : NextRowsRise) (rounds_law : OrdersKeepRounds) (stands_law : WorkStandsAlone) (calm_law : ToldOrdersFindCalm) (errands_law : OrderedErrandsGoHome) (actors_law : HomewardGoesToActors)
+    (words : ℕ → ℕ → ℕ × ℕ) (scenario : Scenario) (first : Base) (journal quiet : Rows) (seat : Seat Player) (line : OrderLine) (calm : IsCalmJournal words scenario journal) (rests : RestsAt words scenario first journal quiet) (home : Each (GoesHome scenario) (mails quiet))
     (seated : IsSeat (births as_nodes scenario) seat) (front : IsFront journal (with_event quiet seat (Told line))) (timely : AreInTime (players words (births as_nodes scenario)) (with_event quiet seat (Told line))) where
   abbrev all : List (Seat Player)
   all = births as_nodes scenario
@@ -139,7 +139,7 @@ module _ (all_bounded : ValidScenariosAreBounded) (few_law : SlotsAreLeft) (logs
     votes = λ n mail group_ node r named_ ballot slot e taking here runs body. cc;
     told = λ other e. record {
       quiet = rests.calm;
-      errands = errands;
+      errands = actors_law words scenario (mails quiet) home;
       strangers = strangers;
       room = λ name node r view runs. (room name node r view, stands_law.rests r (at_rest name node r view));
     };
@@ -183,6 +183,9 @@ module _ (all_bounded : ValidScenariosAreBounded) (few_law : SlotsAreLeft) (logs
   round_after base among =
       rounds_law.told words (logged_sets as_nodes base journal) (over_at as_nodes base journal) (tellers_at as_nodes scenario base journal) scenario quiet seat line base begun.0 timely seated (rests.sent base among) (steps base among) (none base.core.id)
 
+  hinted_after : IsHinted scenario quiet then begun.0
+  hinted_after = hinted_law words scenario quiet seat line begun.0 told_so begun.1.stands
+
   found : IsFoundFront words scenario journal quiet
   found = found_law words scenario journal quiet calm rests.front
 
@@ -200,7 +203,7 @@ module _ (all_bounded : ValidScenariosAreBounded) (few_law : SlotsAreLeft) (logs
         round = round_after;
         true_since = true_so;
         settled = settled_law words scenario first journal quiet seat line begun.0 calm rests seen told_so front sent_after strangers begun.1.stands true_so;
-        hinted = hinted_law words scenario quiet seat line begun.0 told_so begun.1.stands;
+        hinted = hinted_after;
         line = line;
         task = work.0;
         is_task = work.1;
@@ -208,14 +211,15 @@ module _ (all_bounded : ValidScenariosAreBounded) (few_law : SlotsAreLeft) (logs
         borne = borne_law.begins words scenario journal quiet seat line work.0 seated timely work.1;
         clients = λ other client is was. (told_stays all quiet seat other seated is line client was, gone_still quiet row other.who refl);
         known = known_told words scenario journal quiet seat line begun.0 seated timely rests.calm named begun.1;
+        home = errands_law words scenario journal quiet quiet row begun.0 calm rests.front front begun.1.stands hinted_after home;
       }
 
   finds_calm : (far sent : ℕ) → FindsCalm (chart_at far sent s quiet) all quiet seat (Told line)
   finds_calm far sent = calm_law words scenario first journal quiet far sent seat line calm rests (found_law words scenario journal quiet calm rests.front).homes seated
 
 pub orders_begin : ValidScenariosAreBounded → SlotsAreLeft → ReplicasRunLogs → ViewsAreReplicas → SlotsHaveRosters → NextRowsAreSent → NewestStay → FrontsAreFound → NoMailForStrangers → ViewsAgree → SentReplicas → OrdersRowsFind → FreshGroupsStay → YoungGroupsStay → TrueOrdersBegin → SettledOrdersBegin → HintedOrdersBegin → OrdersBeginWork → ChildrenAreBorne → NextRowsRise → OrdersKeepRounds → WorkStandsAlone
-    → ToldOrdersFindCalm → OrdersBeginOrdered
-orders_begin all_bounded few_law logs_law views_law rosters_law next_law newest_law found_law no_law agree_law plain_law finds_law fresh_law young_law true_law settled_law hinted_law work_law borne_law rise_law rounds_law stands_law calm_law words scenario first journal quiet seat line calm rests errands seated front timely = (
-  begins all_bounded few_law logs_law views_law rosters_law next_law newest_law found_law no_law agree_law plain_law finds_law fresh_law young_law true_law settled_law hinted_law work_law borne_law rise_law rounds_law stands_law calm_law words scenario first journal quiet seat line calm rests errands seated front timely,
-  finds_calm all_bounded few_law logs_law views_law rosters_law next_law newest_law found_law no_law agree_law plain_law finds_law fresh_law young_law true_law settled_law hinted_law work_law borne_law rise_law rounds_law stands_law calm_law words scenario first journal quiet seat line calm rests errands seated front timely,
+    → ToldOrdersFindCalm → OrderedErrandsGoHome → HomewardGoesToActors → OrdersBeginOrdered
+orders_begin all_bounded few_law logs_law views_law rosters_law next_law newest_law found_law no_law agree_law plain_law finds_law fresh_law young_law true_law settled_law hinted_law work_law borne_law rise_law rounds_law stands_law calm_law errands_law actors_law words scenario first journal quiet seat line calm rests home seated front timely = (
+  begins all_bounded few_law logs_law views_law rosters_law next_law newest_law found_law no_law agree_law plain_law finds_law fresh_law young_law true_law settled_law hinted_law work_law borne_law rise_law rounds_law stands_law calm_law errands_law actors_law words scenario first journal quiet seat line calm rests home seated front timely,
+  finds_calm all_bounded few_law logs_law views_law rosters_law next_law newest_law found_law no_law agree_law plain_law finds_law fresh_law young_law true_law settled_law hinted_law work_law borne_law rise_law rounds_law stands_law calm_law errands_law actors_law words scenario first journal quiet seat line calm rests home seated front timely,
 )

@@ -76,12 +76,14 @@ use Rattle.sc_calm_answers_law.specs.TrueEntries.{LeadsSince}
 use Rattle.sc_calm_answers_law.specs.Finished.{EntriesAreTrue}
 use Rattle.sc_calm_answers_law.specs.Unsettled.{MailComesUnsettled, TakesSince}
 use Rattle.sc_client_table.specs.Client.{Client as ClientState}
-use Rattle.sc_calm_answers_law.specs.TrueHinted.{CoordinatorsAreHinted, HintedOrdersGoOn}
+use Rattle.sc_calm_answers_law.specs.TrueHinted.{IsHinted, CoordinatorsAreHinted, HintedOrdersGoOn}
 use Rattle.sc_calm_answers_law.specs.Settled.{AreSettled, CoordinatorsAreSettled, SettledOrdersGoOn}
 use Rattle.sc_calm_answers_law.specs.TrueGoing.{AskedGroupsStood, GoesOnSince, TrueOrdersGoOn}
 use Rattle.sc_calm_answers_law.specs.Works.{IsGuidedRow, DeliveriesKeepWork, WorkStandsAlone}
 use Rattle.sc_calm_answers_law.specs.OrderedEntries.{FlightsAreEntries}
+use Rattle.sc_calm_answers_law.specs.Homeward.{OrderedErrandsGoHome}
 use Rattle.sc_calm_answers_law.specs.Ordered.{IsOfJournal, IsOrderedSince, DeliveriesKeepOrdered}
+use Rattle.sc_calm_answers_law.specs.Takers.{TakersAreNodes}
 use Rattle.sc_calm_answers_law.proofs.OrderedKnown as at_row
 use Rattle.sc_calm_answers_law.proofs.OrderedKnown.{named_there}
 use Rattle.sc_calm_answers_law.proofs.Clients.{gone_still, other_stays}
@@ -135,8 +137,8 @@ no_request (Told order result) none = tt
 
 module _ (all_bounded : ValidScenariosAreBounded) (few_law : SlotsAreLeft) (logs_law : ReplicasRunLogs) (views_law : ViewsAreReplicas) (rosters_law : SlotsHaveRosters) (last_law : ReplicasLast) (next_law : NextRowsAreSent) (newest_law : NewestStay) (found_law : FrontsAreFound) (no_law : NoMailForStrangers)
     (agree_law : ViewsAgree) (alone_law : WellLedLeadAlone) (plain_law : SentReplicas) (meets_law : OrdersRowsMeet) (finds_law : OrdersRowsFind) (rise_law : NextRowsRise) (rounds_law : OrdersKeepRounds) (nowhere_law : ChildrenWereNowhere) (borne_law : ChildrenAreBorne) (fresh_law : FreshGroupsStay) (young_law : YoungGroupsStay) (unsettled_law : MailComesUnsettled) (asked_law : AskedGroupsStood) (true_law : TrueOrdersGoOn)
-    (work_law : DeliveriesKeepWork) (stands_law : WorkStandsAlone) (calm_law : OrderRowsFindCalm) (settled_law : SettledOrdersGoOn) (settled_at : CoordinatorsAreSettled) (hinted_law : HintedOrdersGoOn) (hinted_at : CoordinatorsAreHinted) (entries_law : EntriesAreTrue) (flights_law : FlightsAreEntries) (come_law : MailMayCome) (once_law : LawfulReplicasAreNamedOnce) (words : ℕ → ℕ → ℕ × ℕ) (scenario : Scenario) (first : Base) (journal quiet rows : Rows) (seat : Seat Player) (number : ℕ) (calm : IsCalmJournal words scenario journal)
-    (o : IsOrderedSince words scenario first journal quiet rows) (on : GoesOnBy words scenario journal rows seat number) (nodes : (client : ClientState) → value player_table seat rows ≡ Client client → ⊥) where
+    (work_law : DeliveriesKeepWork) (stands_law : WorkStandsAlone) (calm_law : OrderRowsFindCalm) (settled_law : SettledOrdersGoOn) (settled_at : CoordinatorsAreSettled) (hinted_law : HintedOrdersGoOn) (hinted_at : CoordinatorsAreHinted) (entries_law : EntriesAreTrue) (flights_law : FlightsAreEntries) (come_law : MailMayCome) (once_law : LawfulReplicasAreNamedOnce) (takers_law : TakersAreNodes) (errands_law : OrderedErrandsGoHome) (words : ℕ → ℕ → ℕ × ℕ) (scenario : Scenario) (first : Base) (journal quiet rows : Rows) (seat : Seat Player) (number : ℕ) (calm : IsCalmJournal words scenario journal)
+    (o : IsOrderedSince words scenario first journal quiet rows) (on : GoesOnBy words scenario journal rows seat number) where
   abbrev all : List (Seat Player)
   all = births as_nodes scenario
 
@@ -169,6 +171,10 @@ module _ (all_bounded : ValidScenariosAreBounded) (few_law : SlotsAreLeft) (logs
 
   abbrev sent_after : AreSent words scenario journal then
   sent_after = at_row.sent_after few_law logs_law views_law rosters_law next_law newest_law found_law no_law words scenario journal rows seat (Deliver number) calm on.front on.seated on.timely under.sent under.reached young
+
+  -- a node takes it
+  nodes : (client : ClientState) → value player_table seat rows ≡ Client client → ⊥
+  nodes client is = takers_law words scenario first journal quiet rows seat number calm o on client is
 
   seen : AreSeen scenario quiet
   seen name node = agree_law.nodes scenario quiet name node (all_bounded scenario calm.valid) (found_law words scenario journal quiet calm under.rests.front).homes
@@ -316,6 +322,10 @@ module _ (all_bounded : ValidScenariosAreBounded) (few_law : SlotsAreLeft) (logs
   settled_after =
       settled_law words scenario first journal quiet rows seat number under.stage next_stage.0 goes_since under.sent sent_after (λ name node r e runs. stands_law.alone o.task name r (o.work.replicas name node r e)) next_stage.1.stands next_stage.2 true_after o.settled
 
+  hinted_after : IsHinted scenario quiet then next_stage.0
+  hinted_after =
+      hinted_law words scenario first journal quiet rows seat number under.stage next_stage.0 goes_since (λ name node r e runs. entries_law words scenario first journal quiet rows name node r under.stage (leads_since name node r e runs)) next_stage.1.stands next_stage.2 true_after o.hinted
+
   keeps : IsOrderedSince words scenario first journal quiet then
   unfolding under_after
   keeps = record {
@@ -327,7 +337,7 @@ module _ (all_bounded : ValidScenariosAreBounded) (few_law : SlotsAreLeft) (logs
     round = round_after;
     true_since = true_after;
     settled = settled_after;
-    hinted = hinted_law words scenario first journal quiet rows seat number under.stage next_stage.0 goes_since (λ name node r e runs. entries_law words scenario first journal quiet rows name node r under.stage (leads_since name node r e runs)) next_stage.1.stands next_stage.2 true_after o.hinted;
+    hinted = hinted_after;
     line = o.line;
     task = o.task;
     is_task = o.is_task;
@@ -335,6 +345,7 @@ module _ (all_bounded : ValidScenariosAreBounded) (few_law : SlotsAreLeft) (logs
     borne = borne_law.keeps words scenario first journal quiet rows o.line o.task seat number working o.borne;
     clients = λ other client is was. (let h = o.clients other client is was in (other_stays all rows seat other on.seated is (Deliver number) client (nodes client) h.0, gone_still rows row other.who refl ∙ h.1));
     known = known_after words scenario journal quiet rows seat number next_stage.0 on.seated on.timely unanswered named_quiet next_stage.1 o.known;
+    home = errands_law words scenario journal quiet rows row next_stage.0 calm under.rests.front on.front next_stage.1.stands hinted_after o.home;
   }
 
   -- ---- what it finds
@@ -377,8 +388,8 @@ module _ (all_bounded : ValidScenariosAreBounded) (few_law : SlotsAreLeft) (logs
       (record { alone = alone; homes = (found_law words scenario journal quiet calm under.rests.front).homes; front = front; rise = rise; nodes = nodes; mail = mail_so })
 
 pub deliveries_keep : ValidScenariosAreBounded → SlotsAreLeft → ReplicasRunLogs → ViewsAreReplicas → SlotsHaveRosters → ReplicasLast → NextRowsAreSent → NewestStay → FrontsAreFound → NoMailForStrangers → ViewsAgree → WellLedLeadAlone → SentReplicas → OrdersRowsMeet → OrdersRowsFind → NextRowsRise → OrdersKeepRounds → ChildrenWereNowhere → ChildrenAreBorne → FreshGroupsStay → YoungGroupsStay
-    → MailComesUnsettled → AskedGroupsStood → TrueOrdersGoOn → DeliveriesKeepWork → WorkStandsAlone → OrderRowsFindCalm → SettledOrdersGoOn → CoordinatorsAreSettled → HintedOrdersGoOn → CoordinatorsAreHinted → EntriesAreTrue → FlightsAreEntries → MailMayCome → LawfulReplicasAreNamedOnce → DeliveriesKeepOrdered
-deliveries_keep all_bounded few_law logs_law views_law rosters_law last_law next_law newest_law found_law no_law agree_law alone_law plain_law meets_law finds_law rise_law rounds_law nowhere_law borne_law fresh_law young_law unsettled_law asked_law true_law work_law stands_law calm_law settled_law settled_at hinted_law hinted_at entries_law flights_law come_law once_law words scenario first journal quiet rows seat number calm o on nodes = (
-  keeps all_bounded few_law logs_law views_law rosters_law last_law next_law newest_law found_law no_law agree_law alone_law plain_law meets_law finds_law rise_law rounds_law nowhere_law borne_law fresh_law young_law unsettled_law asked_law true_law work_law stands_law calm_law settled_law settled_at hinted_law hinted_at entries_law flights_law come_law once_law words scenario first journal quiet rows seat number calm o on nodes,
-  found all_bounded few_law logs_law views_law rosters_law last_law next_law newest_law found_law no_law agree_law alone_law plain_law meets_law finds_law rise_law rounds_law nowhere_law borne_law fresh_law young_law unsettled_law asked_law true_law work_law stands_law calm_law settled_law settled_at hinted_law hinted_at entries_law flights_law come_law once_law words scenario first journal quiet rows seat number calm o on nodes,
+    → MailComesUnsettled → AskedGroupsStood → TrueOrdersGoOn → DeliveriesKeepWork → WorkStandsAlone → OrderRowsFindCalm → SettledOrdersGoOn → CoordinatorsAreSettled → HintedOrdersGoOn → CoordinatorsAreHinted → EntriesAreTrue → FlightsAreEntries → MailMayCome → LawfulReplicasAreNamedOnce → TakersAreNodes → OrderedErrandsGoHome → DeliveriesKeepOrdered
+deliveries_keep all_bounded few_law logs_law views_law rosters_law last_law next_law newest_law found_law no_law agree_law alone_law plain_law meets_law finds_law rise_law rounds_law nowhere_law borne_law fresh_law young_law unsettled_law asked_law true_law work_law stands_law calm_law settled_law settled_at hinted_law hinted_at entries_law flights_law come_law once_law takers_law errands_law words scenario first journal quiet rows seat number calm o on = (
+  keeps all_bounded few_law logs_law views_law rosters_law last_law next_law newest_law found_law no_law agree_law alone_law plain_law meets_law finds_law rise_law rounds_law nowhere_law borne_law fresh_law young_law unsettled_law asked_law true_law work_law stands_law calm_law settled_law settled_at hinted_law hinted_at entries_law flights_law come_law once_law takers_law errands_law words scenario first journal quiet rows seat number calm o on,
+  found all_bounded few_law logs_law views_law rosters_law last_law next_law newest_law found_law no_law agree_law alone_law plain_law meets_law finds_law rise_law rounds_law nowhere_law borne_law fresh_law young_law unsettled_law asked_law true_law work_law stands_law calm_law settled_law settled_at hinted_law hinted_at entries_law flights_law come_law once_law takers_law errands_law words scenario first journal quiet rows seat number calm o on,
 )

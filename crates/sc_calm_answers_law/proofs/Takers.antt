@@ -1,5 +1,5 @@
 -- What is delivered while an order is under way is for a node: no such mail goes to a client.
-use Rattle.std.proofs.Common.{◌≡◌, ℕ, eqb, find, true, false, List, [], ◌∷◌, ◌++◌, Option, Some, None, inl, inr, refl, sym, ◌∙◌, ap, subst}
+use Rattle.std.proofs.Common.{◌≡◌, ℕ, eqb, find, true, List, [], ◌++◌, Option, Some, None, inl, inr, refl, sym, ◌∙◌, ap, subst}
 use Rattle.std.proofs.lemmas.Bool.{cases_Bool}
 use Rattle.std.proofs.lemmas.Option.{none-some}
 use Rattle.sc_base.specs.Among.{Among, Each}
@@ -14,7 +14,6 @@ use Rattle.sc_mail.specs.declared.bodies.MailBody.TheVariants.{Request, Answer, 
 use Rattle.sc_mail.specs.declared.roles.Role.TheVariants.{Node, Client}
 use Rattle.sc_actor.specs.declared.actors.Seat.{Seat}
 use Rattle.sc_actor.specs.declared.rows.Event.TheVariants.{Deliver}
-use Rattle.sc_actor.specs.declared.rows.Row.{Row}
 use Rattle.sc_actor.specs.Mail.{mails}
 use Rattle.sc_actor.specs.Replay.{value}
 use Rattle.sc_actor.specs.System.{System, row_of}
@@ -25,7 +24,7 @@ use Rattle.sc_group_law.proofs.RowSteps.{number_among}
 use Rattle.sc_node_table.specs.Node.{NodeState, born_node, group_of_mail}
 use Rattle.sc_node_table.specs.Replica.{listed}
 use Rattle.sc_node_table.specs.Slots.{slots_ahead}
-use Rattle.sc_orderly_law.specs.Orderly.{is_born, rest}
+use Rattle.sc_orderly_law.specs.Orderly.{is_born}
 use Rattle.sc_orderly_law.specs.Timely.{AreInTime}
 use Rattle.sc_orderly_law.proofs.InTime.{in_time_before, in_time_tidy, last_in_time}
 use Rattle.sc_orderly_law.proofs.Resting.{TakesFirst, takes_first, is_born-from}
@@ -37,8 +36,7 @@ use Rattle.sc_calm_law.specs.Charts.{players}
 use Rattle.sc_calm_law.specs.Totals.{Rows}
 use Rattle.sc_calm_orders_law.specs.Parts.{errand_by}
 use Rattle.sc_calm_orders_law.specs.Scenes.{Errand}
-use Rattle.sc_calm_rows_law.specs.Groups.{marks_at}
-use Rattle.sc_calm_logs_law.specs.Logged.{IsGroupOf, logged_sets}
+use Rattle.sc_calm_logs_law.specs.Logged.{logged_sets}
 use Rattle.sc_calm_mail_law.specs.Posted.{IsClientsBody, IsNodesBody, IsPlayers, IsPosted, MailIsPosted, DesksAreNotBorn}
 use Rattle.sc_calm_scenes_law.proofs.Turning.{calm_is}
 use Rattle.sc_calm_answers_law.specs.Homeward.{IsNodeOf, GoesHome, RefusesHome, RefusalsGoHome}
@@ -64,7 +62,7 @@ told_to who (Node node) mail order result e p = (let own : IsNodesBody who mail.
 told_to who (Client client) mail order result e p = (let none : IsClientsBody client.me (Told order result) = subst (IsClientsBody client.me) e p.1 in absurd none)
 
 module _ (post_law : MailIsPosted) (desk_law : DesksAreNotBorn) (members_law : MembersAreHome) (refuse_law : RefusalsGoHome) (words : ℕ → ℕ → ℕ × ℕ) (scenario : Scenario) (first : Base) (journal quiet rows : Rows) (seat : Seat Player) (number : ℕ) (calm : IsCalmJournal words scenario journal)
-    (o : IsOrderedSince words scenario first journal quiet rows) (on : GoesOnBy words scenario journal rows seat number) (home : Each (GoesHome scenario) (mails rows)) (client : ClientState) (is : value player_table seat rows ≡ Client client) where
+    (o : IsOrderedSince words scenario first journal quiet rows) (on : GoesOnBy words scenario journal rows seat number) (client : ClientState) (is : value player_table seat rows ≡ Client client) where
   abbrev all : List (Seat Player)
   all = births as_nodes scenario
 
@@ -132,7 +130,7 @@ module _ (post_law : MailIsPosted) (desk_law : DesksAreNotBorn) (members_law : M
         never (sym g.2)
 
   errand : (entry : Draw × Errand) → errand_by d.mail.from d.mail.to d.mail.body ≡ Some entry → ⊥
-  errand entry e = away_to (Each-among (GoesHome scenario) (mails rows) d.mail home sent (entry, e))
+  errand entry e = away_to (Each-among (GoesHome scenario) (mails rows) d.mail o.home sent (entry, e))
 
   desk : d.mail.to ≡ 0 → ⊥
   desk e =
@@ -162,4 +160,4 @@ module _ (post_law : MailIsPosted) (desk_law : DesksAreNotBorn) (members_law : M
   taken_by_node = none d.mail.body refl
 
 pub takers_are_nodes : MailIsPosted → DesksAreNotBorn → MembersAreHome → RefusalsGoHome → TakersAreNodes
-takers_are_nodes post_law desk_law members_law refuse_law words scenario first journal quiet rows seat number calm o on home client is = taken_by_node post_law desk_law members_law refuse_law words scenario first journal quiet rows seat number calm o on home client is
+takers_are_nodes post_law desk_law members_law refuse_law words scenario first journal quiet rows seat number calm o on client is = taken_by_node post_law desk_law members_law refuse_law words scenario first journal quiet rows seat number calm o on client is

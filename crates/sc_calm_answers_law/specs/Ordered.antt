@@ -22,7 +22,6 @@ use Rattle.sc_calm_law.specs.Charts.{players}
 use Rattle.sc_calm_law.specs.Keeping.{FindsCalm}
 use Rattle.sc_calm_law.specs.Totals.{Rows}
 use Rattle.sc_calm_rows_law.specs.Turns.{IsSeat, with_event}
-use Rattle.sc_calm_scenes_law.specs.Quiet.{GoesToActor}
 use Rattle.sc_calm_charts_law.specs.Charting.{chart_at}
 use Rattle.sc_calm_charts_law.specs.Fronts.{quiet_front}
 use Rattle.sc_budget_law.specs.AskingQuiet.{replicas_after, DoHintsRise}
@@ -30,6 +29,7 @@ use Rattle.sc_calm_logs_law.specs.Logged.{logged_sets}
 use Rattle.sc_calm_answers_law.specs.Tellers.{tellers_at}
 use Rattle.sc_calm_answers_law.specs.RiseRising.{IsRisingOn}
 use Rattle.sc_calm_answers_law.specs.RiseRounds.{IsRoundSince}
+use Rattle.sc_calm_answers_law.specs.Homeward.{GoesHome}
 use Rattle.sc_calm_answers_law.specs.Journal.{IsCalmJournal, IsFront, GoesOnBy, IsNamedGroup}
 use Rattle.sc_calm_answers_law.specs.Resting.{RestsAt}
 use Rattle.sc_calm_answers_law.specs.JournalUnder.{IsUnder}
@@ -44,7 +44,7 @@ use Rattle.sc_calm_answers_law.specs.Works.{AreAtWork, IsTaskOf}
 abbrev pub IsOfJournal : Scenario → Rows → Mail → Type 0
 IsOfJournal scenario journal mail = (name : Draw) → group_of_mail mail.body ≡ Some name → IsNamedGroup scenario journal name
 
--- An order is under way since a quiet front that rests: what is known of its stage, of the groups that it has not touched, of those that left a group, of rounds, of its transaction, of its coordinator, of what stands at groups, and of the child that it makes; clients are as they were; and each mail under way is of a group of the journal.
+-- An order is under way since a quiet front that rests: what is known of its stage, of the groups that it has not touched, of those that left a group, of rounds, of its transaction, of its coordinator, of what stands at groups, and of the child that it makes; clients are as they were; each mail under way is of a group of the journal; and errands go to nodes.
 pub record IsOrderedSince (words : ℕ → ℕ → ℕ × ℕ) (scenario : Scenario) (first : Base) (journal quiet rows : Rows) : Type 0 where
   pub behind : Rows
   pub rows_are : rows ≡ quiet ++ behind
@@ -62,20 +62,21 @@ pub record IsOrderedSince (words : ℕ → ℕ → ℕ × ℕ) (scenario : Scena
   pub borne : AreBorneSo scenario journal quiet rows task
   pub clients : (other : Seat Player) (client : ClientState) → IsSeat (births as_nodes scenario) other → value player_table other quiet ≡ Client client → (value player_table other rows ≡ Client client) × (has_gone rows other.who ≡ has_gone quiet other.who)
   pub known : (who : ℕ) → is_born (players words (births as_nodes scenario)) who ≡ true → Each (IsOfJournal scenario journal) (rest (players words (births as_nodes scenario)) rows who)
+  pub home : Each (GoesHome scenario) (mails rows)
 
--- So it is from an order on that is told in a quiet front that rests, where errands went to players, which finds what keeps the journal calm.
+-- So it is from an order on that is told in a quiet front that rests, before which errands went to nodes, which finds what keeps the journal calm.
 abbrev pub OrdersBeginOrdered : Type 0
 OrdersBeginOrdered =
-    (words : ℕ → ℕ → ℕ × ℕ) (scenario : Scenario) (first : Base) (journal quiet : Rows) (seat : Seat Player) (line : OrderLine) → IsCalmJournal words scenario journal → RestsAt words scenario first journal quiet → Each (GoesToActor words (births as_nodes scenario)) (mails quiet)
+    (words : ℕ → ℕ → ℕ × ℕ) (scenario : Scenario) (first : Base) (journal quiet : Rows) (seat : Seat Player) (line : OrderLine) → IsCalmJournal words scenario journal → RestsAt words scenario first journal quiet → Each (GoesHome scenario) (mails quiet)
     → IsSeat (births as_nodes scenario) seat → IsFront journal (with_event quiet seat (Told line)) → AreInTime (players words (births as_nodes scenario)) (with_event quiet seat (Told line))
     → IsOrderedSince words scenario first journal quiet (with_event quiet seat (Told line))
     × ((far sent : ℕ) → FindsCalm (chart_at far sent (players words (births as_nodes scenario)) quiet) (births as_nodes scenario) quiet seat (Told line))
 
--- All this holds after a delivery that a node takes, which finds what keeps the journal calm, by the chart of the rows before it.
+-- All this holds after each delivery, which finds what keeps the journal calm, by the chart of the rows before it.
 abbrev pub DeliveriesKeepOrdered : Type 0
 DeliveriesKeepOrdered =
     (words : ℕ → ℕ → ℕ × ℕ) (scenario : Scenario) (first : Base) (journal quiet rows : Rows) (seat : Seat Player) (number : ℕ) → IsCalmJournal words scenario journal
-    → IsOrderedSince words scenario first journal quiet rows → GoesOnBy words scenario journal rows seat number → ((client : ClientState) → value player_table seat rows ≡ Client client → ⊥)
+    → IsOrderedSince words scenario first journal quiet rows → GoesOnBy words scenario journal rows seat number
     → IsOrderedSince words scenario first journal quiet (with_event rows seat (Deliver number))
     × ((far sent : ℕ) → quiet_front (players words (births as_nodes scenario)) rows ≡ quiet → DoHintsRise (replicas_after scenario quiet) (chart_at far sent (players words (births as_nodes scenario)) rows).ways
     → FindsCalm (chart_at far sent (players words (births as_nodes scenario)) rows) (births as_nodes scenario) rows seat (Deliver number))

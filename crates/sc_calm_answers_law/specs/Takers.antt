@@ -1,21 +1,18 @@
 -- That no client takes mail while an order is under way.
 use Rattle.std.specs.Prelude.{◌≡◌, ℕ}
-use Rattle.sc_base.specs.Among.{Each}
 use Rattle.sc_cmd.specs.declared.cores.Base.{Base}
 use Rattle.sc_mail.specs.declared.roles.Role.TheVariants.{Client}
 use Rattle.sc_actor.specs.declared.actors.Seat.{Seat}
-use Rattle.sc_actor.specs.Mail.{mails}
 use Rattle.sc_actor.specs.Replay.{value}
 use Rattle.sc_client_table.specs.Client.{Client as ClientState}
 use Rattle.sc_scenario.specs.declared.scenarios.Scenario.{Scenario}
 use Rattle.sc_sound.specs.Players.{Player, player_table}
 use Rattle.sc_calm_law.specs.Totals.{Rows}
-use Rattle.sc_calm_answers_law.specs.Homeward.{GoesHome}
 use Rattle.sc_calm_answers_law.specs.Journal.{IsCalmJournal, GoesOnBy}
 use Rattle.sc_calm_answers_law.specs.Ordered.{IsOrderedSince}
 
--- While an order is under way, and errands went to nodes, what is delivered is taken by a node.
+-- While an order is under way what is delivered is taken by a node.
 abbrev pub TakersAreNodes : Type 0
 TakersAreNodes =
     (words : ℕ → ℕ → ℕ × ℕ) (scenario : Scenario) (first : Base) (journal quiet rows : Rows) (seat : Seat Player) (number : ℕ) → IsCalmJournal words scenario journal → IsOrderedSince words scenario first journal quiet rows
-    → GoesOnBy words scenario journal rows seat number → Each (GoesHome scenario) (mails rows) → (client : ClientState) → value player_table seat rows ≡ Client client → ⊥
+    → GoesOnBy words scenario journal rows seat number → (client : ClientState) → value player_table seat rows ≡ Client client → ⊥

@@ -47,8 +47,7 @@ pub fn requests_send_no_errands()
 /// Errands that go to nodes go to players.
 pub fn homeward_goes_to_actors()
     ensures { HomewardGoesToActors }
-{
-}
+{}
 
 /// While an order is under way what is delivered is taken by a node.
 pub fn takers_are_nodes()

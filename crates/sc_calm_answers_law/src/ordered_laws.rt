@@ -4,6 +4,7 @@ ghost use Rattle.sc_calm_answers_law.specs.Ordered.{DeliveriesKeepOrdered, Order
 ghost use Rattle.sc_calm_answers_law.specs.OrderedEntries.{FlightsAreEntries};
 
 use crate::found_laws::{newest_stay, orders_rows_find, orders_rows_meet, well_led_lead_alone};
+use crate::homeward_laws::{homeward_goes_to_actors, ordered_errands_go_home, takers_are_nodes};
 use crate::kept_laws::{order_rows_find_calm, told_orders_find_calm, views_agree};
 use crate::known_laws::{fronts_are_found, no_mail_for_strangers};
 use crate::led_laws::replicas_run_logs;
@@ -64,6 +65,8 @@ pub fn deliveries_keep_ordered()
     flights_are_entries();
     mail_may_come();
     lawful_replicas_are_named_once();
+    takers_are_nodes();
+    ordered_errands_go_home();
 }
 
 /// An order that is told in a quiet front which rests begins all that holds while it is under way,
@@ -94,6 +97,8 @@ pub fn orders_begin_ordered()
     orders_keep_rounds();
     work_stands_alone();
     told_orders_find_calm();
+    ordered_errands_go_home();
+    homeward_goes_to_actors();
 }
 
 /// Each command that is in flight at a leader while an order is under way is an entry of it, and
