@@ -117,9 +117,7 @@ pub mod NameLists
 mod NamedOnce
 pub mod Names
 pub mod NamesStay
-mod Naming
 pub mod Near
-mod Nearness
 pub mod Needs
 pub mod Newest
 pub mod Nodes
@@ -223,7 +221,6 @@ pub mod TrueRounds
 pub mod TrueSending
 pub mod TrueTurns
 pub mod Turned
-mod Unbegun
 pub mod Unborn
 pub mod Unsettled
 pub mod Viewing

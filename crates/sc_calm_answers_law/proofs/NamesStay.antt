@@ -40,6 +40,7 @@ use Rattle.sc_calm_answers_law.specs.Near.{HasFewNames, HasNamesSince, NamesStay
 use Rattle.sc_calm_answers_law.specs.Resting.{RestsAt}
 use Rattle.sc_calm_answers_law.specs.Tasks.{Task}
 use Rattle.sc_calm_answers_law.proofs.Delivering.{gone_leads, led_there, there_or}
+use Rattle.sc_calm_answers_law.proofs.ChartRests.{led_is_there, there_is_led}
 use Rattle.sc_calm_answers_law.proofs.KnownGoing.{once_among}
 use Rattle.sc_calm_answers_law.proofs.NameLists.{apart_few, once_apart, once_split}
 use Rattle.sc_calm_answers_law.proofs.OrderedKnown.{named_there}
@@ -59,35 +60,13 @@ both_names : (P : Draw → Type 0) (names more : List Draw) → Each P names →
 both_names P names [] old new = old
 both_names P names (name ∷ more) old new = both_names P (cond (list_any (λ other. same_draw other name) names) names (names ++ name ∷ [])) more (one_more P names name old new.0) new.1
 
--- ---- groups that are led
-
--- some seat leads
-led_seat : (group : Draw) (rows : Rows) (seats : List (Seat Player)) → list_any (λ seat. leads group (value player_table seat rows)) seats ≡ true → (seat : Seat Player) × Among seat seats × (leads group (value player_table seat rows) ≡ true)
-led_seat group rows [] led = absurd (true≢false (sym led))
-led_seat group rows (seat ∷ seats) led = elim (cases_Bool (leads group (value player_table seat rows))) [
-  | inl t ↦ (seat, inl refl, t)
-  | inr f ↦ (let more = led_seat group rows seats (sym (ap (λ b. b || list_any (λ other. leads group (value player_table other rows)) seats) f) ∙ led) in (more.0, inr more.1, more.2))
-]
-
--- .. and has a replica
-leads_has : (group : Draw) (player : Player) → leads group player ≡ true → (r : ReplicaState) × (replica_of group (replicas_of player) ≡ Some r)
-leads_has group (Client client) led = absurd (true≢false (sym led))
-leads_has group (Node node) led = by (replica_of group node.replicas) refl led
-  where
-    by : (o : Option ReplicaState) → replica_of group node.replicas ≡ o → is_leading o ≡ true → (r : ReplicaState) × (replica_of group node.replicas ≡ Some r)
-    by None e t = absurd (true≢false (sym t))
-    by (Some r) e t = (r, e)
-
 module _ (all_bounded : ValidScenariosAreBounded) (led_once : LedStandOnce) (found_law : FrontsAreFound) (words : ℕ → ℕ → ℕ × ℕ) (scenario : Scenario) (journal : Rows) (calm : IsCalmJournal words scenario journal) where
   abbrev all : List (Seat Player)
   all = births as_nodes scenario
 
   -- a group that is led is there
   there_led : (rows : Rows) (name : Draw) → is_led all rows name ≡ true → IsThere all rows name
-  there_led rows name led =
-      let s = led_seat name rows all led in
-      let r = leads_has name (value player_table s.0 rows) s.2 in
-      (s.0.who, r.0, ap (replica_in name rows) (seat_found all s.0 (all_apart scenario (all_bounded scenario calm.valid)) s.1) ∙ r.1)
+  there_led rows name led = led_is_there all rows name (all_apart scenario (all_bounded scenario calm.valid)) led
 
   -- .. and its name stands once
   led_stands : (rows : Rows) (name : Draw) → is_led all rows name ≡ true → StandsOnce name (names_at all rows)
@@ -123,12 +102,7 @@ module _ (all_bounded : ValidScenariosAreBounded) (led_once : LedStandOnce) (fou
   module _ (first : Base) (quiet : Rows) (rests : RestsAt words scenario first journal quiet) where
     -- each group that is there has a name
     quiet_named : (name : Draw) → IsThere all quiet name → Among name (names_at all quiet)
-    quiet_named name there =
-        let found = found_law words scenario journal quiet calm rests.front in
-        once_among name (names_at all quiet) (led_stands quiet name (elim (rests.is.quiet.groups name there.0 (there.1, found.views name there.0 ∙ there.2)) [
-          | inl q ↦ led_there all quiet name q.lead.me q.lead (sym (found.views name q.lead.me) ∙ q.newest.is_there) (ap (λ b. b || is_some q.lead.group.core.gone) q.leads.running)
-          | inr g ↦ led_there all quiet name g.last.me g.last (sym (found.views name g.last.me) ∙ g.newest.is_there) (gone_leads g.last.running g.last.group.core.gone g.into g.went)
-        ]))
+    quiet_named name there = once_among name (names_at all quiet) (led_stands quiet name (there_is_led found_law words scenario first journal quiet calm rests name there))
 
     module _ (rows : Rows) (row : Row Mail OrderLine) where
       abbrev then : Rows
@@ -179,16 +153,6 @@ module _ (all_bounded : ValidScenariosAreBounded) (led_once : LedStandOnce) (fou
               | inr is ↦ Among-right name (names_at all quiet) (task.name ∷ []) (inl (sym is))
             ]))
 
-    -- ---- while clients ask
-
-    stays : (front back : Rows) → ((one other : Rows) → front ++ back ≡ one ++ other → (name : Draw) → IsThere all (quiet ++ one) name → IsThere all quiet name) → names_at all (quiet ++ front) ≡ names_at all quiet → names_at all (quiet ++ (front ++ back)) ≡ names_at all quiet
-    stays front [] was same = ap (λ l. names_at all (quiet ++ l)) (append-nil front) ∙ same
-    stays front (row ∷ back) was same =
-        let place : front ++ row ∷ back ≡ (front ++ row ∷ []) ++ back = sym (append_assoc front (row ∷ []) back) in
-        let longer : (quiet ++ front) ++ row ∷ [] ≡ quiet ++ (front ++ row ∷ []) = append_assoc quiet front (row ∷ []) in
-        let one : names_at all ((quiet ++ front) ++ row ∷ []) ≡ names_at all quiet = none_new (quiet ++ front) row (λ name there. was (front ++ row ∷ []) back place name (subst (λ l. IsThere all l name) longer there)) same in
-        ap (λ l. names_at all (quiet ++ l)) place ∙ stays (front ++ row ∷ []) back (λ one_ other e. was one_ other (place ∙ e)) (ap (names_at all) (sym longer) ∙ one)
-
 -- one name more for one order more
 over_few : (scenario : Scenario) (quiet rows : Rows) (task : Task) → HasNamesSince (births as_nodes scenario) quiet rows task → orders rows ≡ orders quiet + 1 → HasFewNames scenario quiet → HasFewNames scenario rows
 over_few scenario quiet rows task (inl same) one few = (let long = ap length same in omega (arith, long, one, few))
@@ -197,8 +161,7 @@ over_few scenario quiet rows task (inr same) one few = (let long = ap length sam
 pub names_stay : ValidScenariosAreBounded → LedStandOnce → FrontsAreFound → NamesStayFew
 names_stay all_bounded led_once found_law = record {
   born = λ words scenario journal calm. born_few all_bounded led_once found_law words scenario journal calm;
-  asked = λ words scenario first journal quiet after calm rests was.
-      stays all_bounded led_once found_law words scenario journal calm first quiet rests [] after was (ap (names_at (births as_nodes scenario)) (append-nil quiet));
+  asked = λ words scenario first journal quiet rows row calm rests. none_new all_bounded led_once found_law words scenario journal calm first quiet rests rows row;
   begins = λ births quiet task. inl refl;
   goes_on = λ words scenario first journal quiet rows seat event task calm rests front borne has. keeps all_bounded led_once found_law words scenario journal calm first quiet rests rows (row_of player_table seat rows event) task front borne has;
   over = over_few;

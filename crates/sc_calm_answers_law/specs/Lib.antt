@@ -38,7 +38,6 @@ pub mod Lines
 pub mod Links
 pub mod Meeting
 pub mod Missed
-pub mod Naming
 pub mod Near
 pub mod New
 pub mod NoneWaits

@@ -3,7 +3,9 @@ use Rattle.std.specs.Prelude.{◌≡◌, ℕ, ◌+◌, ◌≤◌, List, [], ◌�
 use Rattle.sc_base.specs.declared.names.Draw.{Draw}
 use Rattle.sc_cmd.specs.declared.cores.Base.{Base}
 use Rattle.sc_cmd.specs.declared.orders.OrderLine.{OrderLine}
+use Rattle.sc_mail.specs.declared.bodies.Mail.{Mail}
 use Rattle.sc_actor.specs.declared.actors.Seat.{Seat}
+use Rattle.sc_actor.specs.declared.rows.Row.{Row}
 use Rattle.sc_actor.specs.declared.rows.Event.{Event}
 use Rattle.sc_orderly_law.specs.Orderly.{orders}
 use Rattle.sc_scenario.specs.declared.scenarios.Scenario.{Scenario}
@@ -36,12 +38,12 @@ HasFewNames scenario rows = length (names_at (births as_nodes scenario) rows) �
 abbrev pub HasNamesSince : List (Seat Player) → Rows → Rows → Task → Type 0
 HasNamesSince births quiet rows task = (names_at births rows ≡ names_at births quiet) ⊎ (names_at births rows ≡ names_at births quiet ++ task.name ∷ [])
 
--- Names are few at the births; they stay while clients ask, where all groups that are there were so in the quiet; one order adds no name but its child's; and so they are few in the next quiet.
+-- Names are few at the births; they stay by a row after which all groups that are there were so in the quiet; one order adds no name but its child's; and so they are few in the next quiet.
 pub record NamesStayFew : Type 0 where
   pub born : (words : ℕ → ℕ → ℕ × ℕ) (scenario : Scenario) (journal : Rows) → IsCalmJournal words scenario journal → HasFewNames scenario []
-  pub asked : (words : ℕ → ℕ → ℕ × ℕ) (scenario : Scenario) (first : Base) (journal quiet after : Rows) → IsCalmJournal words scenario journal → RestsAt words scenario first journal quiet
-      → ((front back : Rows) → after ≡ front ++ back → (name : Draw) → IsThere (births as_nodes scenario) (quiet ++ front) name → IsThere (births as_nodes scenario) quiet name)
-      → names_at (births as_nodes scenario) (quiet ++ after) ≡ names_at (births as_nodes scenario) quiet
+  pub asked : (words : ℕ → ℕ → ℕ × ℕ) (scenario : Scenario) (first : Base) (journal quiet rows : Rows) (row : Row Mail OrderLine) → IsCalmJournal words scenario journal → RestsAt words scenario first journal quiet
+      → ((name : Draw) → IsThere (births as_nodes scenario) (rows ++ row ∷ []) name → IsThere (births as_nodes scenario) quiet name)
+      → names_at (births as_nodes scenario) rows ≡ names_at (births as_nodes scenario) quiet → names_at (births as_nodes scenario) (rows ++ row ∷ []) ≡ names_at (births as_nodes scenario) quiet
   pub begins : (births : List (Seat Player)) (quiet : Rows) (task : Task) → HasNamesSince births quiet quiet task
   pub goes_on : (words : ℕ → ℕ → ℕ × ℕ) (scenario : Scenario) (first : Base) (journal quiet rows : Rows) (seat : Seat Player) (event : Event OrderLine) (task : Task) → IsCalmJournal words scenario journal → RestsAt words scenario first journal quiet
       → IsFront journal (with_event rows seat event) → AreBorneSo scenario journal quiet (with_event rows seat event) task
