@@ -51,6 +51,9 @@ mod Frames
 pub mod Freeing
 pub mod FrontBegins
 pub mod Given
+pub mod Goers
+pub mod GoersBegin
+pub mod GoersGoing
 pub mod GoingOn
 pub mod Gone
 pub mod Grants
@@ -103,6 +106,8 @@ pub mod Linking
 pub mod Lists
 pub mod Logs
 pub mod Meeting
+pub mod MergesHome
+pub mod Merging
 pub mod Missed
 pub mod Moving
 mod NamedOnce

@@ -16,6 +16,7 @@ pub mod Following
 pub mod FoundRows
 pub mod FrontBegins
 pub mod Given
+pub mod Goers
 pub mod Guided
 pub mod Hearing
 pub mod Hinting
@@ -34,6 +35,7 @@ pub mod Led
 pub mod Lines
 pub mod Links
 pub mod Meeting
+pub mod Merges
 pub mod Missed
 pub mod New
 pub mod Noted
