@@ -27,8 +27,8 @@ use Rattle.sc_calm_logs_law.specs.Logged.{IsGroupOf, logged_sets}
 use Rattle.sc_calm_logs_law.proofs.Views.{views_are_replicas}
 use Rattle.sc_calm_orders_law.specs.Follows.{OfQuestion, OfVote, OfOutcome, LastTakes, OneTakes, TwoTakes, LastFreed, OneFreed, TwoFreed, IsStepOf, BeginsDeal, ByRest, ByOrder, ByChange, ByDeal, ByPassing, ByAsking, ByTaking, ByVote, ByNo, ByHearing, ByDeciding, ByEnd}
 use Rattle.sc_calm_orders_law.specs.Parts.{work_by, works}
-use Rattle.sc_calm_orders_law.specs.Scenes.{Turn, First, Lone, Next, Answers, Asking, Bond, Bound, Ends, Here, Opens, Records, Scene, Unbound, Work, is_watch}
-use Rattle.sc_calm_orders_law.specs.Stages.{Asks, Closes, ClosesBoth, Deal, Filed, IsAt, IsOrder, Leg, Mailed, Ordered, Party, Recorded, Replied, SentOn, Stage, Still, Weighs, bound_by, closing, heard, leads_of, parties_of}
+use Rattle.sc_calm_orders_law.specs.Scenes.{Turn, First, Lone, Next, Answers, Asking, Bond, Bound, Elsewhere, Ends, Errand, Here, Opens, Question, Records, Reply, Scene, Unbound, Work, is_watch}
+use Rattle.sc_calm_orders_law.specs.Stages.{Asks, Closes, ClosesBoth, Deal, Filed, IsAt, IsOrder, Leg, Mailed, Ordered, Party, Recorded, Replied, SentOn, Stage, Still, Weighs, asked_one, bound_by, closing, coordinator, heard, parties_of, party_of}
 use Rattle.sc_calm_rows_law.specs.Groups.{view_at}
 use Rattle.sc_calm_rows_law.specs.Turns.{IsReplicasRow, with_event}
 use Rattle.sc_calm_scenes_law.specs.Fresh.{IsNowhere, IsThere}
@@ -81,12 +81,8 @@ same_bound own tx e = cc
 heard_binds : (own : Draw) (turn : Turn) → Binds own (heard own turn)
 heard_binds own First x tx a b = absurd a
 heard_binds own Lone x tx a b = absurd a
-heard_binds own (Next part host) x tx (inl e) b = same_bound own tx (bond_in _ x e ∙ b)
+heard_binds own (Next part host) x tx (inl e) b = same_bound own tx (bond_in (part, record { bond = Bound own; work = []; errands = [] }) x e ∙ b)
 heard_binds own (Next part host) x tx (inr a) b = absurd a
-
-more_binds : (own : Draw) (first : Named) (rest : List Named) → ((tx : Draw) → first.1.bond ≡ Bound tx → own ≡ tx) → Binds own rest → Binds own (first ∷ rest)
-more_binds own first rest k ks x tx (inl e) b = k tx (bond_in first x e ∙ b)
-more_binds own first rest k ks x tx (inr a) b = ks x tx a b
 
 no_asking : (own t asked : Draw) (turn : Turn) (tx : Draw) → Asking t asked turn ≡ Bound tx → own ≡ tx
 no_asking own t asked turn tx e = absurd cc
@@ -102,17 +98,27 @@ closing_binds : (own : Draw) (leg : Leg) (host : ℕ) (tx : Draw) → (closing o
 closing_binds own Mailed host tx e = same_bound own tx e
 closing_binds own Filed host tx e = same_bound own tx e
 
+-- .. of those of a transaction that is not decided
+deal_binds : (deal : Deal) (work : List Work) (errands : List Errand) (bond : Bond) (its_work : List Work) (its_errands : List Errand) → ((tx : Draw) → bond ≡ Bound tx → deal.tx ≡ tx)
+    → Binds deal.tx (coordinator deal work errands ∷ asked_one deal bond its_work its_errands ∷ heard deal.tx deal.turn)
+deal_binds deal work errands bond its_work its_errands k x tx (inl e) b = no_asking deal.tx deal.tx deal.asked deal.turn tx (bond_in (coordinator deal work errands) x e ∙ b)
+deal_binds deal work errands bond its_work its_errands k x tx (inr (inl e)) b = k tx (bond_in (asked_one deal bond its_work its_errands) x e ∙ b)
+deal_binds deal work errands bond its_work its_errands k x tx (inr (inr a)) b = heard_binds deal.tx deal.turn x tx a b
+
 bound_of : (stage : Stage) (x : Named) (tx : Draw) → Among x (parties_of stage) → x.1.bond ≡ Bound tx → IsOf stage tx
 bound_of Still x tx a b = absurd a
-bound_of (Ordered group chief work) x tx (inl e) b = absurd (let bad : Unbound ≡ Bound tx = bond_in _ x e ∙ b in cc)
+bound_of (Ordered group chief work) x tx (inl e) b = absurd (let bad : Unbound ≡ Bound tx = bond_in (group, record { bond = Unbound; work = work ∷ []; errands = [] }) x e ∙ b in cc)
 bound_of (Ordered group chief work) x tx (inr a) b = absurd a
-bound_of (Asks deal to) x tx a b = (ap Some (more_binds deal.tx _ _ (no_asking deal.tx deal.tx deal.asked deal.turn) (more_binds deal.tx _ _ (no_unbound deal.tx) (heard_binds deal.tx deal.turn)) x tx a b), tt)
-bound_of (SentOn deal) x tx a b = (ap Some (more_binds deal.tx _ _ (no_asking deal.tx deal.tx deal.asked deal.turn) (more_binds deal.tx _ _ (no_unbound deal.tx) (heard_binds deal.tx deal.turn)) x tx a b), tt)
-bound_of (Weighs deal host) x tx a b = (ap Some (more_binds deal.tx _ _ (no_asking deal.tx deal.tx deal.asked deal.turn) (more_binds deal.tx _ _ (no_unbound deal.tx) (heard_binds deal.tx deal.turn)) x tx a b), tt)
-bound_of (Replied deal agreed host) x tx a b = (ap Some (more_binds deal.tx _ _ (no_asking deal.tx deal.tx deal.asked deal.turn) (more_binds deal.tx _ _ (only_yes deal.tx agreed) (heard_binds deal.tx deal.turn)) x tx a b), tt)
-bound_of (Recorded deal agreed host) x tx a b = (ap Some (more_binds deal.tx _ _ (no_asking deal.tx deal.tx deal.asked deal.turn) (more_binds deal.tx _ _ (only_yes deal.tx agreed) (heard_binds deal.tx deal.turn)) x tx a b), tt)
-bound_of (Closes own party) x tx a b = (ap Some (more_binds own _ _ (closing_binds own party.leg party.host) (λ y t c d. absurd c) x tx a b), tt)
-bound_of (ClosesBoth own one two) x tx a b = (ap Some (more_binds own _ _ (closing_binds own one.leg one.host) (more_binds own _ _ (closing_binds own two.leg two.host) (λ y t c d. absurd c)) x tx a b), tt)
+bound_of (Asks deal to) x tx a b = (ap Some (deal_binds deal [] [] Unbound [] (Question deal.tx deal.coord (is_watch deal.turn) deal.chief to ∷ []) (no_unbound deal.tx) x tx a b), tt)
+bound_of (SentOn deal) x tx a b = (ap Some (deal_binds deal [] (Elsewhere deal.tx deal.chief ∷ []) Unbound [] [] (no_unbound deal.tx) x tx a b), tt)
+bound_of (Weighs deal host) x tx a b = (ap Some (deal_binds deal [] [] Unbound (Answers deal.tx deal.coord (is_watch deal.turn) deal.chief ∷ []) [] (no_unbound deal.tx) x tx a b), tt)
+bound_of (Replied deal agreed host) x tx a b = (ap Some (deal_binds deal [] (Reply deal.tx (is_watch deal.turn) agreed host deal.chief ∷ []) (bound_by agreed deal.tx) [] [] (only_yes deal.tx agreed) x tx a b), tt)
+bound_of (Recorded deal agreed host) x tx a b = (ap Some (deal_binds deal (Records deal.tx (is_watch deal.turn) agreed host ∷ []) [] (bound_by agreed deal.tx) [] [] (only_yes deal.tx agreed) x tx a b), tt)
+bound_of (Closes own party) x tx (inl e) b = (ap Some (closing_binds own party.leg party.host tx (bond_in (party_of own party) x e ∙ b)), tt)
+bound_of (Closes own party) x tx (inr a) b = absurd a
+bound_of (ClosesBoth own one two) x tx (inl e) b = (ap Some (closing_binds own one.leg one.host tx (bond_in (party_of own one) x e ∙ b)), tt)
+bound_of (ClosesBoth own one two) x tx (inr (inl e)) b = (ap Some (closing_binds own two.leg two.host tx (bond_in (party_of own two) x e ∙ b)), tt)
+bound_of (ClosesBoth own one two) x tx (inr (inr a)) b = absurd a
 
 -- the work by which a party ends is of such a stage
 ends_of : (now : Scene) (stage : Stage) (name tx : Draw) → IsAt stage now → IsWorkAt stage name (Ends tx) → IsOf stage tx

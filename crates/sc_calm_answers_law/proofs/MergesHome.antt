@@ -35,7 +35,7 @@ use Rattle.sc_machine_table.specs.Machine.{applied}
 use Rattle.sc_machine_table.specs.Orders.{begin_refused, refusal_of, refused_in, locked_in}
 use Rattle.sc_machine_table.specs.Plans.{Plan, can_migrate, can_repart, can_split, closing_group, closing_plan, giving_group, giving_plan, has_key_of, may_merge, merge_plan, merged_group, merged_route, migrate_plan, migrated_group, part_gift, repart_plan, split_plan, taken, taking_group, taking_plan}
 use Rattle.sc_machine_table.specs.Splits.{left_group}
-use Rattle.sc_machine_table.specs.Transactions.{asks_watcher, committed, granted, heard_group, is_coordinating, participant_answered, released, vote_recorded, watch_answered, watch_recorded}
+use Rattle.sc_machine_table.specs.Transactions.{asks_watcher, committed, decided_group, granted, heard_group, is_coordinating, participant_answered, released, vote_recorded, watch_answered, watch_recorded}
 use Rattle.sc_ring_law.specs.Allowed.{AreAllowed, IsAllowed, Sources, ToldWorld, first_told, stories_told, told_after, told_on}
 use Rattle.sc_ring_law.specs.Invariant.{Groups, IsCoordinating, LockOk}
 use Rattle.sc_ring_law.specs.Laws.{BeginInPlace, stories_of}
@@ -100,7 +100,7 @@ module _ (s : Group) where
 
     answered_so : (vote : Vote) (by : ℕ) → Leads tx (participant_answered vote body s tx order by)
     answered_so (Vows.Yes frozen) by = granted_so body frozen by
-    answered_so (Vows.No why) by = aborts _
+    answered_so (Vows.No why) by = aborts (decided_group s tx Is.Abort)
 
     released_so : (b : Body) (h : Option Heard) → Leads tx (released b h s tx)
     released_so At.Merge (Some h) = by_plan (merge_plan s h.frozen) (plan_if (may_merge s h.frozen) (merged_group s h.frozen, Is.Merged (merged_route s.core h.frozen)) (by_route h.frozen))
@@ -111,8 +111,8 @@ module _ (s : Group) where
 
     watched_so : (past : Past) → Leads tx (watch_answered past body heard s tx)
     watched_so Cast.Yes = released_so body heard
-    watched_so (Cast.No why) = aborts _
-    watched_so Cast.Ended = aborts _
+    watched_so (Cast.No why) = aborts (decided_group s tx Is.Abort)
+    watched_so Cast.Ended = aborts (decided_group s tx Is.Abort)
 
   none_so : (tx t : Draw) → Leads tx (s, Was.NoEffect t)
   none_so tx t into e = no_outcome (Is.Merged into) _ e

@@ -103,32 +103,38 @@ module _ (group : Group) where
     stays : (command : Command) (r : Group × Effect) → StandsAs group r → Goes command r
     stays command r e gone = inl (sym e ∙ gone)
 
+    by : (tx : Draw) (offer : Offer) (outcome : Outcome) → StandsAs group (settled_in (participant_after outcome group offer) group tx outcome) → Goes (Finish tx outcome) (settled_in (participant_after outcome group offer) group tx outcome)
+    by tx offer outcome = stays (Finish tx outcome) (settled_in (participant_after outcome group offer) group tx outcome)
+
+    none : (tx : Draw) (outcome : Outcome) → Goes (Finish tx outcome) (group, Was.NoEffect tx)
+    none tx outcome = stays (Finish tx outcome) (group, Was.NoEffect tx) refl
+
     ended : (tx : Draw) (offer : Offer) → group.core.lock ≡ Promised tx offer → (outcome : Outcome) → Goes (Finish tx outcome) (settled_in (participant_after outcome group offer) group tx outcome)
-    ended tx offer lock Abort = stays _ _ refl
+    ended tx offer lock Abort = by tx offer Abort refl
     ended tx offer lock (Merged route) = λ gone. inr (record { tx = tx; offer = offer; lock = lock; is = ap (λ r. Finish tx (Merged r)) (same_Some route into gone) })
-    ended tx offer lock (Moved at gift) = stays _ _ (settled_stands (moved gift group offer at) tx (Moved at gift) (moved_stands gift offer at))
-    ended tx offer lock (Migrated node) = stays _ _ (settled_stands (participant_after (Migrated node) group offer) tx (Migrated node) (made (nat_le (length (united group.core.members (node ∷ []))) 9) (welcomed_group group node) refl))
-    ended tx offer lock Divided = stays _ _ refl
+    ended tx offer lock (Moved at gift) = by tx offer (Moved at gift) (settled_stands (moved gift group offer at) tx (Moved at gift) (moved_stands gift offer at))
+    ended tx offer lock (Migrated node) = by tx offer (Migrated node) (settled_stands (participant_after (Migrated node) group offer) tx (Migrated node) (made (nat_le (length (united group.core.members (node ∷ []))) 9) (welcomed_group group node) refl))
+    ended tx offer lock Divided = by tx offer Divided refl
 
     finish_goes : (lock : Lock) → group.core.lock ≡ lock → (tx : Draw) (outcome : Outcome) → Goes (Finish tx outcome) (finished lock group tx outcome)
-    finish_goes Free e tx outcome = stays _ _ refl
-    finish_goes (Coordinating locked body order heard) e tx outcome = stays _ _ refl
+    finish_goes Free e tx outcome = none tx outcome
+    finish_goes (Coordinating locked body order heard) e tx outcome = none tx outcome
     finish_goes (Promised locked offer) e tx outcome =
         cond_both (same_draw locked tx) (settled_in (participant_after outcome group offer) group tx outcome) (group, Was.NoEffect tx) (Goes (Finish tx outcome))
-        (λ q. ended tx offer (e ∙ ap (λ t. Promised t offer) (draw_is locked tx q)) outcome) (λ _. stays _ _ refl)
+        (λ q. ended tx offer (e ∙ ap (λ t. Promised t offer) (draw_is locked tx q)) outcome) (λ _. none tx outcome)
     finish_goes (Watching locked watch) e tx outcome =
-        cond_both (same_draw locked tx) (watch_ended outcome group tx watch) (group, Was.NoEffect tx) (Goes (Finish tx outcome)) (λ _. stays _ _ refl) (λ _. stays _ _ refl)
+        cond_both (same_draw locked tx) (watch_ended outcome group tx watch) (group, Was.NoEffect tx) (Goes (Finish tx outcome)) (λ _. stays (Finish tx outcome) (watch_ended outcome group tx watch) refl) (λ _. none tx outcome)
 
     pub goes_by : (command : Command) → (applied group command).0.core.gone ≡ Some into → (group.core.gone ≡ Some into) ⊎ IsMergedBy group command into
-    goes_by Noop = stays Noop _ refl
-    goes_by (Call client seq op) = stays (Call client seq op) _ (ap (λ (c : Core). c.gone) (called_core group.core.gone group.core.lock group client seq op))
-    goes_by (Join node order) = stays (Join node order) _ (join-stands group node order)
-    goes_by (Leave node order) = stays (Leave node order) _ (leave-stands group node order)
-    goes_by (Split at child order) = stays (Split at child order) _ (split-stands group at child order)
-    goes_by (Begin tx body order) = stays (Begin tx body order) _ (begin_stands tx body order)
-    goes_by (Prepared tx offer) = stays (Prepared tx offer) _ (voted_stands (vote_of group.core offer) (Promised tx offer) tx)
-    goes_by (RecordVote tx vote by) = stays (RecordVote tx vote by) _ (vote-waits group group.core.lock tx vote by).0
-    goes_by (GiveUp tx) = stays (GiveUp tx) _ (give_stands tx)
+    goes_by Noop = stays Noop (applied group Noop) refl
+    goes_by (Call client seq op) = stays (Call client seq op) (applied group (Call client seq op)) (ap (λ (c : Core). c.gone) (called_core group.core.gone group.core.lock group client seq op))
+    goes_by (Join node order) = stays (Join node order) (applied group (Join node order)) (join-stands group node order)
+    goes_by (Leave node order) = stays (Leave node order) (applied group (Leave node order)) (leave-stands group node order)
+    goes_by (Split at child order) = stays (Split at child order) (applied group (Split at child order)) (split-stands group at child order)
+    goes_by (Begin tx body order) = stays (Begin tx body order) (applied group (Begin tx body order)) (begin_stands tx body order)
+    goes_by (Prepared tx offer) = stays (Prepared tx offer) (applied group (Prepared tx offer)) (voted_stands (vote_of group.core offer) (Promised tx offer) tx)
+    goes_by (RecordVote tx vote by) = stays (RecordVote tx vote by) (applied group (RecordVote tx vote by)) (vote-waits group group.core.lock tx vote by).0
+    goes_by (GiveUp tx) = stays (GiveUp tx) (applied group (GiveUp tx)) (give_stands tx)
     goes_by (Finish tx outcome) = finish_goes group.core.lock refl tx outcome
-    goes_by (Watched tx watch) = stays (Watched tx watch) _ (voted_stands (watch_vote_of group.core watch) (Watching tx watch) tx)
-    goes_by (RecordWatch tx vote by) = stays (RecordWatch tx vote by) _ (watch_stands vote tx)
+    goes_by (Watched tx watch) = stays (Watched tx watch) (applied group (Watched tx watch)) (voted_stands (watch_vote_of group.core watch) (Watching tx watch) tx)
+    goes_by (RecordWatch tx vote by) = stays (RecordWatch tx vote by) (applied group (RecordWatch tx vote by)) (watch_stands vote tx)
