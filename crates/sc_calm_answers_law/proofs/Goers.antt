@@ -5,14 +5,13 @@ use Rattle.sc_base.specs.declared.names.Draw.{Draw}
 use Rattle.sc_cmd.specs.declared.bodies.Offer.{Offer}
 use Rattle.sc_cmd.specs.declared.links.Route.{Route}
 use Rattle.sc_node_table.specs.Replica.{ReplicaState}
-use Rattle.sc_ring_law.specs.Stories.{Story, unsigned}
+use Rattle.sc_ring_law.specs.Stories.{Story}
 use Rattle.sc_scenario.specs.declared.scenarios.Scenario.{Scenario}
-use Rattle.sc_sound.specs.Players.{as_nodes, births}
+use Rattle.sc_sound.specs.Players.{as_nodes}
 use Rattle.sc_whole_law.specs.Parameters.{stories_at}
 use Rattle.sc_calm_law.specs.Totals.{Rows}
 use Rattle.sc_calm_logs_law.specs.Logged.{IsGroupOf}
 use Rattle.sc_calm_orders_law.specs.Stages.{Stage}
-use Rattle.sc_calm_rows_law.specs.Groups.{view_at}
 use Rattle.sc_budget_law.specs.AskingQuiet.{replicas_after}
 use Rattle.sc_calm_answers_law.specs.Goers.{GoersGoAlone, HasMerged, IsGoingSince, WasGone}
 use Rattle.sc_calm_answers_law.specs.Journal.{IsCalmJournal, IsFront}

@@ -1,8 +1,8 @@
 -- Which groups go is known once an order is told in a quiet front: none did.
-use Rattle.std.proofs.Common.{◌≡◌, ◌⊎◌, ◌≤◌, ℕ, eqb, true, false, true≢false, List, [], ◌∷◌, Option, Some, None, is_some, inl, inr, refl, sym, ◌∙◌, ap, subst, arith}
+use Rattle.std.proofs.Common.{◌≡◌, ◌⊎◌, ℕ, eqb, true≢false, List, [], Option, Some, None, is_some, inl, inr, refl, sym, ◌∙◌, ap, subst, arith}
 use Rattle.std.proofs.lemmas.Bool.{cases_Bool, eq-eqb, eqb-true}
 use Rattle.std.proofs.lemmas.Option.{none-some, same_Some}
-use Rattle.sc_base.specs.Among.{Among, Each}
+use Rattle.sc_base.specs.Among.{Each}
 use Rattle.sc_base.specs.declared.names.Draw.{Draw}
 use Rattle.sc_actor.specs.declared.actors.Seat.{Seat}
 use Rattle.sc_actor.specs.declared.rows.Event.TheVariants.{Told}
@@ -21,21 +21,18 @@ use Rattle.sc_node_table.specs.Ordering.{ordered_row, untaken}
 use Rattle.sc_node_table.specs.Replica.{ReplicaState, born_replica, listed, next}
 use Rattle.sc_node_table.specs.Slots.{slots_ahead}
 use Rattle.sc_scenario.specs.declared.scenarios.Scenario.{Scenario}
-use Rattle.sc_sound.specs.GroupsOf.{groups_at}
 use Rattle.sc_sound.specs.Players.{Player, as_nodes, births, player_table}
 use Rattle.sc_calm_law.specs.Totals.{Rows}
 use Rattle.sc_calm_logs_law.specs.Logged.{IsGroupOf}
 use Rattle.sc_calm_logs_law.proofs.Views.{views_are_replicas}
 use Rattle.sc_calm_orders_law.specs.Parts.{works}
 use Rattle.sc_calm_orders_law.specs.Scenes.{Asking, Bound, Here, Scene, Turn, Unbound}
-use Rattle.sc_calm_orders_law.specs.Stages.{Asks, Closes, ClosesBoth, Deal, Filed, IsAt, Leg, Mailed, Ordered, Recorded, Replied, SentOn, Stage, Still, Weighs, closing}
-use Rattle.sc_calm_orders_law.specs.Tables.{MayFile}
+use Rattle.sc_calm_orders_law.specs.Stages.{Asks, Closes, ClosesBoth, Filed, IsAt, Leg, Mailed, Ordered, Recorded, Replied, SentOn, Stage, Still, Weighs, closing}
 use Rattle.sc_calm_orders_law.proofs.Lists.{cases-draw}
 use Rattle.sc_calm_orders_law.proofs.Ordering.{tables-order}
 use Rattle.sc_calm_rows_law.specs.Groups.{view_at}
 use Rattle.sc_calm_rows_law.specs.Turns.{with_event}
 use Rattle.sc_calm_rows_law.proofs.Viewing.{view_is, view_others}
-use Rattle.sc_calm_scenes_law.specs.Counted.{IsOrdered}
 use Rattle.sc_calm_scenes_law.specs.Found.{ByAnother, ByLeader, FindsQuiet}
 use Rattle.sc_calm_scenes_law.specs.Fresh.{IsToldInQuiet}
 use Rattle.sc_calm_scenes_law.specs.Kept.{StageAfter}
@@ -43,10 +40,10 @@ use Rattle.sc_calm_scenes_law.specs.Scenes.{scene_at}
 use Rattle.sc_calm_scenes_law.specs.Turns.{IsOfGroup, IsTablesRow, LeavesOrMakes}
 use Rattle.sc_calm_scenes_law.proofs.Found.{found_step}
 use Rattle.sc_calm_scenes_law.proofs.Taking.{now_is, rows_taken, was_is}
-use Rattle.sc_calm_answers_law.specs.Goers.{GoersBegin, HasBegun, HasMerged, IsGoingSince, WasGone}
+use Rattle.sc_calm_answers_law.specs.Goers.{GoersBegin, HasBegun, IsGoingSince, WasGone}
 use Rattle.sc_calm_answers_law.specs.Journal.{IsCalmJournal, IsFront}
 use Rattle.sc_calm_answers_law.specs.KnownFronts.{FrontsAreFound}
-use Rattle.sc_calm_answers_law.specs.Led.{EndsAreLogged, over_at}
+use Rattle.sc_calm_answers_law.specs.Led.{EndsAreLogged}
 use Rattle.sc_calm_answers_law.specs.New.{tx_of}
 use Rattle.sc_calm_answers_law.specs.Resting.{RestsAt}
 use Rattle.sc_calm_answers_law.specs.TrueUnder.{AreSeen}

@@ -1,5 +1,5 @@
 -- Which groups go is known after one more delivery while an order is under way.
-use Rattle.std.proofs.Common.{◌≡◌, ◌⊎◌, ◌≤◌, ℕ, true, false, true≢false, List, [], ◌∷◌, ◌++◌, Option, Some, None, is_some, inl, inr, refl, sym, ◌∙◌, ap, subst, arith, append_assoc}
+use Rattle.std.proofs.Common.{◌≡◌, ◌⊎◌, ℕ, true, false, true≢false, List, [], ◌∷◌, ◌++◌, Option, Some, None, is_some, inl, inr, refl, sym, ◌∙◌, ap, subst, arith, append_assoc}
 use Rattle.std.proofs.lemmas.Option.{none-some, same_Some}
 use Rattle.sc_base.specs.Among.{Among, Each}
 use Rattle.sc_base.specs.declared.names.Draw.{Draw}
@@ -10,14 +10,13 @@ use Rattle.sc_cmd.specs.declared.commands.Command.{Command}
 use Rattle.sc_cmd.specs.declared.commands.Command.TheVariants.{Noop, Call, Join, Leave, Split, Begin, Prepared, RecordVote, GiveUp, Finish, Watched, RecordWatch}
 use Rattle.sc_cmd.specs.declared.cores.Base.{Base}
 use Rattle.sc_cmd.specs.declared.links.Route.{Route}
-use Rattle.sc_machine_table.specs.Group.{Group, group_of}
+use Rattle.sc_machine_table.specs.Group.{Group}
 use Rattle.sc_node_table.specs.Replica.{Place, ReplicaState, born_replica, listed, next}
 use Rattle.sc_node_table.specs.Slots.{slots_ahead}
 use Rattle.sc_paxos_words.specs.declared.flights.Flight.{Flight}
 use Rattle.sc_paxos_words.proofs.ListLemmas.{Each-among}
 use Rattle.sc_scenario.specs.declared.scenarios.Scenario.{Scenario}
 use Rattle.sc_sound.specs.GroupsOf.{groups_at}
-use Rattle.sc_sound.specs.Logs.{decided_log}
 use Rattle.sc_sound.specs.Players.{Player, as_nodes, births, player_table}
 use Rattle.sc_following_law.specs.Following.{Course}
 use Rattle.sc_calm_law.specs.Quiet.{StandsQuiet}
@@ -28,17 +27,17 @@ use Rattle.sc_calm_logs_law.proofs.Views.{views_are_replicas}
 use Rattle.sc_calm_orders_law.specs.Follows.{OfQuestion, OfVote, OfOutcome, LastTakes, OneTakes, TwoTakes, LastFreed, OneFreed, TwoFreed, IsStepOf, BeginsDeal, ByRest, ByOrder, ByChange, ByDeal, ByPassing, ByAsking, ByTaking, ByVote, ByNo, ByHearing, ByDeciding, ByEnd}
 use Rattle.sc_calm_orders_law.specs.Parts.{work_by, works}
 use Rattle.sc_calm_orders_law.specs.Scenes.{Turn, First, Lone, Next, Answers, Asking, Bond, Bound, Elsewhere, Ends, Errand, Here, Opens, Question, Records, Reply, Scene, Unbound, Work, is_watch}
-use Rattle.sc_calm_orders_law.specs.Stages.{Asks, Closes, ClosesBoth, Deal, Filed, IsAt, IsOrder, Leg, Mailed, Ordered, Party, Recorded, Replied, SentOn, Stage, Still, Weighs, asked_one, bound_by, closing, coordinator, heard, parties_of, party_of}
+use Rattle.sc_calm_orders_law.specs.Stages.{Asks, Closes, ClosesBoth, Deal, Filed, IsAt, Leg, Mailed, Ordered, Recorded, Replied, SentOn, Stage, Still, Weighs, asked_one, bound_by, closing, coordinator, heard, parties_of, party_of}
 use Rattle.sc_calm_rows_law.specs.Groups.{view_at}
 use Rattle.sc_calm_rows_law.specs.Turns.{IsReplicasRow, with_event}
-use Rattle.sc_calm_scenes_law.specs.Fresh.{IsNowhere, IsThere}
+use Rattle.sc_calm_scenes_law.specs.Fresh.{IsNowhere}
 use Rattle.sc_calm_scenes_law.specs.Kept.{GoesBy}
 use Rattle.sc_calm_scenes_law.specs.Scenes.{scene_at}
 use Rattle.sc_budget_law.specs.AskingQuiet.{replicas_after}
 use Rattle.sc_calm_answers_law.specs.Deeds.{Executed, HasDone, HasStepped, Rested, doer, doers_of}
 use Rattle.sc_calm_answers_law.specs.Goers.{GoersGoOn, HasBegun, HasMerged, IsGoingSince, NoneGone, OwnerStood, WasGone}
 use Rattle.sc_calm_answers_law.specs.Guided.{IsReachedSo}
-use Rattle.sc_calm_answers_law.specs.Journal.{AreSent, IsNamedGroup}
+use Rattle.sc_calm_answers_law.specs.Journal.{AreSent}
 use Rattle.sc_calm_answers_law.specs.JournalUnder.{IsYoungAt}
 use Rattle.sc_calm_answers_law.specs.KnownFronts.{FrontsAreFound}
 use Rattle.sc_calm_answers_law.specs.Led.{EndsAreLogged, GroupsBeginStanding, over_at}
@@ -51,7 +50,7 @@ use Rattle.sc_calm_answers_law.specs.TrueEntries.{LeadsSince}
 use Rattle.sc_calm_answers_law.specs.TrueGoing.{GoesOnSince}
 use Rattle.sc_calm_answers_law.proofs.Delivering.{there_or}
 use Rattle.sc_calm_answers_law.proofs.Doers.{lead_runs_so, lead_works}
-use Rattle.sc_calm_answers_law.proofs.Leads.{IsEnding, IsWorkAt, OfOrder, OfOutcome, OfQuestion, OfVote, at_stage, was_there}
+use Rattle.sc_calm_answers_law.proofs.Leads.{IsWorkAt, OfOrder, OfOutcome, OfQuestion, OfVote, at_stage, was_there}
 use Rattle.sc_calm_answers_law.proofs.Merging.{IsMergedBy, goes_by}
 use Rattle.sc_calm_answers_law.proofs.Newest.{no_further}
 use Rattle.sc_calm_answers_law.proofs.OrderedKnown.{named_there}
@@ -306,7 +305,7 @@ module _ (tells : ReplicasTell) (found_law : FrontsAreFound) (logs_law : Replica
         | inr nowhere ↦ elim ((young base among nowhere).born node) [
           | inl none ↦ absurd (none-some r (sym none ∙ has))
           | inr born ↦ absurd (none-some into
-            (sym (begins_law.stands as_nodes words scenario journal base group_is) ∙ (ap (λ (x : ReplicaState). x.group.core.gone) (same_Some (born_replica slots_ahead node base) r (sym born ∙ has)) ∙ gone)))
+              (sym (begins_law.stands as_nodes words scenario journal base group_is) ∙ (ap (λ (x : ReplicaState). x.group.core.gone) (same_Some (born_replica slots_ahead node base) r (sym born ∙ has)) ∙ gone)))
         ]
       ]
 

@@ -32,7 +32,7 @@ use Rattle.sc_log_entries.specs.declared.LogEntry.{LogEntry}
 use Rattle.sc_base.specs.Arc.{holds}
 use Rattle.sc_machine_table.specs.Group.{Group}
 use Rattle.sc_machine_table.specs.Machine.{applied}
-use Rattle.sc_machine_table.specs.Orders.{begin_refused, refusal_of, refused_in, locked_in}
+use Rattle.sc_machine_table.specs.Orders.{begin_refused, refused_in, locked_in}
 use Rattle.sc_machine_table.specs.Plans.{Plan, can_migrate, can_repart, can_split, closing_group, closing_plan, giving_group, giving_plan, has_key_of, may_merge, merge_plan, merged_group, merged_route, migrate_plan, migrated_group, part_gift, repart_plan, split_plan, taken, taking_group, taking_plan}
 use Rattle.sc_machine_table.specs.Splits.{left_group}
 use Rattle.sc_machine_table.specs.Transactions.{asks_watcher, committed, decided_group, granted, heard_group, is_coordinating, participant_answered, released, vote_recorded, watch_answered, watch_recorded}

@@ -1,6 +1,6 @@
 -- A group goes only where it is told that a merge which it promised was decided.
 use Rattle.std.specs.Prelude.{nat_le, length, ◌⊎◌}
-use Rattle.std.proofs.Common.{◌≡◌, ℕ, ◌&&◌, not, cond, Bool, true, false, List, [], ◌∷◌, Option, Some, None, inl, inr, refl, sym, ◌∙◌, ap}
+use Rattle.std.proofs.Common.{◌≡◌, ℕ, ◌&&◌, not, cond, Bool, true, false, [], ◌∷◌, Option, Some, None, inl, inr, refl, sym, ◌∙◌, ap}
 use Rattle.std.proofs.lemmas.Bool.{cond_both}
 use Rattle.std.proofs.lemmas.Option.{same_Some}
 use Rattle.sc_base.specs.Same.{same_draw}
@@ -23,13 +23,13 @@ use Rattle.sc_cmd.specs.declared.votes.Outcome.{Outcome}
 use Rattle.sc_cmd.specs.declared.votes.Outcome.TheVariants.{Abort, Merged, Moved, Migrated, Divided}
 use Rattle.sc_cmd.specs.declared.votes.Past.{Past}
 use Rattle.sc_cmd.specs.declared.votes.Past.TheVariants as Cast
-use Rattle.sc_machine_table.specs.Finishes.{can_gain, finished, gained_group, lost_group, moved, participant_after, party_freed, settled_in, watch_ended, welcomed_group}
+use Rattle.sc_machine_table.specs.Finishes.{can_gain, finished, gained_group, lost_group, moved, participant_after, settled_in, watch_ended, welcomed_group}
 use Rattle.sc_machine_table.specs.Group.{Group}
 use Rattle.sc_machine_table.specs.Machine.{applied}
 use Rattle.sc_machine_table.specs.Orders.{ordered, refusal_of}
 use Rattle.sc_machine_table.specs.Plans.{can_cut, has_key_of}
 use Rattle.sc_machine_table.specs.Splits.{has_named}
-use Rattle.sc_machine_table.specs.Transactions.{aborted, asks_watcher, begun_group, is_coordinating, watch_answered, watch_recorded}
+use Rattle.sc_machine_table.specs.Transactions.{aborted, asks_watcher, begun_group, is_coordinating, watch_recorded}
 use Rattle.sc_machine_table.specs.Votes.{has_voted, vote_of, voted_on, watch_vote_of}
 use Rattle.sc_calm_entries_law.proofs.Members.{StandsAs, join-stands, leave-stands, split-stands, vote-waits, watch-stands}
 use Rattle.sc_calm_answers_law.proofs.Gone.{called_core}
