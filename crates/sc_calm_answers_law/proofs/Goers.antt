@@ -1,5 +1,5 @@
 -- One group at most goes while an order is under way, into one that stands.
-use Rattle.std.proofs.Common.{◌≡◌, ◌⊎◌, ℕ, Option, Some, None, inl, inr, refl, sym, ◌∙◌, ap}
+use Rattle.std.proofs.Common.{◌≡◌, ◌++◌, ◌⊎◌, ℕ, Option, Some, None, inl, inr, refl, sym, ◌∙◌, ap}
 use Rattle.std.proofs.lemmas.Option.{none-some}
 use Rattle.sc_base.specs.declared.names.Draw.{Draw}
 use Rattle.sc_cmd.specs.declared.bodies.Offer.{Offer}
@@ -13,10 +13,11 @@ use Rattle.sc_calm_law.specs.Totals.{Rows}
 use Rattle.sc_calm_logs_law.specs.Logged.{IsGroupOf}
 use Rattle.sc_calm_orders_law.specs.Stages.{Stage}
 use Rattle.sc_budget_law.specs.AskingQuiet.{replicas_after}
-use Rattle.sc_calm_answers_law.specs.Goers.{GoersGoAlone, HasMerged, IsGoingSince, WasGone}
+use Rattle.sc_calm_answers_law.specs.Goers.{GoersGoAlone, GoersGoInTurn, HasMerged, IsGoingSince, WasGone}
 use Rattle.sc_calm_answers_law.specs.Journal.{IsCalmJournal, IsFront}
-use Rattle.sc_calm_answers_law.specs.KnownFronts.{FrontsAreFound, IsFoundFront}
-use Rattle.sc_calm_answers_law.specs.KnownTurns.{GoesAlone}
+use Rattle.sc_calm_answers_law.specs.Known.{StillFrontsAreFree}
+use Rattle.sc_calm_answers_law.specs.KnownFronts.{FrontsAreFound, IsFoundFront, IsQuietFront}
+use Rattle.sc_calm_answers_law.specs.KnownTurns.{FrontsGoInTurn, GoesAlone}
 use Rattle.sc_calm_answers_law.specs.Merges.{MergesGoHome}
 use Rattle.sc_calm_answers_law.proofs.OrderedKnown.{named_there}
 
@@ -74,3 +75,9 @@ module _ (home : MergesGoHome) (found_law : FrontsAreFound) (words : ℕ → ℕ
 
 pub goers_alone : MergesGoHome → FrontsAreFound → GoersGoAlone
 goers_alone = goes_alone
+
+pub goers_in_turn : GoersGoAlone → StillFrontsAreFree → FrontsGoInTurn → GoersGoInTurn
+goers_in_turn alone_law free_law turns_law words scenario first journal quiet behind stage calm rests front sent still g =
+    let was : IsQuietFront words scenario journal quiet = record { calm = calm; begins = rests.front; quiet = rests.calm; sent = rests.sent } in
+    let one = alone_law words scenario journal quiet (quiet ++ behind) stage calm front g in
+    turns_law words scenario journal quiet behind rests.turn one.0 was (free_law words scenario journal quiet was rests.still) (record { calm = calm; begins = front; quiet = still; sent = sent }) one.1 rests.turns

@@ -1,7 +1,8 @@
 -- Which groups go while an order is under way since a quiet front: one at most, into its coordinator, which stood in the quiet.
-use Rattle.std.specs.Prelude.{◌≡◌, ℕ, true, None, Some, ◌⊎◌}
+use Rattle.std.specs.Prelude.{◌≡◌, ◌++◌, ℕ, true, None, Some, ◌⊎◌}
 use Rattle.sc_base.specs.Among.{Among, Each}
 use Rattle.sc_base.specs.declared.names.Draw.{Draw}
+use Rattle.sc_actor.specs.Walk.{is_quiet}
 use Rattle.sc_actor.specs.declared.actors.Seat.{Seat}
 use Rattle.sc_actor.specs.declared.rows.Event.TheVariants.{Deliver, Told}
 use Rattle.sc_cmd.specs.declared.bodies.Offer.{Offer}
@@ -14,6 +15,9 @@ use Rattle.sc_node_table.specs.Replica.{ReplicaState, listed}
 use Rattle.sc_scenario.specs.declared.scenarios.Scenario.{Scenario}
 use Rattle.sc_sound.specs.GroupsOf.{groups_at}
 use Rattle.sc_sound.specs.Players.{Player, as_nodes, births}
+use Rattle.sc_calm_charts_law.specs.Charting.{all_replicas, names_at}
+use Rattle.sc_calm_charts_law.specs.Ends.{GoInTurn}
+use Rattle.sc_calm_law.specs.Charts.{players}
 use Rattle.sc_calm_law.specs.Totals.{Rows}
 use Rattle.sc_calm_orders_law.specs.Stages.{Stage, Still, Ordered, Asks, SentOn, Weighs, Replied, Recorded, Closes, ClosesBoth, IsAt}
 use Rattle.sc_calm_rows_law.specs.Groups.{view_at}
@@ -104,3 +108,10 @@ abbrev pub GoersGoAlone : Type 0
 GoersGoAlone =
     (words : ℕ → ℕ → ℕ × ℕ) (scenario : Scenario) (journal quiet rows : Rows) (stage : Stage) → IsCalmJournal words scenario journal → IsFront journal rows → IsGoingSince scenario journal quiet rows stage
     → (group : Draw) × GoesAlone scenario quiet rows group
+
+-- So groups go one after another once the journal is quiet again.
+abbrev pub GoersGoInTurn : Type 0
+GoersGoInTurn =
+    (words : ℕ → ℕ → ℕ × ℕ) (scenario : Scenario) (first : Base) (journal quiet behind : Rows) (stage : Stage) → IsCalmJournal words scenario journal → RestsAt words scenario first journal quiet → IsFront journal (quiet ++ behind) → AreSent words scenario journal (quiet ++ behind)
+    → is_quiet (players words (births as_nodes scenario)) (quiet ++ behind) ≡ true → IsGoingSince scenario journal quiet (quiet ++ behind) stage
+    → (turn : Draw → ℕ) × GoInTurn (names_at (births as_nodes scenario) (quiet ++ behind)) (all_replicas (births as_nodes scenario) (quiet ++ behind)) turn

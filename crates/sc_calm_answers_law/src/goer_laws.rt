@@ -1,9 +1,9 @@
 //! Which groups go while an order is under way since a quiet front of a calm journal. Definitions
 //! and laws, no logic.
-ghost use Rattle.sc_calm_answers_law.specs.Goers.{GoersBegin, GoersGoAlone, GoersGoOn};
+ghost use Rattle.sc_calm_answers_law.specs.Goers.{GoersBegin, GoersGoAlone, GoersGoInTurn, GoersGoOn};
 ghost use Rattle.sc_calm_answers_law.specs.Merges.{MergesGoHome};
 
-use crate::known_laws::fronts_are_found;
+use crate::known_laws::{fronts_are_found, fronts_go_in_turn, still_fronts_are_free};
 use crate::led_laws::{ends_are_logged, groups_begin_standing, replicas_run_logs};
 use crate::true_laws::replicas_tell;
 use sc_names_law::{names_have_one_owner, orders_are_allowed};
@@ -47,4 +47,13 @@ pub fn goers_go_alone()
 {
     merges_go_home();
     fronts_are_found();
+}
+
+/// So groups go one after another once the journal is quiet again.
+pub fn goers_go_in_turn()
+    ensures { GoersGoInTurn }
+{
+    goers_go_alone();
+    still_fronts_are_free();
+    fronts_go_in_turn();
 }

@@ -35,7 +35,7 @@ pub use front_laws::{journals_begin_resting, orders_leave_resting};
 
 mod goer_laws;
 
-pub use goer_laws::{goers_begin, goers_go_alone, goers_go_on, merges_go_home};
+pub use goer_laws::{goers_begin, goers_go_alone, goers_go_in_turn, goers_go_on, merges_go_home};
 
 mod journal_laws;
 
