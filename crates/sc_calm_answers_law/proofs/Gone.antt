@@ -58,7 +58,7 @@ served_core group client seq op =
     cond_core group (holds_key group.core.arc (key_of op)) (served_by_note (get group.clients client) group client seq op) (group, NotMine group.core.arc group.core.succ)
     (numbered_core (get group.clients client) group client seq op) refl
 
-called_core : (gone : Option Route) (lock : Lock) (group : Group) (client seq : ℕ) (op : Op) → (called gone lock group client seq op).0.core ≡ group.core
+pub called_core : (gone : Option Route) (lock : Lock) (group : Group) (client seq : ℕ) (op : Op) → (called gone lock group client seq op).0.core ≡ group.core
 called_core (Some into) lock group client seq op = refl
 called_core None Free group client seq op = served_core group client seq op
 called_core None (Watching tx watch) group client seq op = served_core group client seq op

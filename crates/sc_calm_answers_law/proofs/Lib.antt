@@ -55,6 +55,9 @@ mod Frames
 pub mod Freeing
 pub mod FrontBegins
 pub mod Given
+pub mod Goers
+pub mod GoersBegin
+pub mod GoersGoing
 pub mod GoingOn
 pub mod Gone
 pub mod Grants
@@ -111,6 +114,8 @@ pub mod Lists
 pub mod Logs
 mod Lone
 pub mod Meeting
+pub mod MergesHome
+pub mod Merging
 pub mod Missed
 pub mod Moving
 pub mod NameLists

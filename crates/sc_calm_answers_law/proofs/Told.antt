@@ -1,5 +1,5 @@
 -- What a journal tells of its replicas' locks, and of what they have in flight.
-use Rattle.std.proofs.Common.{◌≡◌, ℕ, ◌≤◌, List, ◌++◌, drop, length, refl, sym, ◌∙◌, ap, subst}
+use Rattle.std.proofs.Common.{◌≡◌, ℕ, ◌≤◌, List, ◌++◌, drop, length, Some, refl, sym, ◌∙◌, ap, subst}
 use Rattle.std.proofs.lemmas.Option.{same_Some}
 use Rattle.sc_base.specs.Among.{Among, Each}
 use Rattle.sc_base.specs.declared.names.Draw.{Draw}
@@ -13,6 +13,7 @@ use Rattle.sc_cmd.specs.declared.cores.Base.{Base}
 use Rattle.sc_cmd.specs.declared.links.Route.{Route}
 use Rattle.sc_cmd.specs.declared.votes.Frozen.{Frozen}
 use Rattle.sc_cmd.specs.declared.votes.Outcome.{Outcome}
+use Rattle.sc_cmd.specs.declared.votes.Outcome.TheVariants.{Merged}
 use Rattle.sc_cmd.specs.declared.votes.Vote.TheVariants as Vows
 use Rattle.sc_base.specs.Union.{united}
 use Rattle.sc_machine_table.specs.Group.{Group, group_of}
@@ -53,7 +54,9 @@ use Rattle.sc_whole_law.proofs.Turning.{Holds}
 use Rattle.sc_calm_law.specs.Totals.{Rows}
 use Rattle.sc_calm_logs_law.specs.Logged.{HasReplica, IsGroupOf}
 use Rattle.sc_calm_logs_law.proofs.Journals.{along, flying, found, fronts, part, stay, whole}
+use Rattle.sc_calm_answers_law.specs.Merges.{MergesGoHome}
 use Rattle.sc_calm_answers_law.specs.Outcomes.{IsTakenBy, OutcomesAreTaken}
+use Rattle.sc_calm_answers_law.proofs.MergesHome.{stories_home}
 use Rattle.sc_calm_answers_law.proofs.Outcomes.{outcomes_fit}
 use Rattle.sc_calm_answers_law.specs.Told.{IsAllowedBy, LockTells, ReplicasTell, sources_of}
 
@@ -134,6 +137,14 @@ module _ (bounded : ValidScenariosAreBounded) (begin : ValidScenariosBeginWell) 
         outcomes_fit sources scenario.groups (entries_at as_nodes scenario.groups journal) well.place (told_rows sources as_nodes scenario.groups well.place journal all.turn).allowed tx e.0 e.1 outcome e.2
         (unsigned offer) (ap (λ (y : Story). y.offer) (sym ended) ∙ o.2) frozen (ap (λ (y : Story). y.vote) (sym cast) ∙ v.2)
 
+    -- a group that is merged goes into the coordinator
+    home_by : (tx one other : Draw) (offer : Offer) (into : Route) → IsAllowedBy scenario journal one (Prepared tx offer) → IsAllowedBy scenario journal other (Finish tx (Merged into)) → (sources.owner tx ≡ Some into.group) × (into.group ≡ one → ⊥)
+    home_by tx one other offer into o e =
+        let same = same_Some e.0 o.0 (sym e.1 ∙ o.1) in
+        let h = stories_home sources scenario.groups (entries_at as_nodes scenario.groups journal) well.place (told_rows sources as_nodes scenario.groups well.place journal all.turn).allowed tx o.0 o.1 in
+        let home = h.home into (ap (λ (y : Story). y.outcome) (sym same) ∙ e.2) in
+        (h.drawn ∙ ap Some (sym home), λ is. h.apart (unsigned offer) o.2 (o.3 ∙ (sym is ∙ home)))
+
     -- ---- a replica
 
     module _ (rows : Rows) (seat : Seat Player) (node : NodeState) (r : ReplicaState) (has : HasReplica as_nodes scenario journal base rows seat node r) where
@@ -190,6 +201,9 @@ module _ (bounded : ValidScenariosAreBounded) (begin : ValidScenariosBeginWell) 
     apart = λ words scenario journal base group tx one other offer watch o w e. apart_by words scenario journal base group tx one other offer watch o w e;
     fits = λ words scenario journal base group tx one other offer frozen by merge o v. fits_by words scenario journal base group tx one other offer frozen by merge o v;
   }
+
+  pub merges_go_home : MergesGoHome
+  merges_go_home words scenario journal base group tx one other offer into o e = home_by words scenario journal base group tx one other offer into o e
 
   pub outcomes_taken : OutcomesAreTaken
   outcomes_taken words scenario journal base group tx one two three outcome offer frozen by e o v = taken_by words scenario journal base group tx one two three outcome offer frozen by e o v

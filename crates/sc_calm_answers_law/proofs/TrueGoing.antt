@@ -34,7 +34,7 @@ closed_tx tx asked Lone host = refl
 closed_tx tx asked (Next part node) host = refl
 
 -- by a step it stays, or the stage has none
-step_tx : (P : Draw → Type 0) (group : Draw) (stage later : Stage) → IsStepOf group stage later → (stage ≡ Still → ⊥) → Each P (listed (tx_of stage)) → Each P (listed (tx_of later))
+pub step_tx : (P : Draw → Type 0) (group : Draw) (stage later : Stage) → IsStepOf group stage later → (stage ≡ Still → ⊥) → Each P (listed (tx_of stage)) → Each P (listed (tx_of later))
 step_tx P group stage later (ByRest e) on k = subst (λ x. Each P (listed (tx_of x))) (sym e) k
 step_tx P group stage later (ByOrder s) on k = absurd (on s.before_is)
 step_tx P group stage later (ByChange s) on k = subst (λ x. Each P (listed (tx_of x))) (sym s.after_is) tt

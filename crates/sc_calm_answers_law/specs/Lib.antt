@@ -18,6 +18,7 @@ pub mod Following
 pub mod FoundRows
 pub mod FrontBegins
 pub mod Given
+pub mod Goers
 pub mod Guided
 pub mod Hearing
 pub mod Hinting
@@ -37,6 +38,7 @@ pub mod Led
 pub mod Lines
 pub mod Links
 pub mod Meeting
+pub mod Merges
 pub mod Missed
 pub mod Near
 pub mod New

@@ -47,6 +47,10 @@ pub use homeward_laws::{
     takers_are_nodes,
 };
 
+mod goer_laws;
+
+pub use goer_laws::{goers_begin, goers_go_alone, goers_go_in_turn, goers_go_on, merges_go_home};
+
 mod journal_laws;
 
 pub use journal_laws::fronts_of_fronts;

@@ -1,0 +1,117 @@
+-- Which groups go while an order is under way since a quiet front: one at most, into its coordinator, which stood in the quiet.
+use Rattle.std.specs.Prelude.{◌≡◌, ◌++◌, ℕ, true, None, Some, ◌⊎◌}
+use Rattle.sc_base.specs.Among.{Among, Each}
+use Rattle.sc_base.specs.declared.names.Draw.{Draw}
+use Rattle.sc_actor.specs.Walk.{is_quiet}
+use Rattle.sc_actor.specs.declared.actors.Seat.{Seat}
+use Rattle.sc_actor.specs.declared.rows.Event.TheVariants.{Deliver, Told}
+use Rattle.sc_cmd.specs.declared.bodies.Offer.{Offer}
+use Rattle.sc_cmd.specs.declared.commands.Command.TheVariants.{Finish, Prepared}
+use Rattle.sc_cmd.specs.declared.cores.Base.{Base}
+use Rattle.sc_cmd.specs.declared.links.Route.{Route}
+use Rattle.sc_cmd.specs.declared.orders.OrderLine.{OrderLine}
+use Rattle.sc_cmd.specs.declared.votes.Outcome.TheVariants.{Merged}
+use Rattle.sc_node_table.specs.Replica.{ReplicaState, listed}
+use Rattle.sc_scenario.specs.declared.scenarios.Scenario.{Scenario}
+use Rattle.sc_sound.specs.GroupsOf.{groups_at}
+use Rattle.sc_sound.specs.Players.{Player, as_nodes, births}
+use Rattle.sc_calm_charts_law.specs.Charting.{all_replicas, names_at}
+use Rattle.sc_calm_charts_law.specs.Ends.{GoInTurn}
+use Rattle.sc_calm_law.specs.Charts.{players}
+use Rattle.sc_calm_law.specs.Totals.{Rows}
+use Rattle.sc_calm_orders_law.specs.Stages.{Stage, Still, Ordered, Asks, SentOn, Weighs, Replied, Recorded, Closes, ClosesBoth, IsAt}
+use Rattle.sc_calm_rows_law.specs.Groups.{view_at}
+use Rattle.sc_calm_rows_law.specs.Turns.{with_event}
+use Rattle.sc_calm_logs_law.specs.Logged.{logged_sets}
+use Rattle.sc_calm_scenes_law.specs.Fresh.{IsNowhere, IsToldInQuiet}
+use Rattle.sc_calm_scenes_law.specs.Kept.{GoesBy}
+use Rattle.sc_calm_scenes_law.specs.Scenes.{scene_at}
+use Rattle.sc_budget_law.specs.AskingQuiet.{replicas_after}
+use Rattle.sc_calm_answers_law.specs.Guided.{IsReachedSo}
+use Rattle.sc_calm_answers_law.specs.Journal.{AreSent, IsCalmJournal, IsFront}
+use Rattle.sc_calm_answers_law.specs.JournalUnder.{IsYoungAt}
+use Rattle.sc_calm_answers_law.specs.KnownTurns.{GoesAlone}
+use Rattle.sc_calm_answers_law.specs.Led.{over_at}
+use Rattle.sc_calm_answers_law.specs.New.{tx_of}
+use Rattle.sc_calm_answers_law.specs.Resting.{RestsAt}
+use Rattle.sc_calm_answers_law.specs.SentJournals.{IsSentStep}
+use Rattle.sc_calm_answers_law.specs.Tellers.{tellers_at}
+use Rattle.sc_calm_answers_law.specs.Told.{IsAllowedBy, sources_of}
+use Rattle.sc_calm_answers_law.specs.TrueEntries.{LeadsSince}
+use Rattle.sc_calm_answers_law.specs.TrueGoing.{GoesOnSince}
+use Rattle.sc_calm_answers_law.specs.TrueUnder.{AreSeen}
+
+-- a group had a replica in the quiet that was gone
+pub record WasGone (scenario : Scenario) (quiet : Rows) (name : Draw) : Type 0 where
+  pub who : ℕ
+  pub replica : ReplicaState
+  pub into : Route
+  pub was : replicas_after scenario quiet name who ≡ Some replica
+  pub gone : replica.group.core.gone ≡ Some into
+
+-- .. or none was
+abbrev pub NoneGone : Scenario → Rows → Draw → Type 0
+NoneGone scenario quiet name = (who : ℕ) (r : ReplicaState) → replicas_after scenario quiet name who ≡ Some r → r.group.core.gone ≡ None
+
+-- the group for which the name of a transaction was drawn stood in the quiet
+abbrev pub OwnerStood : Scenario → Rows → Rows → Draw → Type 0
+OwnerStood scenario journal quiet tx = (coord : Draw) → (sources_of scenario journal).owner tx ≡ Some coord → NoneGone scenario quiet coord
+
+-- By what the journal tells, a group promised a transaction and went by it, into here; and the group that began it stood in the quiet.
+pub record HasMerged (scenario : Scenario) (journal quiet : Rows) (tx name : Draw) (into : Route) : Type 0 where
+  pub offer : Offer
+  pub offered : IsAllowedBy scenario journal name (Prepared tx offer)
+  pub ended : IsAllowedBy scenario journal name (Finish tx (Merged into))
+  pub stood : OwnerStood scenario journal quiet tx
+
+-- at a stage the order has begun its transaction
+abbrev pub HasBegun : Stage → Type 0
+HasBegun Still = ⊥
+HasBegun (Ordered group chief work) = ⊥
+HasBegun (Asks deal to) = Unit {0}
+HasBegun (SentOn deal) = Unit {0}
+HasBegun (Weighs deal host) = Unit {0}
+HasBegun (Replied deal agreed host) = Unit {0}
+HasBegun (Recorded deal agreed host) = Unit {0}
+HasBegun (Closes tx party) = Unit {0}
+HasBegun (ClosesBoth tx one two) = Unit {0}
+
+-- Since a quiet front an order has one transaction at most; the group that began it stood in the quiet; and each group that is gone after these rows was gone in the quiet, or went by that transaction.
+pub record IsGoingSince (scenario : Scenario) (journal quiet rows : Rows) (stage : Stage) : Type 0 where
+  pub tx : Draw
+  pub same : Each (λ other. other ≡ tx) (listed (tx_of stage))
+  pub stood : HasBegun stage → OwnerStood scenario journal quiet tx
+  pub went : (name : Draw) (node : ℕ) (r : ReplicaState) (into : Route) → view_at (births as_nodes scenario) rows name node ≡ Some r → r.group.core.gone ≡ Some into
+      → WasGone scenario quiet name ⊎ HasMerged scenario journal quiet tx name into
+
+-- So it is at each stage that stands once an order is told in a quiet front of a calm journal ..
+abbrev pub GoersBegin : Type 0
+GoersBegin =
+    (words : ℕ → ℕ → ℕ × ℕ) (scenario : Scenario) (first : Base) (journal quiet : Rows) (seat : Seat Player) (line : OrderLine) (stage : Stage) → IsCalmJournal words scenario journal → RestsAt words scenario first journal quiet → AreSeen scenario quiet
+    → IsToldInQuiet words (births as_nodes scenario) quiet seat line → IsFront journal (with_event quiet seat (Told line)) → IsAt stage (scene_at (births as_nodes scenario) (with_event quiet seat (Told line)))
+    → IsGoingSince scenario journal quiet (with_event quiet seat (Told line)) stage
+
+-- .. and so it stays by each delivery, where groups are well led, what each has executed is reached at some replica, and one that is nowhere is young after it, and what leaders do is known ..
+abbrev pub GoersGoOn : Type 0
+GoersGoOn =
+    (words : ℕ → ℕ → ℕ × ℕ) (scenario : Scenario) (first : Base) (journal quiet rows : Rows) (seat : Seat Player) (number : ℕ) (stage later : Stage) → GoesOnSince words scenario first journal quiet rows seat number stage → (sent : AreSent words scenario journal rows)
+    → ((base : Base) (among : Among base (groups_at as_nodes scenario.groups journal))
+    → IsSentStep (logged_sets as_nodes base journal) (over_at as_nodes base journal) (tellers_at as_nodes scenario base journal) words (births as_nodes scenario) rows seat (Deliver number) base (sent base among).course)
+    → ((base : Base) (among : Among base (groups_at as_nodes scenario.groups journal)) → IsReachedSo (births as_nodes scenario) rows base (sent base among).course)
+    → ((base : Base) → Among base (groups_at as_nodes scenario.groups journal) → IsNowhere (births as_nodes scenario) rows base.core.id → IsYoungAt words (births as_nodes scenario) (with_event rows seat (Deliver number)) base)
+    → ((name : Draw) (node : ℕ) (r : ReplicaState) → view_at (births as_nodes scenario) rows name node ≡ Some r → r.running ≡ true → LeadsSince words scenario first journal quiet rows name node r stage)
+    → IsAt later (scene_at (births as_nodes scenario) (with_event rows seat (Deliver number))) → (later ≡ stage) ⊎ GoesBy rows (Deliver number) stage later
+    → IsGoingSince scenario journal quiet rows stage → IsGoingSince scenario journal quiet (with_event rows seat (Deliver number)) later
+
+-- .. so that after some rows one group at most is gone that was not in the quiet, and it went into one that stands.
+abbrev pub GoersGoAlone : Type 0
+GoersGoAlone =
+    (words : ℕ → ℕ → ℕ × ℕ) (scenario : Scenario) (journal quiet rows : Rows) (stage : Stage) → IsCalmJournal words scenario journal → IsFront journal rows → IsGoingSince scenario journal quiet rows stage
+    → (group : Draw) × GoesAlone scenario quiet rows group
+
+-- So groups go one after another once the journal is quiet again.
+abbrev pub GoersGoInTurn : Type 0
+GoersGoInTurn =
+    (words : ℕ → ℕ → ℕ × ℕ) (scenario : Scenario) (first : Base) (journal quiet behind : Rows) (stage : Stage) → IsCalmJournal words scenario journal → RestsAt words scenario first journal quiet → IsFront journal (quiet ++ behind) → AreSent words scenario journal (quiet ++ behind)
+    → is_quiet (players words (births as_nodes scenario)) (quiet ++ behind) ≡ true → IsGoingSince scenario journal quiet (quiet ++ behind) stage
+    → (turn : Draw → ℕ) × GoInTurn (names_at (births as_nodes scenario) (quiet ++ behind)) (all_replicas (births as_nodes scenario) (quiet ++ behind)) turn
