@@ -1,8 +1,7 @@
 -- While clients ask alone since a quiet front that rests: it begins so, each row keeps it, and the journal rests again once it is quiet.
 use Rattle.std.proofs.Common.{◌≡◌, ℕ, ◌+◌, ◌≤◌, cond, Bool, true, false, List, [], ◌∷◌, ◌++◌, Option, Some, None, ◌⊎◌, inl, inr, refl, sym, ◌∙◌, ap, subst, arith, append-nil, append_assoc}
-use Rattle.std.specs.List.{sum_by}
 use Rattle.std.proofs.lemmas.Bool.{cases_Bool, both_ways}
-use Rattle.std.proofs.lemmas.List.{sum_by-append}
+use Rattle.std.proofs.lemmas.List.Sums.{sum_by-append}
 use Rattle.std.proofs.lemmas.Option.{none-some}
 use Rattle.sc_base.specs.Among.{Among, Each}
 use Rattle.sc_base.specs.declared.names.Ballot.{Ballot}
