@@ -52,6 +52,7 @@ pub mod FoundRows
 mod Frames
 pub mod Freeing
 pub mod FrontBegins
+pub mod Fronts
 pub mod Given
 pub mod GoingOn
 pub mod Gone
