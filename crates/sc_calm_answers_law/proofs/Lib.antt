@@ -54,6 +54,7 @@ pub mod FoundRows
 mod Frames
 pub mod Freeing
 pub mod FrontBegins
+pub mod Fronts
 pub mod Given
 pub mod Goers
 pub mod GoersBegin

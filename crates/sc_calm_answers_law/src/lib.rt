@@ -13,8 +13,8 @@ pub use answer_laws::{
 mod asked_laws;
 
 pub use asked_laws::{
-    asked_rows_find_calm, requests_begin_asked, requests_keep_groups, requests_rest_again,
-    requests_stay_asked, resting_fronts_are_known, sent_nodes_may_pump,
+    asked_rows_find_calm, asked_rows_go_on, requests_begin_asked, requests_keep_groups,
+    requests_rest_again, requests_stay_asked, resting_fronts_are_known, sent_nodes_may_pump,
 };
 
 mod between_laws;
