@@ -7,6 +7,7 @@ use Rattle.sc_cmd.specs.declared.cores.Base.{Base}
 use Rattle.sc_cmd.specs.declared.orders.OrderLine.{OrderLine}
 use Rattle.sc_mail.specs.declared.bodies.Mail.{Mail}
 use Rattle.sc_actor.specs.declared.actors.Seat.{Seat}
+use Rattle.sc_actor.specs.Mail.{mails}
 use Rattle.sc_actor.specs.System.{System, has_gone}
 use Rattle.sc_actor.specs.Walk.{is_quiet}
 use Rattle.sc_orderly_law.specs.Orderly.{is_born, orders, rest}
@@ -52,11 +53,12 @@ use Rattle.sc_calm_answers_law.specs.Resting.{RestsAt}
 use Rattle.sc_calm_answers_law.specs.JournalUnder.{IsUnder}
 use Rattle.sc_calm_answers_law.proofs.BetweenRequests.{front_timely, front_short}
 use Rattle.sc_calm_answers_law.specs.OverEnding.{QuietFrontsRest}
+use Rattle.sc_calm_answers_law.specs.Homeward.{HomewardGoesToActors}
 use Rattle.sc_calm_answers_law.specs.Ordered.{IsOrderedSince}
 use Rattle.sc_calm_answers_law.proofs.OrderedKnown.{named_there}
 use Rattle.sc_calm_answers_law.specs.Over.{IsOverBesides, OrdersLeaveResting}
 
-module _ (all_bounded : ValidScenariosAreBounded) (few_law : SlotsAreLeft) (born_law : ScenariosAreKeptBorn) (rosters_law : SlotsHaveRosters) (over_law : QuietScenesAreOver) (nothing_law : QuietLeadersHaveNothing) (rounds_law : OrdersKeepRounds) (seen_law : RoundsAreSeen) (found_law : FrontsAreFound) (no_law : NoMailForStrangers) (rest_law : QuietFrontsRest)
+module _ (all_bounded : ValidScenariosAreBounded) (few_law : SlotsAreLeft) (born_law : ScenariosAreKeptBorn) (rosters_law : SlotsHaveRosters) (over_law : QuietScenesAreOver) (nothing_law : QuietLeadersHaveNothing) (rounds_law : OrdersKeepRounds) (seen_law : RoundsAreSeen) (found_law : FrontsAreFound) (no_law : NoMailForStrangers) (rest_law : QuietFrontsRest) (actors_law : HomewardGoesToActors)
     (words : ℕ → ℕ → ℕ × ℕ) (scenario : Scenario) (first : Base) (others : List Base) (journal quiet rows : Rows) (groups : scenario.groups ≡ first ∷ others) (calm : IsCalmJournal words scenario journal) (o : IsOrderedSince words scenario first journal quiet rows) (still : is_quiet (players words (births as_nodes scenario)) rows ≡ true)
     (besides : IsOverBesides words scenario first rows) where
   abbrev all : List (Seat Player)
@@ -90,7 +92,7 @@ module _ (all_bounded : ValidScenariosAreBounded) (few_law : SlotsAreLeft) (born
       (λ none. (ap works_in (besides.waits name node r e runs none), ap works_in (o.work.replicas name node r e).calls))
 
   over : IsAt Still (scene_at all rows)
-  over = (over_law.over words all rows timely still besides.errands nothing (under.stage, under.untouched.stands)).0
+  over = (over_law.over words all rows timely still (actors_law words scenario (mails rows) o.home) nothing (under.stage, under.untouched.stands)).0
 
   -- no mail is under way
   none_quiet : (name : Draw) (who : ℕ) → marks_at s quiet name who ≡ []
@@ -145,5 +147,5 @@ module _ (all_bounded : ValidScenariosAreBounded) (few_law : SlotsAreLeft) (born
     turns = besides.turns;
   })
 
-pub orders_leave : ValidScenariosAreBounded → SlotsAreLeft → ScenariosAreKeptBorn → SlotsHaveRosters → QuietScenesAreOver → QuietLeadersHaveNothing → OrdersKeepRounds → RoundsAreSeen → FrontsAreFound → NoMailForStrangers → QuietFrontsRest → OrdersLeaveResting
+pub orders_leave : ValidScenariosAreBounded → SlotsAreLeft → ScenariosAreKeptBorn → SlotsHaveRosters → QuietScenesAreOver → QuietLeadersHaveNothing → OrdersKeepRounds → RoundsAreSeen → FrontsAreFound → NoMailForStrangers → QuietFrontsRest → HomewardGoesToActors → OrdersLeaveResting
 orders_leave = rests

@@ -4,6 +4,7 @@ ghost use Rattle.sc_calm_answers_law.specs.Over.{OrdersLeaveResting};
 
 use crate::answer_laws::quiet_journals_begin;
 use crate::found_laws::quiet_leaders_have_nothing;
+use crate::homeward_laws::homeward_goes_to_actors;
 use crate::kept_laws::views_agree;
 use crate::known_laws::{fronts_are_found, no_mail_for_strangers};
 use crate::led_laws::groups_begin_standing;
@@ -49,4 +50,5 @@ pub fn orders_leave_resting()
     fronts_are_found();
     no_mail_for_strangers();
     quiet_fronts_rest();
+    homeward_goes_to_actors();
 }
