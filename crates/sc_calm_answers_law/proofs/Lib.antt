@@ -21,6 +21,7 @@ pub mod BornAsBegun
 pub mod Borne
 mod Calls
 mod ChartRests
+mod Charted
 pub mod Children
 pub mod Chosen
 pub mod Clients

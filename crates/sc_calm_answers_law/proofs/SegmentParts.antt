@@ -34,7 +34,7 @@ use Rattle.sc_calm_answers_law.specs.FrontBegins.{JournalsBeginResting}
 use Rattle.sc_calm_answers_law.specs.Homeward.{GoesHome, RequestsSendNoErrands, HomewardGoesToActors}
 use Rattle.sc_calm_answers_law.specs.AskedSince.{IsAskedSince, RequestsBeginAsked, AskedRowsGoOn, AskedRowsFindCalm, RequestsKeepGroups, RequestsRestAgain}
 use Rattle.sc_calm_answers_law.specs.Ordered.{IsOrderedSince, OrdersBeginOrdered, DeliveriesKeepOrdered}
-use Rattle.sc_calm_answers_law.specs.Over.{OrdersRestAgain}
+use Rattle.sc_calm_answers_law.specs.Over.{OrdersLeaveResting}
 use Rattle.sc_calm_answers_law.specs.Near.{HasFewNames, ClientsAreNear, NamesStayFew}
 use Rattle.sc_calm_answers_law.proofs.Segments.{Parts, IsSegment, front_whole, segments}
 
@@ -62,7 +62,7 @@ pub record SegmentLaws : Type 0 where
   pub names_law : NamesStayFew
   pub told_law : OrdersBeginOrdered
   pub keep_law : DeliveriesKeepOrdered
-  pub over_law : OrdersRestAgain
+  pub over_law : OrdersLeaveResting
 
 -- a calm journal that tells few orders, by how long ways may be, and how often clients may be sent on
 pub record IsFramed (words : ℕ → ℕ → ℕ × ℕ) (scenario : Scenario) (first : Base) (others : List Base) (far sends : ℕ) (journal : Rows) : Type 0 where

@@ -70,7 +70,7 @@ waits_none (Node node) is = tt
 waits_none (Client client) is = is
 
 -- mail that is under way is what its receiver has not taken
-with_other : (test other : Mail → Bool) (sent : List Mail) (counts : List ℕ) (mail : Mail) → Among mail (mail_with test sent counts) → (test mail ≡ true) × (other mail ≡ true → Among mail (mail_with other sent counts))
+pub with_other : (test other : Mail → Bool) (sent : List Mail) (counts : List ℕ) (mail : Mail) → Among mail (mail_with test sent counts) → (test mail ≡ true) × (other mail ≡ true → Among mail (mail_with other sent counts))
 with_other test other [] counts mail a = absurd a
 with_other test other (m ∷ sent) [] mail a = absurd a
 with_other test other (m ∷ sent) (c ∷ counts) mail a = elim (split_among (cond (test m) (replicate c m) []) (mail_with test sent counts) mail a) [
