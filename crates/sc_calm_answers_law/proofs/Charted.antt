@@ -13,7 +13,8 @@ use Rattle.sc_mail.specs.declared.roles.Role.TheVariants.{Node, Client}
 use Rattle.sc_actor.specs.declared.actors.Seat.{Seat}
 use Rattle.sc_actor.specs.declared.rows.Row.{Row}
 use Rattle.sc_actor.specs.Mail.{mails, copies}
-use Rattle.sc_actor.specs.System.{System, are_apart, numbers_of, is_delivery}
+use Rattle.sc_actor.specs.System.{System, numbers_of}
+use Rattle.sc_actor.specs.Mail.{is_delivery}
 use Rattle.sc_actor.specs.Walk.{IsLawful, is_quiet, unsettled}
 use Rattle.sc_orderly_law.specs.Orderly.{deliveries, orders, is_born, mail_with}
 use Rattle.sc_orderly_law.specs.Owing.{HasRoom, under_way}

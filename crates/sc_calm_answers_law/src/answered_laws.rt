@@ -19,9 +19,7 @@ use crate::name_laws::{clients_are_near, names_stay_few};
 use crate::ordered_laws::{deliveries_keep_ordered, orders_begin_ordered};
 use crate::request_laws::lawful_replicas_are_named_once;
 use crate::setting_laws::quiet_journals_have_frames;
-use sc_budget_law::{
-    calm_lines_are_spaced, plain_journals_are_answered, plain_lines_end_quiet,
-};
+use sc_budget_law::{calm_lines_are_spaced, plain_journals_are_answered, plain_lines_end_quiet};
 use sc_calm_charts_law::{charts_follow, quiet_charts_rest};
 use sc_calm_law::{kept_calm_is_measured, resting_owes_little};
 use sc_calm_mail_law::{desks_are_not_born, mail_is_posted, replicas_last};
