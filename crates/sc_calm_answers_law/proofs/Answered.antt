@@ -1,5 +1,5 @@
 -- In a whole calm journal every request of a client that is served is answered.
-use Rattle.std.proofs.Common.{◌≡◌, ℕ, ◌+◌, ◌-◌, ◌≤◌, ◌<◌, eqb, Bool, true, false, cond, append-nil, List, [], ◌∷◌, ◌++◌, length, map, Option, Some, None, inl, inr, refl, sym, ◌∙◌, ap, subst, arith, append_assoc}
+use Rattle.std.proofs.Common.{◌≡◌, ℕ, ◌+◌, ◌-◌, ◌≤◌, ◌<◌, eqb, Bool, false, append-nil, List, [], ◌∷◌, ◌++◌, length, map, Some, None, inl, inr, refl, sym, ◌∙◌, ap, subst, arith, append_assoc}
 use Rattle.std.specs.Prelude.{slice_get}
 use Rattle.std.proofs.lemmas.Bool.{cases_Bool, cases_lt, cond-false, eqb-true}
 use Rattle.std.proofs.lemmas.List.{map-append}
@@ -10,7 +10,6 @@ use Rattle.sc_base.specs.declared.ops.Reply.{Reply}
 use Rattle.sc_cmd.specs.declared.cores.Base.{Base}
 use Rattle.sc_cmd.specs.declared.orders.OrderLine.{OrderLine}
 use Rattle.sc_mail.specs.declared.bodies.Mail.{Mail}
-use Rattle.sc_mail.specs.declared.roles.Role.TheVariants.{Client}
 use Rattle.sc_actor.specs.declared.actors.Seat.{Seat}
 use Rattle.sc_actor.specs.declared.rows.Row.{Row}
 use Rattle.sc_actor.specs.declared.schedules.Line.{Line}
@@ -32,7 +31,7 @@ use Rattle.sc_scenario.specs.declared.scenarios.SchedLine.TheVariants.{Go}
 use Rattle.sc_sound.specs.Players.{Player, player_table, node_seat, client_seat, route_of, births, line_of, schedule, system_of, as_nodes, replies_of, Lawful, Whole}
 use Rattle.sc_sound.specs.Requests.{kept_replies}
 use Rattle.sc_whole_law.specs.Valid.{ValidJournalsAreSound}
-use Rattle.sc_budget_law.specs.Budget.{IsServed, AreAnswered}
+use Rattle.sc_budget_law.specs.Budget.{AreAnswered}
 use Rattle.sc_budget_law.specs.Calm.{orders_of, IsCalmAtBudget}
 use Rattle.sc_budget_law.proofs.BetweenStage.{IsStage, stage}
 use Rattle.sc_budget_law.proofs.Lists.{map_among}

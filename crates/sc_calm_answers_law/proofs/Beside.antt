@@ -20,7 +20,6 @@ use Rattle.sc_calm_law.specs.Totals.{Rows}
 use Rattle.sc_calm_mail_law.specs.Posted.{IsPosted}
 use Rattle.sc_calm_orders_law.proofs.Resting.{tables-rest}
 use Rattle.sc_calm_orders_law.specs.Parts.{works}
-use Rattle.sc_calm_orders_law.specs.Running.{IsIdle}
 use Rattle.sc_calm_rows_law.proofs.Asides.{asides_still}
 use Rattle.sc_calm_rows_law.proofs.Keeping.{same_some}
 use Rattle.sc_calm_rows_law.proofs.Turning.{rows_replicas}
@@ -38,7 +37,6 @@ use Rattle.sc_cmd.specs.declared.orders.OrderLine.{OrderLine}
 use Rattle.sc_cmd.specs.declared.orders.OrderRefusal.{OrderRefusal}
 use Rattle.sc_cmd.specs.declared.orders.OrderRefusal.TheVariants.{NotLeader}
 use Rattle.sc_following_law.specs.Following.{Asks, Installs, Mark, Prepares, Promises, Tells, Votes, mark_of, named_mark}
-use Rattle.sc_following_law.specs.Tables.{StepsBy}
 use Rattle.sc_law_lemmas.specs.Steps.{GoesOn}
 use Rattle.sc_machine_table.specs.Orders.{refusal_of}
 use Rattle.sc_mail.specs.declared.bodies.Mail.{Mail}

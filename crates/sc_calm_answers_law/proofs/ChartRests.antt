@@ -1,17 +1,16 @@
 -- A quiet front of a calm journal rests by its chart: all players rest, and each group that was ever led is led.
-use Rattle.std.proofs.Common.{◌≡◌, ℕ, ◌||◌, ◌⊎◌, Bool, true, false, List, [], ◌∷◌, ◌++◌, map, filter, Option, Some, None, inl, inr, refl, sym, ◌∙◌, ap, subst, append_assoc, append-nil}
+use Rattle.std.proofs.Common.{◌≡◌, ℕ, ◌||◌, ◌⊎◌, Bool, true, false, List, [], ◌∷◌, ◌++◌, map, Option, Some, None, inl, inr, refl, sym, ◌∙◌, ap, subst, append_assoc, append-nil}
 use Rattle.std.specs.Prelude.{is_some}
 use Rattle.sc_base.specs.Among.{Among, Each}
 use Rattle.sc_base.specs.declared.names.Draw.{Draw}
 use Rattle.sc_cmd.specs.declared.cores.Base.{Base}
-use Rattle.sc_cmd.specs.declared.links.Route.{Route}
 use Rattle.sc_cmd.specs.declared.orders.OrderLine.{OrderLine}
 use Rattle.sc_mail.specs.declared.bodies.Mail.{Mail}
 use Rattle.sc_mail.specs.declared.roles.Role.TheVariants.{Node, Client}
 use Rattle.sc_actor.specs.declared.actors.Seat.{Seat}
 use Rattle.sc_actor.specs.declared.rows.Row.{Row}
 use Rattle.sc_actor.specs.Replay.{value}
-use Rattle.sc_actor.specs.System.{System, are_apart, has_gone}
+use Rattle.sc_actor.specs.System.{are_apart, has_gone}
 use Rattle.sc_base.specs.Limits.{client_actor}
 use Rattle.sc_client_table.specs.Client.{Client as ClientState}
 use Rattle.sc_node_table.specs.Node.{NodeState, replica_of, born_node}
@@ -27,7 +26,7 @@ use Rattle.sc_scenario.specs.declared.scenarios.Asks.{Asks}
 use Rattle.sc_scenario.specs.declared.scenarios.Scenario.{Scenario}
 use Rattle.sc_sound.specs.Players.{Player, player_table, births, as_nodes, node_seat, client_seat, client_seats, route_of}
 use Rattle.sc_calm_law.specs.Charts.{players}
-use Rattle.sc_calm_law.specs.Quiet.{HasReplica, StandsQuiet, IsGoneQuiet, IsAtRest, IsAnswered}
+use Rattle.sc_calm_law.specs.Quiet.{StandsQuiet, IsGoneQuiet, IsAtRest, IsAnswered}
 use Rattle.sc_calm_law.specs.Resting.{IsResting, RestsCalm}
 use Rattle.sc_calm_law.specs.Totals.{Rows, leads, is_leading, is_led}
 use Rattle.sc_calm_rows_law.specs.Groups.{view_at, replica_in, replicas_of as view_replicas}

@@ -1,5 +1,5 @@
 -- Calm scenarios at their budget have charts, so no line of theirs is cut off, and their quiet journals rest.
-use Rattle.std.proofs.Common.{◌≡◌, ℕ, ◌+◌, ◌*◌, ◌≤◌, eqb, Bool, true, false, true≢false, cond, List, [], ◌∷◌, ◌++◌, length, map, find, replicate, Option, Some, None, ◌||◌, zero, suc, inl, inr, refl, sym, ◌∙◌, ap, subst, arith, append-nil}
+use Rattle.std.proofs.Common.{◌≡◌, ℕ, ◌+◌, ◌*◌, ◌≤◌, eqb, Bool, true, false, true≢false, cond, List, [], ◌∷◌, ◌++◌, length, find, replicate, Some, None, ◌||◌, zero, suc, inl, inr, refl, sym, ◌∙◌, ap, subst, arith, append-nil}
 use Rattle.std.specs.List.{list_any}
 use Rattle.std.proofs.Math.Nat.{mul-le-mul}
 use Rattle.std.proofs.lemmas.Bool.{cases_lt}
@@ -15,7 +15,7 @@ use Rattle.sc_actor.specs.declared.rows.Row.{Row}
 use Rattle.sc_actor.specs.Mail.{mails, copies}
 use Rattle.sc_actor.specs.System.{System, numbers_of}
 use Rattle.sc_actor.specs.Mail.{is_delivery}
-use Rattle.sc_actor.specs.Walk.{IsLawful, is_quiet, unsettled}
+use Rattle.sc_actor.specs.Walk.{is_quiet}
 use Rattle.sc_orderly_law.specs.Orderly.{deliveries, orders, is_born, mail_with}
 use Rattle.sc_orderly_law.specs.Owing.{HasRoom, under_way}
 use Rattle.sc_orderly_law.specs.Timely.{AreInTime, AreSpaced, Nothing, IsMeasure, orders_given}
@@ -25,13 +25,13 @@ use Rattle.sc_orderly_law.proofs.Timing.{rows_in_time, deliveries_and_orders}
 use Rattle.sc_paxos_words.proofs.ListLemmas.{Each-among, Each-from}
 use Rattle.sc_scenario.specs.Valid.{IsValid, ValidScenariosAreBounded}
 use Rattle.sc_scenario.specs.declared.scenarios.Scenario.{Scenario}
-use Rattle.sc_sound.specs.Players.{Player, births, schedule, system_of, as_nodes, Lawful, Whole}
+use Rattle.sc_sound.specs.Players.{Player, births, schedule, as_nodes, Lawful}
 use Rattle.sc_whole_law.proofs.Seats.{all_apart}
 use Rattle.sc_whole_law.specs.Valid.{ValidJournalsAreSound}
 use Rattle.sc_calm_law.specs.Charts.{Chart, players, run_owes}
-use Rattle.sc_calm_law.specs.Keeping.{KeepCalm, KeptCalmIsMeasured}
+use Rattle.sc_calm_law.specs.Keeping.{KeptCalmIsMeasured}
 use Rattle.sc_calm_law.specs.Nodes.{IsDelivered}
-use Rattle.sc_calm_law.specs.Resting.{RestCalm, RestingOwesLittle, births_owe}
+use Rattle.sc_calm_law.specs.Resting.{RestingOwesLittle, births_owe}
 use Rattle.sc_calm_law.specs.Totals.{Rows}
 use Rattle.sc_calm_mail_law.specs.Posted.{IsPosted, IsPlayers, IsNodesBody, IsClientsBody, MailIsPosted, DesksAreNotBorn}
 use Rattle.sc_budget_law.specs.AskingQuiet.{IsQuietJournal}

@@ -19,7 +19,7 @@ use Rattle.sc_machine_table.specs.Machine.{served_by_note, served, called, appli
 use Rattle.sc_base.specs.Roster.{IsRoster, is_member}
 use Rattle.sc_node_table.specs.Execute.{entered, executed_one, next_child, next_ready, ending, executed_ready, executed}
 use Rattle.sc_node_table.specs.Pump.{is_act, pumped}
-use Rattle.sc_node_table.specs.Replica.{ReplicaState, Place, Executed, childless, name_of, next, members, flying, forgotten}
+use Rattle.sc_node_table.specs.Replica.{ReplicaState, Place, Executed, childless, name_of, next, flying, forgotten}
 use Rattle.sc_node_table.specs.Rows.{mailed}
 use Rattle.sc_node_table.specs.Slots.{at_slot}
 use Rattle.sc_law_lemmas.specs.Steps.{IfThere}

@@ -1,12 +1,10 @@
 -- What a delivery finds while an order is under way.
-use Rattle.std.proofs.Common.{◌≡◌, ℕ, ◌+◌, ◌≤◌, ◌^◌, zero, suc, eqb, cond, true, false, true≢false, Bool, List, [], ◌∷◌, ◌++◌, length, map, take, find, Option, Some, None, ◌⊎◌, inl, inr, refl, sym, ◌∙◌, ap, subst, arith, append-nil, append_assoc, length-append}
+use Rattle.std.proofs.Common.{◌≡◌, ℕ, ◌+◌, ◌≤◌, ◌^◌, zero, suc, eqb, cond, true, false, Bool, List, [], ◌∷◌, ◌++◌, length, map, take, find, Option, Some, None, ◌⊎◌, inl, inr, refl, sym, ◌∙◌, ap, subst, arith, append-nil, append_assoc, length-append}
 use Rattle.std.specs.Prelude.{is_some, ◌||◌}
-use Rattle.std.proofs.lemmas.Bool.{cases_Bool, eqb-true}
-use Rattle.std.proofs.lemmas.Option.{none-some}
+use Rattle.std.proofs.lemmas.Bool.{eqb-true}
 use Rattle.sc_base.specs.Among.{Among, Each}
 use Rattle.sc_base.proofs.NameLemmas.{draw_is}
 use Rattle.sc_base.specs.Same.{same_draw}
-use Rattle.sc_base.specs.declared.names.Ballot.{Ballot}
 use Rattle.sc_base.specs.declared.names.Draw.{Draw}
 use Rattle.sc_cmd.specs.declared.cores.Base.{Base}
 use Rattle.sc_cmd.specs.declared.links.Route.{Route}
@@ -17,19 +15,17 @@ use Rattle.sc_mail.specs.declared.bodies.MailBody.TheVariants.{Request, Answer, 
 use Rattle.sc_mail.specs.declared.roles.Role.TheVariants.{Node, Client}
 use Rattle.sc_actor.specs.declared.actors.Seat.{Seat}
 use Rattle.sc_actor.specs.declared.rows.Event.TheVariants.{Deliver}
-use Rattle.sc_actor.specs.declared.rows.Row.{Row}
 use Rattle.sc_actor.specs.Mail.{mails, numbered}
 use Rattle.sc_actor.specs.Replay.{value}
 use Rattle.sc_actor.specs.System.{System, row_of, numbers_of}
 use Rattle.sc_actor.specs.Walk.{is_quiet}
-use Rattle.sc_orderly_law.specs.Orderly.{IsCalmEvent, IsCalmRow, is_born, rest}
+use Rattle.sc_orderly_law.specs.Orderly.{IsCalmRow}
 use Rattle.sc_orderly_law.specs.Timely.{AreInTime}
 use Rattle.sc_orderly_law.proofs.InTime.{in_time_before, in_time_tidy, last_in_time}
 use Rattle.sc_orderly_law.proofs.Resting.{TakesFirst, takes_first, is_born-from}
 use Rattle.sc_node_table.specs.Node.{NodeState, replica_of, group_of_mail}
-use Rattle.sc_node_table.specs.Replica.{ReplicaState, name_of, settled}
-use Rattle.sc_node_table.specs.Slots.{slots_ahead}
-use Rattle.sc_paxos_words.proofs.ListLemmas.{Each-among, find_found}
+use Rattle.sc_node_table.specs.Replica.{ReplicaState, name_of}
+use Rattle.sc_paxos_words.proofs.ListLemmas.{find_found}
 use Rattle.sc_scenario.specs.declared.scenarios.Scenario.{Scenario}
 use Rattle.sc_scenario.specs.Valid.{ValidScenariosAreBounded}
 use Rattle.sc_sound.specs.GroupsOf.{groups_at}
@@ -37,45 +33,43 @@ use Rattle.sc_sound.specs.Players.{Player, player_table, births, as_nodes}
 use Rattle.sc_calm_law.specs.Charts.{Chart, players}
 use Rattle.sc_calm_law.specs.Keeping.{IsCalmFor, FindsCalm, MayAskThere}
 use Rattle.sc_calm_law.specs.Laws.{Points}
-use Rattle.sc_calm_law.specs.Owed.{Ways}
 use Rattle.sc_calm_law.specs.Parties.{StandsOnce}
-use Rattle.sc_calm_law.specs.Quiet.{HasReplica, StandsQuiet, IsGoneQuiet}
 use Rattle.sc_calm_law.specs.Totals.{Rows, led_elsewhere, leads, is_leading, is_led}
 use Rattle.sc_calm_rows_law.specs.Groups.{replicas_of, replica_in, view_at}
-use Rattle.sc_calm_rows_law.specs.Turns.{IsSeat, with_event}
+use Rattle.sc_calm_rows_law.specs.Turns.{with_event}
 use Rattle.sc_calm_mail_law.specs.Few.{SlotsAreLeft}
 use Rattle.sc_calm_logs_law.specs.Logged.{IsGroupOf, SlotsHaveRosters}
 use Rattle.sc_calm_groups_law.specs.Kept.{ScenariosAreKeptBorn, ReplicasAreKept}
 use Rattle.sc_calm_groups_law.specs.Through.{Delivers}
 use Rattle.sc_calm_answers_law.specs.Tellers.{AreFew}
-use Rattle.sc_calm_charts_law.specs.Charting.{replicas_of as chart_replicas, all_replicas, asked_in, names_at, chart_at}
+use Rattle.sc_calm_charts_law.specs.Charting.{replicas_of as chart_replicas, all_replicas, chart_at}
 use Rattle.sc_calm_charts_law.specs.Following.{LedStandOnce}
-use Rattle.sc_calm_charts_law.specs.Fronts.{quiet_upto, quiet_front}
+use Rattle.sc_calm_charts_law.specs.Fronts.{quiet_upto}
 use Rattle.sc_calm_charts_law.proofs.Names.{led_by}
 use Rattle.sc_calm_orders_law.specs.Scenes.{Turn, is_watch, Errand, Question, Elsewhere, Asking, Here, Scene}
-use Rattle.sc_calm_orders_law.specs.Parts.{errand_by, errands_for, bond_of}
-use Rattle.sc_calm_orders_law.specs.Stages.{Deal, Stage, Asks, SentOn, parties_of, IsAt}
+use Rattle.sc_calm_orders_law.specs.Parts.{errand_by, bond_of}
+use Rattle.sc_calm_orders_law.specs.Stages.{Stage, Asks, SentOn, IsAt}
 use Rattle.sc_calm_orders_law.proofs.Lists.{among-left, among-right}
-use Rattle.sc_calm_scenes_law.specs.Fresh.{IsThere, IsNowhere, IsFresh, AreUntouched, FreshGroupsStay}
+use Rattle.sc_calm_scenes_law.specs.Fresh.{IsThere, IsNowhere, IsFresh, FreshGroupsStay}
 use Rattle.sc_calm_scenes_law.specs.Quiet.{WorksFlyLone}
-use Rattle.sc_calm_scenes_law.specs.Scenes.{is_running, lead_of, left_after, scene_at}
+use Rattle.sc_calm_scenes_law.specs.Scenes.{is_running, left_after, scene_at}
 use Rattle.sc_calm_scenes_law.specs.Asked.{AnswersReachLeaders}
-use Rattle.sc_calm_scenes_law.specs.Turns.{LeadsAlone, ScenesTell}
-use Rattle.sc_calm_scenes_law.proofs.Left.{TakesOne, takes_one}
+use Rattle.sc_calm_scenes_law.specs.Turns.{ScenesTell}
+use Rattle.sc_calm_scenes_law.proofs.Left.{takes_one}
 use Rattle.sc_calm_scenes_law.proofs.Newest.{lead_runs}
 use Rattle.sc_calm_scenes_law.proofs.Turning.{calm_is}
 use Rattle.sc_calm_entries_law.specs.Paid.{BondsAsk, OrderEntriesCount}
 use Rattle.sc_calm_answers_law.specs.Finding.{FindsBy, JournalMailFinds, StrayMailFinds, MailIsForItsNode}
-use Rattle.sc_calm_answers_law.specs.Meeting.{IsPlainAt, IsPlain, IsNoRequest, NeedsAt, NeedsBesides, MayCountAt}
+use Rattle.sc_calm_answers_law.specs.Meeting.{IsPlainAt, IsNoRequest, NeedsAt, NeedsBesides, MayCountAt}
 use Rattle.sc_calm_answers_law.specs.Beside.{IsUnsettled}
 use Rattle.sc_calm_answers_law.specs.Guided.{WellLedLeadAlone}
 use Rattle.sc_calm_answers_law.specs.Leader.{StagesLeaveOneWork}
-use Rattle.sc_budget_law.specs.AskingQuiet.{replicas_after, DoHintsRise}
+use Rattle.sc_budget_law.specs.AskingQuiet.{replicas_after}
 use Rattle.sc_calm_answers_law.specs.Journal.{IsCalmJournal, AreSent, GoesOnBy}
-use Rattle.sc_calm_answers_law.specs.JournalUnder.{IsUnder, IsYoungAt}
-use Rattle.sc_calm_answers_law.specs.KeptAsking.{AllLeadAlone, StagesAsk}
+use Rattle.sc_calm_answers_law.specs.JournalUnder.{IsUnder}
+use Rattle.sc_calm_answers_law.specs.KeptAsking.{StagesAsk}
 use Rattle.sc_calm_answers_law.specs.Viewing.{ViewsAgree}
-use Rattle.sc_calm_answers_law.specs.KeptFinding.{CountsEntries, IsKnownMail, IsKnownDelivery, OrderRowsFindCalm}
+use Rattle.sc_calm_answers_law.specs.KeptFinding.{IsKnownMail, IsKnownDelivery, OrderRowsFindCalm}
 use Rattle.sc_calm_answers_law.proofs.KeptCounting.{may_count}
 use Rattle.sc_calm_answers_law.proofs.Questions.{IsQuestionOf, question_stage, IsSentOnIn, elsewhere_stage, errand_there}
 

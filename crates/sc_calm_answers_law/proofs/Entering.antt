@@ -1,7 +1,6 @@
 -- What is in flight at a leader while an order is under way is an entry of it, that leaves at most nine members.
-use Rattle.std.proofs.Common.{◌≡◌, ◌⊎◌, ℕ, zero, suc, ◌≤◌, eqb, cond, true, false, true≢false, Bool, List, [], ◌∷◌, length, filter, take, Option, Some, None, inl, inr, refl, sym, ◌∙◌, ap, subst, arith, ◌-◌}
+use Rattle.std.proofs.Common.{◌≡◌, ◌⊎◌, ℕ, zero, suc, ◌≤◌, eqb, cond, true, false, Bool, List, [], ◌∷◌, length, filter, take, Option, Some, None, inl, inr, refl, sym, ◌∙◌, ap, subst, arith, ◌-◌}
 use Rattle.std.specs.Prelude.{not, ◌||◌}
-use Rattle.std.specs.List.{list_any}
 use Rattle.std.proofs.lemmas.Bool.{cond_both, or_left, or_right, eq-eqb}
 use Rattle.std.proofs.lemmas.Option.{none-some}
 use Rattle.sc_base.specs.Among.{Among, Each}
@@ -23,8 +22,8 @@ use Rattle.sc_base.specs.Roster.{IsRoster, is_member, with_member}
 use Rattle.sc_base.specs.Union.{united, with_any}
 use Rattle.sc_machine_table.specs.Group.{Group, group_of}
 use Rattle.sc_machine_table.specs.Machine.{applied}
-use Rattle.sc_machine_table.specs.Plans.{can_split, split_plan, merge_plan, may_merge}
-use Rattle.sc_machine_table.specs.Splits.{left_members, staying}
+use Rattle.sc_machine_table.specs.Plans.{can_split, may_merge}
+use Rattle.sc_machine_table.specs.Splits.{staying}
 use Rattle.sc_machine_table.specs.Transactions.{released, watch_recorded, asks_watcher, committed}
 use Rattle.sc_paxos_words.specs.declared.flights.Flight.{Flight}
 use Rattle.sc_paxos_words.proofs.ListLemmas.{Each-among}

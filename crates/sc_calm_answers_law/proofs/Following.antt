@@ -1,10 +1,9 @@
 -- The charts of a journal follow one another while an order is under way.
-use Rattle.std.proofs.Common.{◌≡◌, ℕ, Bool, true, false, cond, List, [], ◌∷◌, ◌++◌, replicate, Option, Some, None, ◌⊎◌, inl, inr, refl, sym, ◌∙◌, ap, subst}
+use Rattle.std.proofs.Common.{◌≡◌, ℕ, Bool, true, false, cond, List, [], ◌∷◌, ◌++◌, replicate, Some, ◌⊎◌, inl, inr, sym, ◌∙◌, ap, subst}
 use Rattle.sc_base.specs.Among.{Among, Each}
 use Rattle.sc_base.specs.declared.names.Draw.{Draw}
 use Rattle.sc_cmd.specs.declared.orders.OrderLine.{OrderLine}
 use Rattle.sc_mail.specs.declared.bodies.Mail.{Mail}
-use Rattle.sc_mail.specs.declared.bodies.MailBody.TheVariants.{TxElsewhere}
 use Rattle.sc_actor.specs.declared.actors.Seat.{Seat}
 use Rattle.sc_actor.specs.declared.rows.Event.{Event}
 use Rattle.sc_actor.specs.Mail.{mails, copies}
@@ -23,12 +22,12 @@ use Rattle.sc_calm_rows_law.specs.Groups.{view_at}
 use Rattle.sc_calm_rows_law.specs.Turns.{with_event}
 use Rattle.sc_calm_charts_law.specs.Charting.{all_replicas, asked_in, chart_at}
 use Rattle.sc_calm_charts_law.specs.Following.{WaitsForNone, AsksSame, ChartsFollow}
-use Rattle.sc_calm_orders_law.specs.Scenes.{Turn, First, Lone, Next, is_watch, Elsewhere, Asking, Here, Scene}
+use Rattle.sc_calm_orders_law.specs.Scenes.{Turn, First, Lone, Next, is_watch, Elsewhere, Asking, Here}
 use Rattle.sc_calm_orders_law.specs.Parts.{errand_by}
 use Rattle.sc_calm_orders_law.specs.Stages.{Deal, Stage, Asks, SentOn, IsAt}
-use Rattle.sc_calm_orders_law.specs.Follows.{closed, IsTaken, OfQuestion, OfVote, OfOutcome, TakesOutcome, LastTakes, OneTakes, TwoTakes, IsFreed, LastFreed, OneFreed, TwoFreed, IsStepOf, ByRest, ByOrder, ByChange, ByDeal, ByPassing, ByAsking, ByTaking, ByVote, ByNo, ByHearing, ByDeciding, ByEnd}
+use Rattle.sc_calm_orders_law.specs.Follows.{closed, OfQuestion, OfVote, OfOutcome, LastTakes, OneTakes, TwoTakes, LastFreed, OneFreed, TwoFreed, IsStepOf, ByRest, ByOrder, ByChange, ByDeal, ByPassing, ByAsking, ByTaking, ByVote, ByNo, ByHearing, ByDeciding, ByEnd}
 use Rattle.sc_calm_orders_law.proofs.Lists.{among-left, among-right}
-use Rattle.sc_calm_scenes_law.specs.Kept.{StageAfter, GoesBy}
+use Rattle.sc_calm_scenes_law.specs.Kept.{StageAfter}
 use Rattle.sc_calm_scenes_law.specs.Scenes.{left_after, scene_at}
 use Rattle.sc_calm_scenes_law.proofs.Newest.{lead_runs}
 use Rattle.sc_calm_answers_law.specs.KeptAsking.{AllLeadAlone, StagesAsk}

@@ -1,5 +1,5 @@
 -- Refusals go to nodes, which alone ask to promise or to accept; and errands that go to nodes go to players.
-use Rattle.std.proofs.Common.{◌≡◌, ℕ, ◌+◌, eqb, List, [], ◌∷◌, ◌++◌, map, find, Option, Some, None, inl, inr, refl, sym, subst, arith}
+use Rattle.std.proofs.Common.{◌≡◌, ℕ, eqb, List, [], ◌∷◌, ◌++◌, map, find, Option, Some, None, inl, inr, refl, sym, subst, arith}
 use Rattle.std.specs.Option.{option_map}
 use Rattle.sc_base.specs.Among.{Each}
 use Rattle.sc_base.specs.declared.names.Ballot.{Ballot}

@@ -18,12 +18,12 @@ use Rattle.sc_node_table.specs.Replica.{ReplicaState, name_of}
 use Rattle.sc_sound.specs.Players.{Player}
 use Rattle.sc_calm_law.specs.Totals.{Rows}
 use Rattle.sc_calm_charts_law.specs.Charting.{all_replicas, asked_by, asked_in}
-use Rattle.sc_calm_orders_law.specs.Scenes.{Turn, First, Lone, Next, is_watch, Bond, Unbound, Asking, Bound, Here, free, Scene}
+use Rattle.sc_calm_orders_law.specs.Scenes.{Turn, First, Lone, Next, is_watch, Bond, Unbound, Asking, Bound, Here, Scene}
 use Rattle.sc_calm_orders_law.specs.Parts.{turn_of, bond_in, bond_of}
 use Rattle.sc_calm_orders_law.specs.Stages.{Leg, Mailed, Filed, closing, heard, bound_by, parties_of, Stage, Still, Ordered, Asks, SentOn, Weighs, Replied, Recorded, Closes, ClosesBoth, IsAt}
 use Rattle.sc_calm_orders_law.proofs.Lists.{tokens, tagged, found}
 use Rattle.sc_calm_scenes_law.specs.Scenes.{scene_at}
-use Rattle.sc_calm_scenes_law.specs.Turns.{LeadsAlone, ScenesTell}
+use Rattle.sc_calm_scenes_law.specs.Turns.{ScenesTell}
 use Rattle.sc_calm_answers_law.specs.KeptAsking.{AllLeadAlone, StagesAsk}
 
 -- ---- who asks in a stage

@@ -1,26 +1,24 @@
 -- A leader of a well led group may count a vote, while an order is under way.
-use Rattle.std.proofs.Common.{◌≡◌, ℕ, suc, ◌+◌, ◌<◌, ◌≤◌, ◌&&◌, eqb, cond, true, false, true≢false, Bool, List, [], ◌∷◌, ◌++◌, length, find, Option, Some, None, inl, inr, refl, sym, ◌∙◌, ap, subst, arith}
+use Rattle.std.proofs.Common.{◌≡◌, ℕ, ◌+◌, ◌≤◌, ◌&&◌, eqb, cond, true, true≢false, List, [], ◌∷◌, ◌++◌, length, Option, Some, None, inl, inr, refl, sym, ◌∙◌, ap, subst, arith}
 use Rattle.std.specs.Prelude.{is_some, option_map}
 use Rattle.std.proofs.lemmas.Bool.{eqb-true, eq-eqb, and_from, cases_lt, cond-true, lt-ltb}
 use Rattle.sc_base.specs.Among.{Among, Each}
 use Rattle.sc_cmd.specs.declared.cores.Base.{Base}
 use Rattle.sc_cmd.specs.declared.commands.Command.{Command}
-use Rattle.sc_cmd.specs.declared.links.Route.{Route}
-use Rattle.sc_base.specs.Roster.{is_member, IsRoster}
+use Rattle.sc_base.specs.Roster.{IsRoster}
 use Rattle.sc_paxos_words.specs.Leaders.{flight_at}
 use Rattle.sc_paxos_words.specs.declared.flights.Flight.{Flight}
-use Rattle.sc_paxos_words.proofs.ListLemmas.{find_found, Each-among, Each-from}
+use Rattle.sc_paxos_words.proofs.ListLemmas.{find_found, Each-among}
 use Rattle.sc_actor.specs.declared.actors.Seat.{Seat}
 use Rattle.sc_machine_table.specs.Machine.{applied}
-use Rattle.sc_node_table.specs.Execute.{has_room, next_ready}
-use Rattle.sc_node_table.specs.Replica.{ReplicaState, next, last_slot, members, flying, taken_at, either, listed}
+use Rattle.sc_node_table.specs.Execute.{has_room}
+use Rattle.sc_node_table.specs.Replica.{ReplicaState, next, last_slot, flying, either, listed}
 use Rattle.sc_node_table.specs.Slots.{at_slot, slots_ahead}
 use Rattle.sc_sound.specs.Players.{Player}
-use Rattle.sc_calm_law.specs.Executing.{ServesAll, IsServedCall}
+use Rattle.sc_calm_law.specs.Executing.{IsServedCall}
 use Rattle.sc_calm_law.specs.Keeping.{MayCount}
 use Rattle.sc_calm_law.specs.Laws.{MayPump}
 use Rattle.sc_calm_law.specs.Totals.{Rows}
-use Rattle.sc_following_law.specs.Counted.{IsLed}
 use Rattle.sc_following_law.specs.Following.{Course, Sets}
 use Rattle.sc_following_law.specs.Hints.{Tellers}
 use Rattle.sc_following_law.specs.Leading.{IsLeadOf}

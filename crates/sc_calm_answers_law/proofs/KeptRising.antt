@@ -1,5 +1,5 @@
 -- By the chart of the rows behind a quiet front each hint of that leads nearer.
-use Rattle.std.proofs.Common.{◌≡◌, ℕ, ◌+◌, ◌-◌, ◌<◌, ◌≤◌, ◌||◌, cond, true, false, Bool, List, [], ◌∷◌, length, min, max, Option, Some, None, ◌⊎◌, inl, inr, refl, sym, ◌∙◌, ap, subst, arith}
+use Rattle.std.proofs.Common.{◌≡◌, ℕ, ◌+◌, ◌-◌, ◌<◌, ◌≤◌, ◌||◌, cond, true, false, Bool, List, [], ◌∷◌, min, max, Option, Some, None, ◌⊎◌, inl, inr, refl, sym, ◌∙◌, ap, arith}
 use Rattle.std.specs.Prelude.{is_some}
 use Rattle.std.proofs.lemmas.Bool.{cond-true, cond-false, cases_Bool, or_left, or_right, or_from}
 use Rattle.sc_base.proofs.NameLemmas.{draw_is, same_name}
@@ -9,21 +9,19 @@ use Rattle.sc_base.specs.declared.names.Draw.{Draw}
 use Rattle.sc_cmd.specs.declared.cores.Base.{Base}
 use Rattle.sc_cmd.specs.declared.links.Route.{Route}
 use Rattle.sc_actor.specs.declared.actors.Seat.{Seat}
-use Rattle.sc_actor.specs.Replay.{value}
 use Rattle.sc_orderly_law.specs.Orderly.{orders}
 use Rattle.sc_scenario.specs.Valid.{IsValid, ValidScenariosAreBounded}
 use Rattle.sc_scenario.specs.declared.scenarios.Scenario.{Scenario}
 use Rattle.sc_node_table.specs.Replica.{ReplicaState, name_of}
-use Rattle.sc_sound.specs.Players.{Player, player_table, births, as_nodes, Lawful}
+use Rattle.sc_sound.specs.Players.{Player, births, as_nodes, Lawful}
 use Rattle.sc_calm_law.specs.Charts.{players}
 use Rattle.sc_calm_law.specs.Owed.{Ways}
-use Rattle.sc_calm_law.specs.Quiet.{StandsQuiet, RisesAt}
+use Rattle.sc_calm_law.specs.Quiet.{StandsQuiet}
 use Rattle.sc_calm_law.specs.Totals.{Rows}
 use Rattle.sc_calm_rows_law.specs.Groups.{view_at}
-use Rattle.sc_calm_charts_law.specs.Charting.{replicas_of, all_replicas, replica_at, latest_in, way_by, far_at, chart_at}
+use Rattle.sc_calm_charts_law.specs.Charting.{all_replicas, latest_in, way_by, far_at, chart_at}
 use Rattle.sc_calm_charts_law.specs.Fronts.{quiet_front}
 use Rattle.sc_budget_law.specs.AskingQuiet.{replicas_after, setting_at, DoHintsRise, AreFramesOf}
-use Rattle.sc_budget_law.specs.AtRest.{frame_at_rest}
 use Rattle.sc_budget_law.specs.Frames.{Frame}
 use Rattle.sc_budget_law.proofs.Lists.{some_is}
 use Rattle.sc_calm_answers_law.specs.Hearing.{AreReached}

@@ -1,11 +1,10 @@
 -- An order that is told in quiet finds what keeps the journal calm.
-use Rattle.std.proofs.Common.{◌≡◌, ℕ, ◌+◌, ◌≤◌, Bool, true, false, List, [], ◌∷◌, ◌++◌, length, take, Option, Some, None, ◌⊎◌, inl, inr, refl, sym, ◌∙◌, ap, subst, arith}
+use Rattle.std.proofs.Common.{◌≡◌, ℕ, true, false, List, [], ◌++◌, length, Option, Some, None, inl, inr, refl, sym, ◌∙◌, ap, subst, arith}
 use Rattle.std.specs.Prelude.{is_some, ◌||◌, ◌&&◌, not}
 use Rattle.std.proofs.lemmas.Bool.{cases_Bool, cond-true, or_right}
 use Rattle.std.proofs.lemmas.List.{take_all}
 use Rattle.sc_base.specs.declared.names.Draw.{Draw}
 use Rattle.sc_cmd.specs.declared.cores.Base.{Base}
-use Rattle.sc_cmd.specs.declared.links.Route.{Route}
 use Rattle.sc_cmd.specs.declared.orders.OrderLine.{OrderLine}
 use Rattle.sc_base.specs.Drawing.{Drawer, next_name}
 use Rattle.sc_cmd.specs.declared.orders.OrderRefusal.{OrderRefusal}
@@ -18,13 +17,12 @@ use Rattle.sc_actor.specs.Replay.{value}
 use Rattle.sc_machine_table.specs.Group.{Group}
 use Rattle.sc_node_table.specs.Node.{NodeState, replica_of, group_of_order}
 use Rattle.sc_node_table.specs.Ordering.{first_of_both, named_refused, ordered_command, ordered_row, untaken}
-use Rattle.sc_node_table.specs.Replica.{Place, ReplicaState, name_of, first_set, may_offer, settled}
+use Rattle.sc_node_table.specs.Replica.{Place, ReplicaState, first_set, may_offer, settled}
 use Rattle.sc_scenario.specs.declared.scenarios.Scenario.{Scenario}
 use Rattle.sc_scenario.specs.Valid.{ValidScenariosAreBounded}
 use Rattle.sc_sound.specs.Players.{Player, player_table, births, as_nodes}
 use Rattle.sc_calm_law.specs.Charts.{players}
 use Rattle.sc_calm_law.specs.Keeping.{FindsCalm, MayBeTold}
-use Rattle.sc_calm_law.specs.Nodes.{group_owes}
 use Rattle.sc_calm_law.specs.Owed.{idle_owes}
 use Rattle.sc_calm_law.specs.Parties.{StandsOnce, IsCalmOrder}
 use Rattle.sc_calm_law.specs.Quiet.{IsAtRest}
@@ -34,7 +32,6 @@ use Rattle.sc_calm_rows_law.specs.Turns.{IsSeat}
 use Rattle.sc_calm_charts_law.specs.Charting.{names_at, chart_at}
 use Rattle.sc_calm_charts_law.specs.Following.{LedStandOnce}
 use Rattle.sc_calm_orders_law.specs.Parts.{works, works_in, works_flying, works_ready}
-use Rattle.sc_calm_orders_law.specs.Tables.{MayFile, Works}
 use Rattle.sc_calm_orders_law.specs.Running.{TablesOrder}
 use Rattle.sc_budget_law.specs.AskingQuiet.{replicas_after}
 use Rattle.sc_calm_answers_law.specs.Settings.{AreAtNodes}

@@ -1,15 +1,12 @@
 -- Each replica that runs after some rows of a calm journal leads its group alone, where all groups are well led.
-use Rattle.std.proofs.Common.{◌≡◌, ℕ, true, Some, sym, ◌∙◌, ap, subst}
-use Rattle.sc_base.specs.Among.{Among}
+use Rattle.std.proofs.Common.{◌≡◌, ℕ, true, Some, ◌∙◌, ap, subst}
 use Rattle.sc_base.specs.declared.names.Draw.{Draw}
-use Rattle.sc_cmd.specs.declared.orders.OrderLine.{OrderLine}
 use Rattle.sc_node_table.specs.Replica.{ReplicaState, name_of}
 use Rattle.sc_scenario.specs.Valid.{ValidScenariosAreBounded}
 use Rattle.sc_scenario.specs.declared.scenarios.Scenario.{Scenario}
 use Rattle.sc_sound.specs.Players.{births, as_nodes}
 use Rattle.sc_calm_law.specs.Totals.{Rows}
 use Rattle.sc_calm_rows_law.specs.Groups.{view_at}
-use Rattle.sc_calm_charts_law.specs.Charting.{all_replicas}
 use Rattle.sc_calm_scenes_law.specs.Turns.{LeadsAlone}
 use Rattle.sc_calm_answers_law.specs.Starts.{LawfulReplicasAreNamedOnce}
 use Rattle.sc_calm_answers_law.specs.Guided.{WellLedLeadAlone}

@@ -1,6 +1,5 @@
 -- Each delivery while an order is under way keeps all that holds then, and finds what keeps the journal calm.
-use Rattle.std.proofs.Common.{◌≡◌, ◌⊎◌, ◌≤◌, ℕ, Bool, true, false, eqb, length, List, [], ◌∷◌, ◌++◌, Option, Some, None, inl, inr, refl, sym, ◌∙◌, ap, subst, arith, append_assoc}
-use Rattle.std.proofs.lemmas.Option.{none-some}
+use Rattle.std.proofs.Common.{◌≡◌, ◌⊎◌, ◌≤◌, ℕ, true, false, length, List, [], ◌∷◌, ◌++◌, Option, Some, None, inl, inr, refl, sym, ◌∙◌, ap, subst, arith, append_assoc}
 use Rattle.sc_base.specs.Among.{Among, Each}
 use Rattle.sc_base.specs.declared.names.Draw.{Draw}
 use Rattle.sc_cmd.specs.declared.commands.Command.{Command}
@@ -11,13 +10,12 @@ use Rattle.sc_mail.specs.declared.bodies.MailBody.{MailBody}
 use Rattle.sc_mail.specs.declared.bodies.MailBody.TheVariants.{Request, Answer, Prepare, Promise, Accept, Accepted, Nack, Learn, Ask, Install, TxPrepare, TxVote, TxOutcome, TxElsewhere, TxWatch, TxWatched, Told}
 use Rattle.sc_mail.specs.declared.roles.Role.TheVariants.{Node, Client}
 use Rattle.sc_actor.specs.declared.actors.Seat.{Seat}
-use Rattle.sc_actor.specs.declared.rows.Event.{Event}
 use Rattle.sc_actor.specs.declared.rows.Event.TheVariants.{Deliver}
 use Rattle.sc_actor.specs.declared.rows.Row.{Row}
 use Rattle.sc_actor.specs.Mail.{mails, numbered}
 use Rattle.sc_actor.specs.Replay.{value}
 use Rattle.sc_actor.specs.System.{System, row_of}
-use Rattle.sc_orderly_law.specs.Orderly.{is_born, is_told, rest}
+use Rattle.sc_orderly_law.specs.Orderly.{is_told}
 use Rattle.sc_orderly_law.proofs.Paying.{count_push}
 use Rattle.sc_orderly_law.proofs.Resting.{is_born-from}
 use Rattle.sc_scenario.specs.Valid.{ValidScenariosAreBounded}
@@ -32,9 +30,9 @@ use Rattle.sc_calm_law.specs.Charts.{players}
 use Rattle.sc_calm_law.specs.Keeping.{FindsCalm}
 use Rattle.sc_calm_law.specs.Totals.{Rows}
 use Rattle.sc_paxos_words.proofs.ListLemmas.{Each-from}
-use Rattle.sc_calm_orders_law.specs.Stages.{Deal, Stage, Asks, IsAt}
+use Rattle.sc_calm_orders_law.specs.Stages.{Stage}
 use Rattle.sc_calm_rows_law.specs.Groups.{view_at}
-use Rattle.sc_calm_rows_law.specs.Turns.{IsSeat, with_event}
+use Rattle.sc_calm_rows_law.specs.Turns.{with_event}
 use Rattle.sc_calm_rows_law.proofs.Viewing.{view_was}
 use Rattle.sc_calm_mail_law.specs.Few.{SlotsAreLeft}
 use Rattle.sc_calm_mail_law.specs.Lasting.{ReplicasLast}
@@ -43,15 +41,14 @@ use Rattle.sc_calm_answers_law.specs.States.{ReplicasRunLogs}
 use Rattle.sc_calm_scenes_law.specs.Fresh.{IsThere, IsNowhere, AreUntouched, IsDelivered, FreshGroupsStay}
 use Rattle.sc_calm_scenes_law.specs.Found.{FindsOrder}
 use Rattle.sc_calm_scenes_law.specs.Kept.{GoesBy, StageAfter}
-use Rattle.sc_calm_scenes_law.specs.Scenes.{scene_at}
 use Rattle.sc_calm_scenes_law.specs.Taken.{IsTaking}
 use Rattle.sc_calm_entries_law.specs.Paid.{IsEntry}
 use Rattle.sc_calm_answers_law.specs.Beside.{IsUnsettled}
-use Rattle.sc_calm_answers_law.specs.Guided.{IsGuided, IsNamedGuide, NewestStay, WellLedLeadAlone}
+use Rattle.sc_calm_answers_law.specs.Guided.{IsNamedGuide, NewestStay, WellLedLeadAlone}
 use Rattle.sc_calm_answers_law.specs.FoundRows.{IsOrdersRow, OrdersRowsFind, OrdersRowsMeet}
 use Rattle.sc_calm_answers_law.specs.SentJournals.{IsQuietWhileYoung, IsSentStep, NextRowsAreSent, SentReplicas}
 use Rattle.sc_calm_answers_law.specs.Meeting.{IsNoRequest, IsPlainAt}
-use Rattle.sc_calm_charts_law.specs.Charting.{chart_at, all_replicas}
+use Rattle.sc_calm_charts_law.specs.Charting.{chart_at}
 use Rattle.sc_calm_charts_law.specs.Fronts.{quiet_front}
 use Rattle.sc_budget_law.specs.AskingQuiet.{replicas_after, DoHintsRise}
 use Rattle.sc_budget_law.proofs.BetweenSteps.{each_numbered}
@@ -63,10 +60,10 @@ use Rattle.sc_calm_answers_law.specs.RiseRising.{IsRisingOn}
 use Rattle.sc_calm_answers_law.specs.RiseRounds.{IsRoundSince, OrdersKeepRounds}
 use Rattle.sc_calm_answers_law.specs.KnownFronts.{FrontsAreFound}
 use Rattle.sc_calm_answers_law.specs.Strangers.{NoMailForStrangers}
-use Rattle.sc_calm_answers_law.specs.Journal.{IsCalmJournal, IsFront, AreSent, GoesOnBy, IsNamedGroup}
+use Rattle.sc_calm_answers_law.specs.Journal.{IsCalmJournal, AreSent, GoesOnBy, IsNamedGroup}
 use Rattle.sc_calm_answers_law.specs.JournalUnder.{IsUnder, IsYoungAt}
 use Rattle.sc_calm_answers_law.specs.KeptAsking.{AllLeadAlone}
-use Rattle.sc_calm_answers_law.specs.KeptFinding.{CountsEntries, IsKnownMail, IsKnownDelivery, OrderRowsFindCalm}
+use Rattle.sc_calm_answers_law.specs.KeptFinding.{IsKnownMail, OrderRowsFindCalm}
 use Rattle.sc_calm_answers_law.specs.Viewing.{ViewsAgree}
 use Rattle.sc_calm_answers_law.specs.Borne.{ChildrenAreBorne, IsWorkingRow}
 use Rattle.sc_calm_answers_law.specs.Children.{ChildrenWereNowhere}

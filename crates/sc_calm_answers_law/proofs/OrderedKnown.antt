@@ -24,11 +24,10 @@ use Rattle.sc_orderly_law.proofs.InTime.{in_time_before, in_time_tidy, last_in_t
 use Rattle.sc_orderly_law.proofs.Resting.{TakesFirst, takes_first, is_born-from}
 use Rattle.sc_scenario.specs.declared.scenarios.Scenario.{Scenario}
 use Rattle.sc_node_table.specs.Node.{group_of_mail}
-use Rattle.sc_node_table.specs.Replica.{ReplicaState, listed, next, born_replica}
-use Rattle.sc_node_table.specs.Slots.{slots_ahead}
+use Rattle.sc_node_table.specs.Replica.{ReplicaState, listed, next}
 use Rattle.sc_sound.specs.GroupsOf.{groups_at}
 use Rattle.sc_sound.specs.Players.{Player, player_table, births, as_nodes}
-use Rattle.sc_following_law.specs.Following.{Course, Mark, Asks, Votes, Tells, Installs, Prepares, Promises, named_mark, mark_of, marks_of, members_at, reached}
+use Rattle.sc_following_law.specs.Following.{Mark, Asks, Votes, Tells, Installs, Prepares, Promises, named_mark, mark_of, marks_of, members_at, reached}
 use Rattle.sc_calm_law.specs.Charts.{players}
 use Rattle.sc_calm_law.specs.Totals.{Rows}
 use Rattle.sc_calm_orders_law.specs.Parts.{bond_of}

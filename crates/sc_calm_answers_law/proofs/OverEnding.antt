@@ -1,54 +1,46 @@
 -- A quiet front of a calm journal rests.
-use Rattle.std.proofs.Common.{◌≡◌, ℕ, ◌+◌, ◌<◌, ◌≤◌, cond, true, false, true≢false, Bool, List, [], ◌∷◌, ◌++◌, length, Option, Some, None, ◌⊎◌, inl, inr, refl, sym, ◌∙◌, ap, subst, arith, append-nil}
+use Rattle.std.proofs.Common.{◌≡◌, ℕ, ◌<◌, ◌≤◌, true, false, true≢false, [], Option, Some, None, ◌⊎◌, inl, inr, sym, ◌∙◌, ap, subst, arith}
 use Rattle.std.specs.Prelude.{is_some}
 use Rattle.std.proofs.lemmas.Bool.{cases_Bool, cases_lt}
-use Rattle.std.proofs.lemmas.Option.{none-some}
-use Rattle.sc_base.specs.Among.{Among, Each}
+use Rattle.sc_base.specs.Among.{Among}
 use Rattle.sc_base.specs.declared.names.Ballot.{Ballot}
 use Rattle.sc_base.specs.declared.names.Draw.{Draw}
 use Rattle.sc_cmd.specs.declared.commands.Command.{Command}
 use Rattle.sc_cmd.specs.declared.cores.Base.{Base}
 use Rattle.sc_cmd.specs.declared.cores.Lock.TheVariants.{Free}
-use Rattle.sc_cmd.specs.declared.links.Route.{Route}
 use Rattle.sc_cmd.specs.declared.orders.OrderLine.{OrderLine}
 use Rattle.sc_mail.specs.declared.bodies.Mail.{Mail}
-use Rattle.sc_mail.specs.declared.bodies.MailBody.{MailBody}
-use Rattle.sc_mail.specs.declared.bodies.MailBody.TheVariants.{Request, Answer, Prepare, Promise, Accept, Accepted, Nack, Learn, Ask, Install, TxPrepare, TxVote, TxOutcome, TxElsewhere, TxWatch, TxWatched, Told}
-use Rattle.sc_mail.specs.declared.roles.Role.TheVariants.{Node, Client}
 use Rattle.sc_machine_table.specs.Group.{Group}
 use Rattle.sc_paxos_words.specs.Ballots.{IsAtLeast}
 use Rattle.sc_paxos_words.specs.declared.reports.Report.{Report}
-use Rattle.sc_paxos_words.proofs.ListLemmas.{Each-weaker, Each-from}
-use Rattle.sc_actor.specs.declared.actors.Seat.{Seat}
-use Rattle.sc_actor.specs.Replay.{value}
+use Rattle.sc_paxos_words.proofs.ListLemmas.{Each-weaker}
 use Rattle.sc_actor.specs.System.{System}
 use Rattle.sc_orderly_law.specs.Orderly.{is_born, rest}
 use Rattle.sc_orderly_law.proofs.InTime.{in_time_tidy}
 use Rattle.sc_orderly_law.proofs.Resting.{quiet-empty}
-use Rattle.sc_node_table.specs.Replica.{ReplicaState, next, taken_at}
+use Rattle.sc_node_table.specs.Replica.{ReplicaState}
 use Rattle.sc_scenario.specs.declared.scenarios.Scenario.{Scenario}
 use Rattle.sc_scenario.specs.Valid.{ValidScenariosAreBounded}
 use Rattle.sc_sound.specs.GroupsOf.{groups_at}
-use Rattle.sc_sound.specs.Players.{Player, player_table, births, node_seat, as_nodes}
+use Rattle.sc_sound.specs.Players.{Player, births, as_nodes}
 use Rattle.sc_calm_law.specs.Charts.{players}
 use Rattle.sc_calm_law.specs.Laws.{MayPump}
 use Rattle.sc_calm_law.specs.Quiet.{HasReplica, StandsQuiet, IsGoneQuiet, IsAtRest, RisesAt}
 use Rattle.sc_calm_law.specs.Totals.{Rows}
-use Rattle.sc_following_law.specs.Following.{Course, marks_of, mark_of, named_mark}
+use Rattle.sc_following_law.specs.Following.{Course, marks_of}
 use Rattle.sc_following_law.specs.Leading.{IsLeadOf}
-use Rattle.sc_calm_rows_law.specs.Groups.{view_at, marks_at, progress_at}
+use Rattle.sc_calm_rows_law.specs.Groups.{marks_at, progress_at}
 use Rattle.sc_calm_groups_law.specs.Tops.{NodesKeepTops, NodesAreBornTopped}
 use Rattle.sc_calm_groups_law.specs.Rests.{QuietGroupsAreLed, IsLedQuietly}
 use Rattle.sc_calm_logs_law.specs.Logged.{logged_sets}
 use Rattle.sc_calm_answers_law.specs.Led.{over_at}
 use Rattle.sc_calm_answers_law.specs.States.{state_at}
 use Rattle.sc_calm_answers_law.specs.Tellers.{tellers_at}
-use Rattle.sc_calm_answers_law.specs.Rests.{replicas_at, IsQuietGroup, SawNoMore, QuietGroupsStand, QuietGroupsAreGone, IsDone, QuietReplicasRest, QuietReplicasAreKept}
+use Rattle.sc_calm_answers_law.specs.Rests.{replicas_at, SawNoMore, QuietGroupsStand, QuietGroupsAreGone, QuietReplicasRest, QuietReplicasAreKept}
 use Rattle.sc_calm_answers_law.proofs.Facts.{even, has_one}
 use Rattle.sc_calm_answers_law.specs.SentJournals.{IsSentThrough, SentReplicas}
 use Rattle.sc_budget_law.specs.AskingQuiet.{replicas_after, IsQuietJournal}
-use Rattle.sc_budget_law.specs.AtRest.{IsKept, frame_at_rest}
-use Rattle.sc_budget_law.specs.Between.{Other, mark}
+use Rattle.sc_budget_law.specs.AtRest.{IsKept}
 use Rattle.sc_calm_answers_law.specs.KnownFronts.{IsQuietFront, IsKnownGroup, IsFoundFront, FrontsAreFound, QuietFrontsHaveGroups, QuietLogsAreExecuted}
 use Rattle.sc_calm_answers_law.specs.Known.{FrontsAreKnown, FrontsAreReachable, FrontsAreTakenIn, FrontsAreLinked, StillFrontsAreFree}
 use Rattle.sc_calm_answers_law.specs.Links.{AreAllFree}
@@ -58,7 +50,6 @@ use Rattle.sc_calm_answers_law.specs.RiseRounds.{RoundsAreSeen}
 use Rattle.sc_calm_answers_law.specs.Strangers.{NoMailForStrangers}
 use Rattle.sc_calm_answers_law.specs.There.{FrontsAreThere, FrontsHaveMembers}
 use Rattle.sc_calm_answers_law.proofs.Known.{newest_state}
-use Rattle.sc_calm_scenes_law.specs.Fresh.{IsThere}
 use Rattle.sc_calm_answers_law.specs.Resting.{RestsAt}
 use Rattle.sc_calm_answers_law.proofs.BetweenRequests.{front_timely}
 use Rattle.sc_calm_answers_law.specs.OverEnding.{EndsQuietly, QuietFrontsRest}

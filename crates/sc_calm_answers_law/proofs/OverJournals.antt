@@ -1,25 +1,22 @@
 -- A quiet front of a calm journal rests, where its players are as a quiet journal asks it.
-use Rattle.std.proofs.Common.{◌≡◌, ◌⊎◌, inl, inr, ℕ, Bool, true, false, cond, List, [], ◌∷◌, ◌++◌, Option, Some, None, refl, sym, ◌∙◌, ap, subst, append-nil}
+use Rattle.std.proofs.Common.{◌≡◌, ◌⊎◌, inl, inr, ℕ, Bool, true, false, cond, List, [], ◌∷◌, ◌++◌, Option, Some, None, refl, ◌∙◌, ap}
 use Rattle.std.specs.Prelude.{nat_le}
-use Rattle.sc_base.specs.Among.{Among, Each}
 use Rattle.sc_base.specs.declared.names.Draw.{Draw}
 use Rattle.sc_cmd.specs.declared.cores.Base.{Base}
 use Rattle.sc_cmd.specs.declared.orders.OrderLine.{OrderLine}
 use Rattle.sc_mail.specs.declared.bodies.Mail.{Mail}
-use Rattle.sc_actor.specs.declared.actors.Seat.{Seat}
 use Rattle.sc_actor.specs.Mail.{mails, copies}
 use Rattle.sc_actor.specs.System.{System, numbers_of}
 use Rattle.sc_orderly_law.proofs.InTime.{in_time_tidy}
 use Rattle.sc_orderly_law.proofs.Resting.{quiet-empty}
-use Rattle.sc_scenario.specs.Valid.{ValidScenariosAreBounded}
 use Rattle.sc_scenario.specs.declared.scenarios.Scenario.{Scenario}
 use Rattle.sc_node_table.specs.Replica.{ReplicaState, next}
 use Rattle.sc_sound.specs.Players.{Player, births, as_nodes}
 use Rattle.sc_calm_law.specs.Charts.{players}
 use Rattle.sc_calm_law.specs.Quiet.{IsAtRest}
 use Rattle.sc_calm_law.specs.Totals.{Rows}
-use Rattle.sc_calm_orders_law.specs.Parts.{works_in, works_flying, works_ready, works, bond_of, bond_in, errands_for}
-use Rattle.sc_calm_orders_law.specs.Scenes.{Bond, Unbound, Work, Errand, Here, free, Scene}
+use Rattle.sc_calm_orders_law.specs.Parts.{works_in, works_flying, works_ready, works, bond_in, errands_for}
+use Rattle.sc_calm_orders_law.specs.Scenes.{Bond, Unbound, Work, Errand, Here, free}
 use Rattle.sc_calm_orders_law.specs.Stages.{Still, IsAt}
 use Rattle.sc_calm_rows_law.specs.Groups.{view_at}
 use Rattle.sc_calm_scenes_law.specs.Scenes.{later, newest_of, lead_of, bond_there, bond_by, works_of, work_at, left_after, scene_at}

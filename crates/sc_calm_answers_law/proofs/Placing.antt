@@ -1,13 +1,12 @@
 -- Each replica that a player has is seen at that player, by its group's name.
-use Rattle.std.proofs.Common.{◌≡◌, ℕ, ◌+◌, ◌≤◌, eqb, cond, true, false, Bool, List, [], ◌∷◌, ◌++◌, map, Option, Some, None, inl, inr, refl, sym, ◌∙◌, ap, subst, arith}
+use Rattle.std.proofs.Common.{◌≡◌, ℕ, ◌≤◌, eqb, cond, true, false, Bool, List, [], ◌∷◌, ◌++◌, map, Option, Some, None, inl, inr, refl, sym, ◌∙◌, ap, subst, arith}
 use Rattle.sc_base.specs.Among.{Among}
 use Rattle.sc_cmd.specs.declared.cores.Base.{Base}
 use Rattle.sc_cmd.specs.declared.orders.OrderLine.{OrderLine}
 use Rattle.sc_mail.specs.declared.bodies.Mail.{Mail}
-use Rattle.sc_mail.specs.declared.roles.Role.TheVariants.{Node, Client}
+use Rattle.sc_mail.specs.declared.roles.Role.TheVariants.{Client}
 use Rattle.sc_actor.specs.declared.actors.Seat.{Seat}
 use Rattle.sc_actor.specs.declared.rows.Input.{Input}
-use Rattle.sc_actor.specs.declared.rows.Row.{Row}
 use Rattle.sc_actor.specs.Replay.{value, acted, replay, input_of}
 use Rattle.sc_client_table.specs.Client.{Client as ClientState, born_client}
 use Rattle.sc_cmd.specs.declared.links.Route.{Route}
@@ -16,7 +15,7 @@ use Rattle.sc_client_table.specs.Table.{table}
 use Rattle.sc_scenario.specs.Valid.{IsValid, ValidScenariosAreBounded}
 use Rattle.sc_scenario.specs.declared.scenarios.Asks.{Asks}
 use Rattle.sc_scenario.specs.declared.scenarios.Scenario.{Scenario}
-use Rattle.sc_node_table.specs.Node.{NodeState, node_table, replica_of, born_node}
+use Rattle.sc_node_table.specs.Node.{replica_of, born_node}
 use Rattle.sc_node_table.specs.Replica.{ReplicaState, name_of}
 use Rattle.sc_node_table.specs.Slots.{numbers_from, slots_ahead}
 use Rattle.sc_sound.specs.Players.{Player, player_table, births, as_nodes, node_seat, client_seat, client_seats, route_of, Lawful}

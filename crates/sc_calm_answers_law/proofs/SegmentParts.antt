@@ -1,7 +1,6 @@
 -- The segments of a calm journal: quiet fronts that rest, requests behind them, and orders.
-use Rattle.std.proofs.Common.{◌≡◌, ℕ, ◌+◌, ◌≤◌, Bool, true, false, true≢false, List, [], ◌∷◌, ◌++◌, length, ◌⊎◌, inl, inr, refl, sym, ◌∙◌, ap, subst, arith, append_assoc, append-nil}
+use Rattle.std.proofs.Common.{◌≡◌, ℕ, ◌+◌, ◌≤◌, true, false, true≢false, List, [], ◌∷◌, ◌++◌, length, refl, sym, ◌∙◌, ap, subst, arith, append_assoc, append-nil}
 use Rattle.sc_base.specs.Among.{Each}
-use Rattle.sc_base.specs.declared.names.Draw.{Draw}
 use Rattle.sc_cmd.specs.declared.cores.Base.{Base}
 use Rattle.sc_cmd.specs.declared.orders.OrderLine.{OrderLine}
 use Rattle.sc_mail.specs.declared.bodies.Mail.{Mail}
@@ -11,7 +10,6 @@ use Rattle.sc_actor.specs.declared.rows.Event.TheVariants.{Deliver, Tick, Go, To
 use Rattle.sc_actor.specs.declared.rows.Row.{Row}
 use Rattle.sc_actor.specs.Mail.{mails}
 use Rattle.sc_actor.specs.System.{System, row_of}
-use Rattle.sc_actor.specs.Walk.{is_quiet}
 use Rattle.sc_orderly_law.specs.Orderly.{IsInOrder, is_told, orders}
 use Rattle.sc_orderly_law.specs.Timely.{AreInTime}
 use Rattle.sc_orderly_law.proofs.InTime.{last_in_time}
@@ -36,7 +34,7 @@ use Rattle.sc_calm_answers_law.specs.AskedSince.{IsAskedSince, RequestsBeginAske
 use Rattle.sc_calm_answers_law.specs.Ordered.{IsOrderedSince, OrdersBeginOrdered, DeliveriesKeepOrdered}
 use Rattle.sc_calm_answers_law.specs.Over.{OrdersLeaveResting}
 use Rattle.sc_calm_answers_law.specs.Near.{HasFewNames, ClientsAreNear, NamesStayFew}
-use Rattle.sc_calm_answers_law.proofs.Segments.{Parts, IsSegment, front_whole, segments}
+use Rattle.sc_calm_answers_law.proofs.Segments.{Parts, IsSegment, segments}
 
 -- an order that is told
 pub told_line : (event : Event OrderLine) → is_told event ≡ true → (line : OrderLine) × (event ≡ Told line)

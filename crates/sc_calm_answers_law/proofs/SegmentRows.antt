@@ -1,5 +1,5 @@
 -- Each row of a calm journal finds what keeps it calm, by the chart of the rows before it, and the chart after it follows that.
-use Rattle.std.proofs.Common.{◌≡◌, ℕ, zero, suc, eqb, Bool, true, false, true≢false, cond, List, [], ◌∷◌, ◌++◌, length, replicate, Option, Some, None, ◌⊎◌, inl, inr, refl, sym, ◌∙◌, ap, subst, append_assoc, append-nil}
+use Rattle.std.proofs.Common.{◌≡◌, ℕ, zero, suc, eqb, Bool, true, false, true≢false, cond, List, [], ◌∷◌, ◌++◌, replicate, Option, ◌⊎◌, inl, inr, refl, sym, ◌∙◌, ap, subst, append_assoc, append-nil}
 use Rattle.std.proofs.lemmas.Bool.{cases_Bool, eq-eqb}
 use Rattle.sc_base.specs.Among.{Among, Each}
 use Rattle.sc_base.specs.declared.names.Draw.{Draw}
@@ -16,8 +16,7 @@ use Rattle.sc_actor.specs.Mail.{mails, copies}
 use Rattle.sc_actor.specs.Replay.{value}
 use Rattle.sc_actor.specs.System.{System, row_of}
 use Rattle.sc_actor.specs.Walk.{is_quiet}
-use Rattle.sc_node_table.specs.Replica.{ReplicaState}
-use Rattle.sc_orderly_law.specs.Orderly.{IsCalmEvent, IsCalmRow, IsInOrder, is_told, is_born, mail_with, orders, rest}
+use Rattle.sc_orderly_law.specs.Orderly.{IsCalmEvent, IsCalmRow, IsInOrder, is_told, is_born, mail_with, rest}
 use Rattle.sc_orderly_law.specs.Owing.{under_way}
 use Rattle.sc_orderly_law.specs.Timely.{AreInTime, ComesInTime}
 use Rattle.sc_orderly_law.proofs.InTime.{in_time_before, last_in_time}
@@ -26,12 +25,10 @@ use Rattle.sc_scenario.specs.Valid.{ValidScenariosAreBounded}
 use Rattle.sc_scenario.specs.declared.scenarios.Scenario.{Scenario}
 use Rattle.sc_sound.specs.Players.{Player, player_table, births, as_nodes}
 use Rattle.sc_calm_law.specs.Charts.{Chart, players, MayFollow}
-use Rattle.sc_calm_law.specs.Executing.{AreBounded}
 use Rattle.sc_calm_law.specs.Keeping.{FindsCalm, KeepsCalm}
-use Rattle.sc_calm_law.specs.Nodes.{IsDelivered}
 use Rattle.sc_calm_law.specs.Resting.{IsResting, RestsCalm}
 use Rattle.sc_calm_law.specs.Totals.{Rows}
-use Rattle.sc_calm_rows_law.specs.Turns.{IsSeat, with_event}
+use Rattle.sc_calm_rows_law.specs.Turns.{IsSeat}
 use Rattle.sc_calm_mail_law.specs.Lasting.{ReplicasLast}
 use Rattle.sc_calm_orders_law.specs.Stages.{Stage, Still, IsAt}
 use Rattle.sc_calm_orders_law.proofs.Lists.{among-left, among-right}
@@ -40,14 +37,13 @@ use Rattle.sc_budget_law.specs.PlainMail.{Requests, IsPlainBody}
 use Rattle.sc_calm_scenes_law.specs.Kept.{StageAfter}
 use Rattle.sc_calm_scenes_law.specs.Scenes.{scene_at}
 use Rattle.sc_calm_scenes_law.proofs.Turning.{calm_is}
-use Rattle.sc_calm_charts_law.specs.Charting.{all_replicas, asked_in, chart_at}
+use Rattle.sc_calm_charts_law.specs.Charting.{chart_at}
 use Rattle.sc_calm_charts_law.specs.Following.{WaitsForNone, AsksSame, ChartsFollow, QuietChartsRest}
 use Rattle.sc_calm_charts_law.specs.Fronts.{quiet_front}
 use Rattle.sc_budget_law.specs.AskingQuiet.{DoHintsRise, replicas_after}
-use Rattle.sc_calm_answers_law.specs.Answered.{CalmJournalsRest}
 use Rattle.sc_calm_answers_law.specs.Following.{OrderChartsFollow}
 use Rattle.sc_calm_answers_law.specs.Guided.{WellLedLeadAlone}
-use Rattle.sc_calm_answers_law.specs.Journal.{IsCalmJournal, IsFront, AreSent}
+use Rattle.sc_calm_answers_law.specs.Journal.{IsFront, AreSent}
 use Rattle.sc_calm_answers_law.specs.KeptAsking.{AllLeadAlone}
 use Rattle.sc_calm_answers_law.specs.KeptRising.{ChartHintsRise}
 use Rattle.sc_calm_answers_law.specs.KnownFronts.{FrontsAreFound}

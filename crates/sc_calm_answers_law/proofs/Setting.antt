@@ -1,11 +1,9 @@
 -- The setting that a quiet front gives.
-use Rattle.std.proofs.Common.{◌≡◌, ℕ, zero, suc, ◌+◌, ◌-◌, ◌≤◌, true, inl, inr, Option, List, [], ◌∷◌, ◌++◌, Some, None, refl, sym, ◌∙◌, ap, subst, arith, append-nil}
+use Rattle.std.proofs.Common.{◌≡◌, ℕ, zero, suc, ◌-◌, ◌≤◌, true, inl, inr, Option, List, [], ◌∷◌, Some, None, refl, sym, ◌∙◌, ap, subst}
 use Rattle.std.specs.Prelude.{slice_get, unwrap_or}
-use Rattle.sc_base.specs.Among.{Among, Each}
+use Rattle.sc_base.specs.Among.{Among}
 use Rattle.sc_base.specs.declared.names.Draw.{Draw}
 use Rattle.sc_cmd.specs.declared.cores.Base.{Base}
-use Rattle.sc_cmd.specs.declared.links.Route.{Route}
-use Rattle.sc_actor.specs.declared.actors.Seat.{Seat}
 use Rattle.sc_actor.specs.Walk.{is_quiet}
 use Rattle.sc_actor.proofs.WalkLemmas.{lawful-prefix}
 use Rattle.sc_base.specs.Roster.{is_member}
@@ -13,16 +11,15 @@ use Rattle.sc_node_table.specs.Replica.{ReplicaState, next, members}
 use Rattle.sc_scenario.specs.declared.scenarios.Scenario.{Scenario}
 use Rattle.sc_scenario.specs.Valid.{ValidScenariosAreBounded}
 use Rattle.sc_sound.specs.GroupsOf.{world_at}
-use Rattle.sc_sound.specs.Players.{Player, births, schedule, system_of, as_nodes, Lawful}
+use Rattle.sc_sound.specs.Players.{births, schedule, system_of, as_nodes, Lawful}
 use Rattle.sc_calm_law.specs.Charts.{players}
 use Rattle.sc_calm_law.specs.Quiet.{StandsQuiet}
 use Rattle.sc_calm_law.specs.Totals.{Rows}
-use Rattle.sc_calm_charts_law.specs.Charting.{chart_at}
 use Rattle.sc_calm_charts_law.specs.Fronts.{quiet_front}
 use Rattle.sc_calm_answers_law.proofs.Segments.{front_whole}
 use Rattle.sc_budget_law.specs.Asking.{IsAsking}
-use Rattle.sc_budget_law.specs.AskingLines.{AreRequests, NobodyWaits, AreSeated}
-use Rattle.sc_budget_law.specs.AskingQuiet.{replicas_after, setting_at, DoHintsRise, AreFramesOf, QuietJournalsAsk}
+use Rattle.sc_budget_law.specs.AskingLines.{NobodyWaits, AreSeated}
+use Rattle.sc_budget_law.specs.AskingQuiet.{replicas_after, DoHintsRise, AreFramesOf, QuietJournalsAsk}
 use Rattle.sc_budget_law.specs.AtRest.{frame_at_rest}
 use Rattle.sc_budget_law.specs.CalmAsking.{IsLinkedSetting}
 use Rattle.sc_budget_law.specs.CalmNode.{Setting, IsSetting}

@@ -1,9 +1,8 @@
 -- The chart of some rows counts as the setting does that the last quiet journal before them gives.
 use Rattle.std.proofs.Common.{◌≡◌, ℕ, zero, suc, ◌+◌, ◌≤◌, cond, true, false, true≢false, Bool, List, [], ◌∷◌, ◌++◌, ◌⊎◌, ◌-◌, length, map, take, min, Option, Some, None, inl, inr, refl, sym, ◌∙◌, ap, subst, arith}
-use Rattle.std.specs.Prelude.{find, filter, is_some, ◌&&◌, ◌||◌, not}
+use Rattle.std.specs.Prelude.{filter, is_some, ◌&&◌, ◌||◌, not}
 use Rattle.std.proofs.lemmas.Bool.{cases_Bool}
 use Rattle.std.proofs.lemmas.List.{take_all}
-use Rattle.std.proofs.lemmas.Option.{none-some}
 use Rattle.sc_base.proofs.NameLemmas.{draw_is, same_name}
 use Rattle.sc_base.specs.Among.{Among, Each}
 use Rattle.sc_base.specs.Same.{same_draw}
@@ -12,7 +11,7 @@ use Rattle.sc_cmd.specs.declared.cores.Base.{Base}
 use Rattle.sc_cmd.specs.declared.links.Route.{Route}
 use Rattle.sc_cmd.specs.declared.orders.OrderLine.{OrderLine}
 use Rattle.sc_mail.specs.declared.bodies.Mail.{Mail}
-use Rattle.sc_mail.specs.declared.roles.Role.TheVariants.{Node, Client}
+use Rattle.sc_mail.specs.declared.roles.Role.TheVariants.{Client}
 use Rattle.sc_actor.specs.declared.actors.Seat.{Seat}
 use Rattle.sc_actor.specs.declared.rows.Row.{Row}
 use Rattle.sc_actor.specs.Replay.{value}
@@ -22,23 +21,21 @@ use Rattle.sc_node_table.specs.Replica.{ReplicaState, name_of}
 use Rattle.sc_node_table.specs.Slots.{numbers_from}
 use Rattle.sc_paxos_law.proofs.Among.{Among-left}
 use Rattle.sc_paxos_words.proofs.ListLemmas.{Among-filter, Each-among, Each-from, Each-passes}
-use Rattle.sc_scenario.specs.declared.scenarios.Asks.{Asks}
 use Rattle.sc_scenario.specs.declared.scenarios.Scenario.{Scenario}
 use Rattle.sc_scenario.specs.Valid.{IsValid, ValidScenariosAreBounded}
 use Rattle.sc_sound.specs.Players.{Player, player_table, node_seat, client_seat, client_seats, route_of, as_nodes, births, Lawful}
 use Rattle.sc_calm_law.specs.Charts.{players}
 use Rattle.sc_calm_law.specs.Parties.{StandsOnce}
-use Rattle.sc_calm_law.specs.Quiet.{HasReplica, StandsQuiet, IsGoneQuiet}
-use Rattle.sc_calm_law.specs.Totals.{Rows, leads, is_leading, is_led}
+use Rattle.sc_calm_law.specs.Quiet.{HasReplica, StandsQuiet}
+use Rattle.sc_calm_law.specs.Totals.{leads, is_leading, is_led}
 use Rattle.sc_calm_charts_law.specs.Charting.{replicas_of as chart_replicas, all_replicas, went_in, ends_by, way_by, names_at, chart_at, reach_in}
 use Rattle.sc_calm_charts_law.specs.Ends.{GoInTurn, EndsFall}
 use Rattle.sc_calm_charts_law.specs.Following.{LedStandOnce}
 use Rattle.sc_calm_charts_law.specs.Fronts.{quiet_upto, quiet_front}
 use Rattle.sc_calm_charts_law.proofs.Names.{led_by}
 use Rattle.sc_budget_law.specs.AskingQuiet.{replicas_after, setting_at, AreFramesOf, IsQuietJournal}
-use Rattle.sc_budget_law.specs.AtRest.{frame_at_rest}
 use Rattle.sc_budget_law.specs.BetweenJournal.{replicas_of}
-use Rattle.sc_budget_law.specs.CalmNode.{Setting, IsHome, HasGoneTo}
+use Rattle.sc_budget_law.specs.CalmNode.{HasGoneTo}
 use Rattle.sc_budget_law.specs.Frames.{Frame}
 use Rattle.sc_budget_law.proofs.BetweenSteps.{in_numbers, to_numbers}
 use Rattle.sc_budget_law.proofs.Lists.{map_among}

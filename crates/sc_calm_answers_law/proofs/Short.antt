@@ -1,16 +1,12 @@
 -- The journals of a calm scenario at its budget have few rows: its lines deliver at most a million times each, so its budget is no more, and it gives few orders.
-use Rattle.std.proofs.Common.{◌≡◌, ℕ, zero, suc, ◌+◌, ◌*◌, ◌^◌, ◌≤◌, true, false, true≢false, Bool, cond, ◌||◌, List, [], ◌∷◌, ◌++◌, length, map, inl, inr, refl, sym, ◌∙◌, ap, subst, arith, length-append}
+use Rattle.std.proofs.Common.{◌≡◌, ℕ, zero, suc, ◌+◌, ◌*◌, ◌≤◌, true, false, true≢false, Bool, cond, ◌||◌, List, [], ◌∷◌, ◌++◌, length, map, inl, inr, refl, sym, ◌∙◌, ap, subst, arith, length-append}
 use Rattle.std.specs.List.{list_any, count_by}
 use Rattle.std.proofs.lemmas.Bool.{cases_Bool}
 use Rattle.std.proofs.lemmas.List.{length-map}
 use Rattle.std.proofs.lemmas.List.Sums.{sum_by-cons}
 use Rattle.std.proofs.Math.Nat.{mul-le-mul}
 use Rattle.sc_base.specs.Among.{Each}
-use Rattle.sc_base.specs.Limits.{most_clients}
-use Rattle.sc_actor.specs.declared.rows.Row.{Row}
 use Rattle.sc_cmd.specs.declared.cores.Base.{Base}
-use Rattle.sc_mail.specs.declared.bodies.Mail.{Mail}
-use Rattle.sc_cmd.specs.declared.orders.OrderLine.{OrderLine}
 use Rattle.sc_node_table.specs.Slots.{numbers_from}
 use Rattle.sc_orderly_law.specs.Timely.{Nothing}
 use Rattle.sc_orderly_law.proofs.Counting.{rows_of_all, goes_in_time}
@@ -22,12 +18,11 @@ use Rattle.sc_scenario.specs.declared.scenarios.Asks.{Asks}
 use Rattle.sc_scenario.specs.declared.scenarios.Scenario.{Scenario}
 use Rattle.sc_scenario.specs.declared.scenarios.SchedLine.{SchedLine}
 use Rattle.sc_scenario.specs.declared.scenarios.SchedLine.TheVariants.{Go, Deliver, Drop, Again, Tick, Crash, Told, Settle, Free, Storm}
-use Rattle.sc_sound.specs.Players.{births, client_seats, client_seat, node_seat, route_of, schedule, as_nodes, system_of}
+use Rattle.sc_sound.specs.Players.{client_seats, client_seat, node_seat, route_of, schedule, as_nodes, system_of}
 use Rattle.sc_whole_law.proofs.Seats.{all_apart}
 use Rattle.sc_budget_law.specs.Budget.{delivers}
 use Rattle.sc_budget_law.specs.Calm.{gives_order, orders_of, calm_budget_of, AllowsCalmly, CalmLinesAreSpaced}
 use Rattle.sc_budget_law.proofs.AtBirth.{few_clients}
-use Rattle.sc_calm_answers_law.specs.Lines.{calm_deliveries_of}
 use Rattle.sc_calm_answers_law.specs.Short.{CalmJournalsAreShort}
 use Rattle.sc_calm_answers_law.proofs.Lines.{orders_same}
 

@@ -1,5 +1,5 @@
 -- What a quiet group is does not depend on how its replicas are seen.
-use Rattle.std.proofs.Common.{◌≡◌, ℕ, Option, Some, sym, ◌∙◌}
+use Rattle.std.proofs.Common.{◌≡◌, ℕ, Some, sym, ◌∙◌}
 use Rattle.sc_base.specs.declared.names.Draw.{Draw}
 use Rattle.sc_node_table.specs.Replica.{ReplicaState}
 use Rattle.sc_calm_law.specs.Quiet.{View, HasReplica, IsNewest, IsLinked, StandsQuiet, IsGoneQuiet}

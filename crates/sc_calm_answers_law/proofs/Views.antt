@@ -1,10 +1,9 @@
 -- The replicas of players are those of the nodes.
-use Rattle.std.proofs.Common.{◌≡◌, ℕ, suc, ◌+◌, ◌<◌, ◌≤◌, eqb, cond, true, false, true≢false, Bool, List, [], ◌∷◌, ◌++◌, find, map, Option, Some, None, inl, inr, refl, sym, ◌∙◌, ap, subst, arith}
-use Rattle.std.proofs.lemmas.Bool.{cases_Bool, eqb-true}
+use Rattle.std.proofs.Common.{◌≡◌, ℕ, ◌≤◌, eqb, cond, true, false, Bool, List, [], ◌∷◌, ◌++◌, find, map, Option, Some, None, inl, inr, refl, sym, ◌∙◌, ap, subst, arith}
+use Rattle.std.proofs.lemmas.Bool.{eqb-true}
 use Rattle.std.proofs.lemmas.Option.{none-some}
 use Rattle.sc_base.specs.Among.{Among}
 use Rattle.sc_base.specs.declared.names.Draw.{Draw}
-use Rattle.sc_cmd.specs.declared.cores.Base.{Base}
 use Rattle.sc_mail.specs.declared.roles.Role.TheVariants.{Node, Client}
 use Rattle.sc_base.specs.Limits.{client_actor}
 use Rattle.sc_cmd.specs.declared.orders.OrderLine.{OrderLine}
@@ -17,13 +16,13 @@ use Rattle.sc_client_table.specs.Table.{table}
 use Rattle.sc_orderly_law.proofs.Seats.{seat_found}
 use Rattle.sc_paxos_law.proofs.Among.{Among-either}
 use Rattle.sc_paxos_words.proofs.ListLemmas.{find_found}
-use Rattle.sc_node_table.specs.Node.{NodeState, is_node, replica_of, born_node}
+use Rattle.sc_node_table.specs.Node.{NodeState, replica_of, born_node}
 use Rattle.sc_node_table.specs.Replica.{ReplicaState}
 use Rattle.sc_node_table.specs.Slots.{numbers_from}
 use Rattle.sc_scenario.specs.declared.scenarios.Asks.{Asks}
 use Rattle.sc_scenario.specs.declared.scenarios.Scenario.{Scenario}
 use Rattle.sc_scenario.specs.Valid.{IsBounded}
-use Rattle.sc_sound.specs.Players.{Player, player_table, node_seat, client_seat, client_seats, route_of, births, as_nodes}
+use Rattle.sc_sound.specs.Players.{Player, player_table, node_seat, client_seat, route_of, births, as_nodes}
 use Rattle.sc_whole_law.proofs.Seats.{all_apart}
 use Rattle.sc_calm_law.specs.Totals.{Rows}
 use Rattle.sc_calm_rows_law.specs.Groups.{replicas_of, replica_in, view_at}
@@ -31,7 +30,7 @@ use Rattle.sc_calm_charts_law.specs.Charting.{replicas_of as chart_replicas, rep
 use Rattle.sc_budget_law.specs.AskingQuiet.{replicas_after}
 use Rattle.sc_budget_law.specs.BetweenJournal.{replicas_of as node_replicas}
 use Rattle.sc_budget_law.proofs.BetweenStage.{IsStage, stage}
-use Rattle.sc_budget_law.proofs.BetweenSteps.{in_numbers, to_numbers, node_born, node_number}
+use Rattle.sc_budget_law.proofs.BetweenSteps.{in_numbers, node_born, node_number}
 use Rattle.sc_calm_answers_law.specs.Settings.{AreAtNodes}
 use Rattle.sc_calm_answers_law.proofs.KeptSeen.{from_map}
 use Rattle.sc_calm_answers_law.specs.Viewing.{ViewsAgree}

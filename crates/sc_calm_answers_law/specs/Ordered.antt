@@ -1,5 +1,5 @@
 -- All that holds while an order is under way since a quiet front of a calm journal, and that each delivery keeps it.
-use Rattle.std.specs.Prelude.{◌≡◌, ℕ, ◌+◌, true, [], ◌++◌, Option, Some}
+use Rattle.std.specs.Prelude.{◌≡◌, ℕ, ◌+◌, true, ◌++◌, Some}
 use Rattle.sc_base.specs.Among.{Among, Each}
 use Rattle.sc_base.specs.declared.names.Draw.{Draw}
 use Rattle.sc_cmd.specs.declared.cores.Base.{Base}

@@ -30,7 +30,6 @@ use Rattle.sc_node_table.specs.Node.{NodeState}
 use Rattle.sc_node_table.specs.Replica.{ReplicaState}
 use Rattle.sc_node_table.specs.Spoken.{before_of}
 use Rattle.sc_sound.specs.Players.{Player}
-use Rattle.sc_cmd.specs.declared.votes.Past.TheVariants as Cast
 use Rattle.sc_cmd.specs.declared.votes.Vote.TheVariants as Says
 
 -- nothing but work is in flight or ready at a replica: neither calls nor fillers

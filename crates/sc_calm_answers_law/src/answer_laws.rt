@@ -1,5 +1,5 @@
-//! That calm scenarios are answered within their budget, as far as it is proved: what is known of
-//! single rows and of journals, put together. Definitions and laws, no logic.
+//! What the budget of a calm scenario covers, and where its lines of deliveries end quiet: what is
+//! known of births, lines and orders, put together. Definitions and laws, no logic.
 ghost use Rattle.sc_calm_answers_law.specs.Begins.{QuietJournalsBegin};
 ghost use Rattle.sc_calm_answers_law.specs.Covered.{BirthsAreCovered};
 ghost use Rattle.sc_calm_answers_law.specs.Given.{OrdersMayBeGiven};

@@ -4,6 +4,7 @@ use sc_budget_law::{
     made_scenarios_are_at_budget, plain_journals_are_answered, plain_journals_are_light,
     plain_lines_end_quiet,
 };
+use sc_calm_answers_law::{calm_lines_settle, calm_requests_are_answered};
 use sc_group_law::{a_journal_with_a_join, a_journal_with_an_election};
 use sc_hist_law::{
     an_example_of_entries, an_example_of_moves, entries_that_move_tell_a_legal_history,
@@ -148,4 +149,10 @@ fn the_laws_of_plain_scenarios_are_called() {
     plain_journals_are_answered();
     plain_journals_are_light();
     made_scenarios_are_at_budget();
+}
+
+#[test]
+fn the_laws_of_calm_scenarios_are_called() {
+    calm_lines_settle();
+    calm_requests_are_answered();
 }
