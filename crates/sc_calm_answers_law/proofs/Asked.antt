@@ -62,11 +62,9 @@ use Rattle.sc_calm_answers_law.proofs.Above.{MovesLast, top_of, tops_after, own_
 use Rattle.sc_calm_answers_law.proofs.Accepting.{IsPlainMail, RestsAt, mail_rests, order_rests, made_rests, asked_stands, polled_stands, nacked_stands}
 use Rattle.sc_calm_answers_law.proofs.Comers.{HasAct, GoesFrom, votes_go}
 use Rattle.sc_calm_answers_law.proofs.Turned.{TurnsMail, IsTurn, TurnRests, TurnBears, TurnTakes, TurnMakes, TurnTold, turn_of}
+use Rattle.std.proofs.lemmas.Option.{same_Some}
 
-some_is : {X : Type 0} (x y : X) → Some x ≡ Some y → x ≡ y
-some_is x y e = cc
-
-some_none : {X : Type 0} (x : X) (o : Option X) → o ≡ Some x → o ≡ None → ⊥
+pub some_none : {X : Type 0} (x : X) (o : Option X) → o ≡ Some x → o ≡ None → ⊥
 some_none x o e f = (let bad : Some x ≡ None = sym e ∙ f in cc)
 
 module _ (words : ℕ → ℕ → ℕ × ℕ) (at : Sets) (over : Ends) (by : Tellers) (scenario : Scenario) (rows : Rows) (seat : Seat Player) (event : Event OrderLine) (base : Base) (course : Course) (idle : JournalsKeepIdle) (wb : AreWellBorn (births as_nodes scenario))
@@ -128,7 +126,7 @@ module _ (words : ℕ → ℕ → ℕ × ℕ) (at : Sets) (over : Ends) (by : Te
 
     -- its body, with the group's name
     pub own_name : (g : Draw) → group_of_mail mail.body ≡ Some g → g ≡ base.core.id
-    own_name g e = some_is g name (sym e ∙ t.group)
+    own_name g e = same_Some g name (sym e ∙ t.group)
 
     pub marked : (mark : Mark) → mark_of base.core.id mail.from mail.body ≡ Some mark → taken_mark name (mails rows) event ≡ Some mark
     marked mark e = ap (taken_mark name (mails rows)) t.event_is ∙ (ap (mark_in name) t.takes.sent ∙ e)
@@ -234,16 +232,16 @@ module _ (words : ℕ → ℕ → ℕ × ℕ) (at : Sets) (over : Ends) (by : Te
 
     moves_to : (q p : ReplicaState) → view_at all rows base.core.id seat.who ≡ Some q → view_at all (with_event rows seat event) base.core.id seat.who ≡ Some p → MovesTo q p → MovesTo r after.0
     moves_to q p view viewed m =
-        subst (λ x. MovesTo x after.0) (some_is q r (sym view ∙ row_.was)) (subst (λ x. MovesTo q x) (some_is p after.0 (sym viewed ∙ row_.is)) m)
+        subst (λ x. MovesTo x after.0) (same_Some q r (sym view ∙ row_.was)) (subst (λ x. MovesTo q x) (same_Some p after.0 (sym viewed ∙ row_.is)) m)
 
     runs_too : (q : ReplicaState) → view_at all rows base.core.id seat.who ≡ Some q → q.running ≡ true
-    runs_too q view = subst (λ (x : ReplicaState). x.running ≡ true) (some_is r q (sym row_.was ∙ view)) runs
+    runs_too q view = subst (λ (x : ReplicaState). x.running ≡ true) (same_Some r q (sym row_.was ∙ view)) runs
 
     pub leader_moves : MovesTo r after.0
     leader_moves = by_turn turn
       where
         by_turn : IsTurn at by words all rows seat event base → MovesTo r after.0
-        by_turn (TurnRests same none) = inl (ap next (some_is after.0 r (sym row_.is ∙ (same ∙ row_.was))))
+        by_turn (TurnRests same none) = inl (ap next (same_Some after.0 r (sym row_.is ∙ (same ∙ row_.was))))
         by_turn (TurnBears none made) = absurd (some_none r (view_at all rows base.core.id seat.who) row_.was none)
         by_turn (TurnMakes from slot state sets t) = absurd (some_none r (view_at all rows base.core.id seat.who) row_.was t.was)
         by_turn (TurnTakes number mail node q t) =
@@ -314,7 +312,7 @@ module _ (words : ℕ → ℕ → ℕ × ℕ) (at : Sets) (over : Ends) (by : Te
     own_rests q viewed = by_turn turn
       where
         to : (p : ReplicaState) → view_at all (with_event rows seat event) base.core.id seat.who ≡ Some p → RestsAt Below_ p → RestsAt Below_ q
-        to p view rests = subst (λ x. RestsAt Below_ x) (some_is p q (sym view ∙ viewed)) rests
+        to p view rests = subst (λ x. RestsAt Below_ x) (same_Some p q (sym view ∙ viewed)) rests
 
         by_turn : IsTurn at by words all rows seat event base → RestsAt Below_ q
         by_turn (TurnRests same none) = raised q (sym same ∙ viewed)

@@ -55,6 +55,7 @@ use Rattle.sc_calm_groups_law.specs.Led.{Ends, IsWellLed}
 use Rattle.sc_calm_groups_law.specs.Through.{IsWellPlayer, AreWellBorn, IsRowOf, Delivers, HasOneLog, IsSentSo}
 use Rattle.sc_calm_groups_law.proofs.Executing.{asides_stay, orders_stay, promises_stay}
 use Rattle.sc_calm_answers_law.specs.Bearing.{IsBirth, EntriesBearChildren}
+use Rattle.sc_calm_answers_law.proofs.Playing.{plays_of}
 
 -- ---- children of a node
 
@@ -104,11 +105,6 @@ told_body name from slot (TxElsewhere tx coord hint) e = absurd (none-some (Tell
 told_body name from slot (TxWatch tx watch) e = absurd (none-some (Tells slot) e)
 told_body name from slot (TxWatched tx coord part vote) e = absurd (none-some (Tells slot) e)
 told_body name from slot (ToldMail order result) e = absurd (none-some (Tells slot) e)
-
--- a player that is born well, as what is said of it later
-plays_of : (who : ℕ) (player : Player) → IsWellPlayer who player → Plays who player
-plays_of who (Node node) k = (k.0, subst (λ m. Each (IsWellKept m) node.replicas) k.0 k.1)
-plays_of who (Client client) k = tt
 
 past_next : (low slot high : ℕ) → low ≤ slot → slot < high → high ≡ low → ⊥
 past_next low slot high least most same = omega (arith, least, most, same)

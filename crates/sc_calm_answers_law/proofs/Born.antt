@@ -61,7 +61,7 @@ use Rattle.sc_calm_rows_law.specs.Turns.{IsSeat, made_children, AreAsBegun}
 use Rattle.sc_calm_logs_law.proofs.Journals.{whole, front}
 
 -- the child of an entry is one of its log's
-child_in : (group : Group) (front : List Command) (c : Command) (child : Base) → birth_of (state_after group front) c (applied (state_after group front) c).1 ≡ Some child → Among child (children_of group (front ++ c ∷ []))
+pub child_in : (group : Group) (front : List Command) (c : Command) (child : Base) → birth_of (state_after group front) c (applied (state_after group front) c).1 ≡ Some child → Among child (children_of group (front ++ c ∷ []))
 child_in group [] c child e = Among-left child (option_to_list (birth_of group c (applied group c).1)) [] (subst (λ o. Among child (option_to_list o)) (sym e) (inl refl))
 child_in group (d ∷ front) c child e =
     Among-right child (option_to_list (birth_of group d (applied group d).1)) (children_of (applied group d).0 (front ++ c ∷ [])) (child_in (applied group d).0 front c child e)

@@ -14,6 +14,7 @@ use Rattle.sc_calm_rows_law.specs.Groups.{view_at}
 use Rattle.sc_calm_rows_law.proofs.Beginning.{view_born}
 use Rattle.sc_calm_answers_law.specs.Tellers.{GroupsAreBornOrNot}
 use Rattle.sc_calm_answers_law.specs.SentJournals.{AreBornAsBegun, GroupsAreBornAsBegun, FirstGroupsAreNeverYoung}
+use Rattle.sc_ring_law.proofs.Finds.{some_none}
 
 one_or_none : {X : Type 0} (b : Bool) (x : X) (o : Option X) → o ≡ cond b (Some x) None → (o ≡ None) ⊎ ((o ≡ Some x) × (b ≡ true))
 one_or_none true x o e = inr (e, refl)
@@ -27,9 +28,6 @@ groups_born bounded born words scenario journal base group = elim (born words sc
   | inl own ↦ scenarios_born scenario base (bounded scenario group.valid) own
   | inr unborn ↦ λ who. inl (unborn who)
 ]
-
-some_none : {X : Type 0} (x : X) → Some x ≡ None → ⊥
-some_none x e = cc
 
 pub never_young : ReplicasLast → FirstGroupsAreNeverYoung
 never_young last words scenario rows base bounded a timely who member none =

@@ -20,7 +20,7 @@ use Rattle.sc_node_table.specs.Node.{NodeState, replica_of}
 use Rattle.sc_node_table.specs.Replica.{ReplicaState, Executed, born_replica}
 use Rattle.sc_node_table.specs.Rows.{mailed}
 use Rattle.sc_node_table.specs.Slots.{slots_ahead}
-use Rattle.sc_paxos_words.proofs.ListLemmas.{Each-among}
+use Rattle.sc_paxos_words.proofs.ListLemmas.{Each-among, Each-from}
 use Rattle.sc_sound.specs.GroupsOf.{groups_at}
 use Rattle.sc_sound.specs.Logs.{decided_log}
 use Rattle.sc_sound.specs.Players.{Player, births, as_nodes}
@@ -43,16 +43,8 @@ use Rattle.sc_calm_answers_law.specs.Borne.{AreBorneSo, IsWorkingRow}
 use Rattle.sc_calm_answers_law.proofs.Lineage.{log_stays, kids_known}
 use Rattle.sc_calm_answers_law.proofs.Logs.{IsStateless, mailed_goes}
 use Rattle.sc_calm_answers_law.proofs.YoungStands.{OfJournals, born_by, state_of}
-
-none_some : {X : Type 0} {x : X} → None ≡ Some x → ⊥
-none_some e = cc
-
-some_is : {X : Type 0} (x y : X) → Some x ≡ Some y → x ≡ y
-some_is x y e = cc
-
-each_of : {X : Type 0} (P : X → Type 0) (xs : List X) → ((x : X) → Among x xs → P x) → Each P xs
-each_of P [] p = tt
-each_of P (x ∷ xs) p = (p x (inl refl), each_of P xs (λ y a. p y (inr a)))
+use Rattle.std.proofs.lemmas.Option.{same_Some}
+use Rattle.sc_calm_rows_law.proofs.Beginning.{none_some}
 
 -- a mail by which children are made brings no state
 pub has_stateless : (from : ℕ) (body : MailBody) (r : ReplicaState) (kid : Base) → Among kid (mailed from body (r, [])).1 → IsStateless body
@@ -150,13 +142,13 @@ module _ (laws : OfJournals) (begun : ChildrenAreBegun) (keeps : DeliveriesKeepW
 
     unbound : (n : ℕ) (x : ReplicaState) → view_at all rows kid.core.id n ≡ Some x → (view_at all rows kid.core.id n ≡ None) ⊎ (view_at all rows kid.core.id n ≡ Some (born_replica slots_ahead n kid)) → bond_of x.group.core ≡ Unbound
     unbound n x v (inl none) = absurd (none_some (sym none ∙ v))
-    unbound n x v (inr is) = ap (λ (y : ReplicaState). bond_of y.group.core) (some_is x (born_replica slots_ahead n kid) (sym v ∙ is)) ∙ free_bond kid b.free
+    unbound n x v (inr is) = ap (λ (y : ReplicaState). bond_of y.group.core) (same_Some x (born_replica slots_ahead n kid) (sym v ∙ is)) ∙ free_bond kid b.free
 
     none_here : (o : Option ReplicaState) → view_at all rows kid.core.id seat.who ≡ o → o ≡ None
     none_here None v = refl
     none_here (Some x) v =
         let k = prior.known b.splits kid kid_stands.0 b.name seat.who x (ap (λ n. view_at all rows n seat.who) (sym b.name) ∙ v) in
-        let same : k.0 ≡ r = some_is k.0 r (sym k.1 ∙ (ap (λ n. view_at all rows n seat.who) (sym b.own) ∙ view_before)) in
+        let same : k.0 ≡ r = same_Some k.0 r (sym k.1 ∙ (ap (λ n. view_at all rows n seat.who) (sym b.own) ∙ view_before)) in
         absurd (b.new (subst (λ n. HasBorn n r.group.core.born) (sym b.name) (subst (λ (y : ReplicaState). HasBorn task.name y.group.core.born) same k.2)))
 
     kid_young : IsYoung words all rows seat kid
@@ -174,4 +166,4 @@ module _ (laws : OfJournals) (begun : ChildrenAreBegun) (keeps : DeliveriesKeepW
         }
 
   pub are_young : Each (IsYoung words all rows seat) made.1
-  are_young = each_of (IsYoung words all rows seat) made.1 kid_young
+  are_young = Each-from (IsYoung words all rows seat) made.1 kid_young

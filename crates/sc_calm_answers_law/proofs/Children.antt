@@ -29,7 +29,7 @@ use Rattle.sc_calm_answers_law.specs.Works.{DeliveriesKeepWork}
 use Rattle.sc_calm_answers_law.specs.Children.{GroupsAreQuietWhileYoung, ChildrenWereNowhere}
 use Rattle.sc_calm_answers_law.proofs.Staying.{IsNoneFor}
 
-none_some : {X P : Type 0} {x : X} → None ≡ Some x → P
+pub none_some : {X P : Type 0} {x : X} → None ≡ Some x → P
 none_some e = absurd (let bad : None ≡ Some _ = e in cc)
 
 -- ---- a group is there, or nowhere
@@ -69,7 +69,7 @@ named_none name group mark ne = elim (cases_Bool (same_draw group name)) [
   | inr f ↦ ap (λ b. cond b (Some mark) None) f
 ]
 
-unmarked : (name : Draw) (from : ℕ) (body : MailBody) → (group_of_mail body ≡ Some name → ⊥) → mark_of name from body ≡ None
+pub unmarked : (name : Draw) (from : ℕ) (body : MailBody) → (group_of_mail body ≡ Some name → ⊥) → mark_of name from body ≡ None
 unmarked name from (Accept group ballot slot command) ne = named_none name group _ ne
 unmarked name from (Accepted group ballot slot) ne = named_none name group _ ne
 unmarked name from (Learn group slot command) ne = named_none name group _ ne

@@ -35,22 +35,9 @@ use Rattle.sc_following_law.proofs.Leading.{none_taken}
 use Rattle.sc_following_law.proofs.Offers.{pumps_offer}
 use Rattle.sc_following_law.proofs.Voted.{vote_row}
 use Rattle.sc_calm_answers_law.proofs.Above.{MovesLast}
+use Rattle.sc_calm_answers_law.proofs.Cores.{called_core, numbered_core, served_core}
 
 -- ---- calls and fillers leave a group's core as it is
-
-note_core : (o : Option Noted) (group : Group) (client seq : ℕ) (op : Op) → (served_by_note o group client seq op).0.core ≡ group.core
-note_core None group client seq op = refl
-note_core (Some noted) group client seq op = cond_both (ltb noted.seq seq) _ _ (λ (s : Group × Effect). s.0.core ≡ group.core) (λ _. refl) (λ _. cond_both (eqb noted.seq seq) _ _ (λ (s : Group × Effect). s.0.core ≡ group.core) (λ _. refl) (λ _. refl))
-
-served_core : (group : Group) (client seq : ℕ) (op : Op) → (served group client seq op).0.core ≡ group.core
-served_core group client seq op = cond_both (holds_key group.core.arc (key_of op)) _ _ (λ (s : Group × Effect). s.0.core ≡ group.core) (λ _. note_core (get group.clients client) group client seq op) (λ _. refl)
-
-called_core : (gone : Option Route) (lock : Lock) (group : Group) (client seq : ℕ) (op : Op) → (called gone lock group client seq op).0.core ≡ group.core
-called_core (Some into) lock group client seq op = refl
-called_core None Free group client seq op = served_core group client seq op
-called_core None (Watching tx watch) group client seq op = served_core group client seq op
-called_core None (Coordinating tx body order heard) group client seq op = refl
-called_core None (Promised tx offer) group client seq op = refl
 
 entered_core : (command : Command) (r : ReplicaState) → (entered command r).group.core ≡ (applied r.group command).0.core
 unfolding entered forgotten

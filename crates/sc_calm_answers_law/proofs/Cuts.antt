@@ -62,7 +62,7 @@ key_there : (p : ℕ) → p < 2 ^ 32 → pos_of (key_at p) ≡ p
 key_there p low = omega arith
 
 -- an arc holds its first position
-first_held : (arc : Arc) → IsArc arc × (arc.lo < 2 ^ 32) → IsTrue (holds arc arc.lo)
+pub first_held : (arc : Arc) → IsArc arc × (arc.lo < 2 ^ 32) → IsTrue (holds arc arc.lo)
 first_held arc is = lt-ltb (offset arc arc.lo) arc.len (near arc.lo arc.len is.1 is.0.some)
   where
     near : (lo len : ℕ) → lo < 2 ^ 32 → 1 ≤ len → ((lo + 2 ^ 32) - lo) % 2 ^ 32 < len

@@ -41,7 +41,7 @@ other name from (TxWatch tx watch) e = refl
 other name from (TxWatched tx coord part vote) e = refl
 other name from (Told order result) e = refl
 
-none_first : (o : Option Mark) (marks : List Mark) → listed o ++ marks ≡ [] → (o ≡ None) × (marks ≡ [])
+pub none_first : (o : Option Mark) (marks : List Mark) → listed o ++ marks ≡ [] → (o ≡ None) × (marks ≡ [])
 none_first None marks e = (refl, e)
 none_first (Some m) marks e = cc
 

@@ -27,12 +27,9 @@ use Rattle.sc_calm_scenes_law.specs.Scenes.{is_running, scene_at, work_at, works
 use Rattle.sc_calm_scenes_law.proofs.Newest.{lead_runs}
 use Rattle.sc_calm_answers_law.specs.Deeds.{AreDeeds, BeginsSo, Deed, Doer, FlightsBeginSo, HasDone, HasStepped, Rested, Executed, Hearing, IsDeed, Opening, Promising, Voting, closing_doer, doer, doers_of, heard_doer, opened, voted}
 use Rattle.sc_calm_answers_law.proofs.Stepping.{Comes, goes_on}
+use Rattle.sc_machine_table.proofs.LogLemmas.{state_push}
 
 -- ---- entries
-
-state_push : (group : Group) (entries : List Command) (command : Command) → state_after group (entries ++ command ∷ []) ≡ (applied (state_after group entries) command).0
-state_push group [] command = refl
-state_push group (entry ∷ entries) command = state_push (applied group entry).0 entries command
 
 deeds_push : (deeds : List Deed) (entries : List Command) (deed : Deed) (command : Command) → AreDeeds deeds entries → IsDeed deed command → AreDeeds (deeds ++ deed ∷ []) (entries ++ command ∷ [])
 deeds_push [] [] deed command are is = (is, tt)
@@ -58,10 +55,10 @@ module _ (births : List (Seat Player)) (rows : Rows) (name : Draw) (host : ℕ) 
   pub lead_works : works r ≡ ((scene_at births rows).at name).work
   lead_works = sym (ap (work_at (view_at births rows name)) leads ∙ ap works_of has)
 
-one_not_none : (work : Work) (xs : List Work) → xs ≡ work ∷ [] → xs ≡ [] → ⊥
+pub one_not_none : (work : Work) (xs : List Work) → xs ≡ work ∷ [] → xs ≡ [] → ⊥
 one_not_none work xs e none = cc
 
-same_one : (one other : Work) → one ∷ [] ≡ other ∷ [] → one ≡ other
+pub same_one : (one other : Work) → one ∷ [] ≡ other ∷ [] → one ≡ other
 same_one one other e = cc
 
 module _ (words : ℕ → ℕ → ℕ × ℕ) (births : List (Seat Player)) (quiet rows : Rows) (seat : Seat Player) (number : ℕ) (born : IsSeat births seat) (timely : AreInTime (players words births) (with_event rows seat (Deliver number)))

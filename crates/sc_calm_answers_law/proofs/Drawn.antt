@@ -38,7 +38,7 @@ use Rattle.sc_calm_scenes_law.specs.Fresh.{IsNowhere}
 
 -- ---- the groups of a scenario have no name that nodes draw
 
-undrawn_to : (lines : List GroupLine) (count : ℕ) → Each BeginsUndrawn (bases_up_to lines count)
+pub undrawn_to : (lines : List GroupLine) (count : ℕ) → Each BeginsUndrawn (bases_up_to lines count)
 undrawn_to lines zero = tt
 undrawn_to lines (suc k) =
     Each-append BeginsUndrawn (bases_up_to lines k) (base_at lines k ∷ []) (undrawn_to lines k)

@@ -37,7 +37,7 @@ use Rattle.sc_calm_answers_law.proofs.EndGroups as end_of_line
 use Rattle.sc_calm_answers_law.proofs.EndStands as ends
 use Rattle.sc_calm_answers_law.proofs.LinesServe.{HaveServed}
 
-few_of : (sets : List (List ℕ)) → Each IsOfNodes sets → AreNines sets
+pub few_of : (sets : List (List ℕ)) → Each IsOfNodes sets → AreNines sets
 few_of [] e = tt
 few_of (set ∷ sets) e = (e.0.roster.most, few_of sets e.1)
 

@@ -36,10 +36,7 @@ use Rattle.sc_budget_law.proofs.Lists.{some_is}
 use Rattle.sc_calm_answers_law.specs.QuietLines.{HaveOneLog}
 use Rattle.sc_calm_answers_law.proofs.EndGroups as end_of_line
 use Rattle.sc_calm_answers_law.proofs.LinesServe.{HasServed, HaveServed}
-
-each_of : {X : Type 0} (P : X → Type 0) (xs : List X) → ((x : X) → Among x xs → P x) → Each P xs
-each_of P [] f = tt
-each_of P (x ∷ xs) f = (f x (inl refl), each_of P xs (λ y a. f y (inr a)))
+use Rattle.sc_paxos_words.proofs.ListLemmas.{Each-from}
 
 from_map : {X Y : Type 0} (f : X → Y) (xs : List X) (y : Y) → Among y (map f xs) → (x : X) × (f x ≡ y)
 from_map f [] y a = absurd a
@@ -195,7 +192,7 @@ module _ (words : ℕ → ℕ → ℕ × ℕ) (scenario : Scenario) (begins : Is
             | inl same ↦ ap (below stands.lead.leader.ballot) same ∙ low.top
             | inr new ↦ ap (below stands.lead.leader.ballot) new.0 ∙ at_least_itself stands.lead.leader.ballot
           ]);
-          accepted = each_of (λ (report : Report Command). report.slot < next lead) r.acceptor.accepted (λ report m. under report (w.is_served.accepted report m lead g.taken lead_id taken_slots));
+          accepted = Each-from (λ (report : Report Command). report.slot < next lead) r.acceptor.accepted (λ report m. under report (w.is_served.accepted report m lead g.taken lead_id taken_slots));
         }
       where
         under : (report : Report Command) → report.slot < next lead + g.taken → report.slot < next lead

@@ -59,7 +59,7 @@ use Rattle.sc_calm_answers_law.specs.OrderedEntries.{FlightsAreEntries}
 
 -- ---- members
 
-or_map : (b c d : Bool) → (c ≡ true → d ≡ true) → (b || c) ≡ true → (b || d) ≡ true
+pub or_map : (b c d : Bool) → (c ≡ true → d ≡ true) → (b || c) ≡ true → (b || d) ≡ true
 or_map true c d f e = refl
 or_map false c d f e = f e
 

@@ -50,6 +50,7 @@ use Rattle.sc_calm_answers_law.proofs.Opened.{ByOffer, ByWatch, IsBoundBy}
 use Rattle.sc_calm_answers_law.proofs.Parties.{bound, lead_bond}
 use Rattle.sc_calm_answers_law.proofs.Ring.{keys_of}
 use Rattle.sc_calm_answers_law.proofs.Since.{base_of, flights_at, free_first, led_first, locks_at}
+use Rattle.std.proofs.lemmas.Option.{same_Some}
 
 -- ---- the entry
 
@@ -63,12 +64,6 @@ participant_takes group tx outcome offer after lock e =
 watcher_takes : (group : Group) (tx : Draw) (outcome : Outcome) (watch : Watch) → group.core.lock ≡ Watching tx watch → Decides (applied group (Finish tx outcome))
 watcher_takes group tx outcome watch lock =
     subst Decides (sym (ap (λ l. finished l group tx outcome) lock ∙ cond-true (same_draw tx tx) (watch_ended outcome group tx watch) (group, NoEffect tx) (same_name tx tx refl))) (outcome, refl)
-
-some_one : (x y : ReplicaState) → Some x ≡ Some y → x ≡ y
-some_one x y e = cc
-
-some_nat : (x y : ℕ) → Some x ≡ Some y → x ≡ y
-some_nat x y e = cc
 
 same_end : (t tx : Draw) → Ends t ≡ Ends tx → t ≡ tx
 same_end t tx e = cc
@@ -130,10 +125,10 @@ module _ (tells : ReplicasTell) (sound : ValidJournalsAreSound) (logs : ValidEnt
     its_bond = ap (λ (h : Here). h.bond) (Each-among (λ (x : Draw × Here). (scene_at all rows).at x.0 ≡ x.1) (parties_of stage) (name, ending.here) l.untouched.stands.parties.0 ending.party) ∙ ending.bound
 
     host_is : ending.host ≡ node
-    host_is = some_nat ending.host node (sym lead ∙ (tell.led all rows name node r l.leads).0)
+    host_is = same_Some ending.host node (sym lead ∙ (tell.led all rows name node r l.leads).0)
 
     now_is : d.now ≡ r
-    now_is = some_one d.now r (sym d.is ∙ (ap (λ h. view_at all rows name h) host_is ∙ l.leads.is_there))
+    now_is = same_Some d.now r (sym d.is ∙ (ap (λ h. view_at all rows name h) host_is ∙ l.leads.is_there))
 
     free : d.first.group.core.lock ≡ Free
     free = free_first tells words scenario first journal quiet rows l.front.more l.front.is l.calm l.rests l.seen (doer name ending.host (Voting tx ∷ [])) d

@@ -37,7 +37,7 @@ use Rattle.sc_calm_answers_law.proofs.Questions.{elsewhere_stage, errand_there}
 
 -- ---- mail that is under way is left
 
-split_among : {X : Type 0} (xs ys : List X) (x : X) → Among x (xs ++ ys) → Among x xs ⊎ Among x ys
+pub split_among : {X : Type 0} (xs ys : List X) (x : X) → Among x (xs ++ ys) → Among x xs ⊎ Among x ys
 split_among [] ys x a = inr a
 split_among (z ∷ xs) ys x (inl e) = inl (inl e)
 split_among (z ∷ xs) ys x (inr a) = elim (split_among xs ys x a) [ inl l ↦ inl (inr l) | inr r ↦ inr r ]

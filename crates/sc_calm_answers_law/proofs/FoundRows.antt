@@ -44,27 +44,14 @@ use Rattle.sc_node_table.specs.Replica.{ReplicaState}
 use Rattle.sc_node_table.specs.Rows.{mailed}
 use Rattle.sc_orderly_law.proofs.InTime.{in_time_before}
 use Rattle.sc_orderly_law.specs.Timely.{AreInTime}
-use Rattle.sc_paxos_words.proofs.ListLemmas.{Each-among}
+use Rattle.sc_paxos_words.proofs.ListLemmas.{Each-among, Each-weaker}
 use Rattle.sc_scenario.specs.declared.scenarios.Scenario.{Scenario}
 use Rattle.sc_sound.specs.Players.{Player, as_nodes, births, player_table}
 use Rattle.std.proofs.Common.{zero, suc}
 use Rattle.sc_mail.specs.declared.roles.Role.TheVariants.{Node, Client}
 use Rattle.sc_calm_groups_law.proofs.TopNodes.{Plays as TopPlays, replay_well as tops_replay}
-
--- a mail that has a number was sent
-among_place : {X : Type 0} (xs : List X) (place : ℕ) (x : X) → slice_get xs place ≡ Some x → Among x xs
-among_place [] place x e = cc
-among_place (y ∷ xs) zero x e = inl (let both : Some y ≡ Some x = e in cc)
-among_place (y ∷ xs) (suc place) x e = inr (among_place xs place x e)
-
-number_among : (sent : List Mail) (number : ℕ) (mail : Mail) → numbered sent number ≡ Some mail → Among mail sent
-number_among sent zero mail e = cc
-number_among sent (suc place) mail e = among_place sent place mail e
-
--- each of some is so, if it follows for each
-each_so : {X : Type 0} (P Q : X → Type 0) → ((x : X) → P x → Q x) → (xs : List X) → Each P xs → Each Q xs
-each_so P Q f [] e = tt
-each_so P Q f (x ∷ xs) e = (f x e.0, each_so P Q f xs e.1)
+use Rattle.sc_paxos_law.proofs.Among.{place_among}
+use Rattle.sc_group_law.proofs.RowSteps.{number_among}
 
 -- a player that is kept has its number
 plays_of : (who : ℕ) (player : Player) → IsKeptPlayer who player → TopPlays who player
@@ -159,7 +146,7 @@ module _ (words : ℕ → ℕ → ℕ × ℕ) (scenario : Scenario) (rows : Rows
     me_is = me_is;
     barred = λ node number mail is at sent none. absurd (true≢false (sym (may_so number mail sent) ∙ none));
     here = λ number mail group node r is t here. (
-      each_so (IsYoung words all rows seat) (MayBear all rows seat) (λ child. young_may words all rows seat child) (mailed mail.from mail.body (r, [])).1 (young number mail group node r is t here),
+      Each-weaker (IsYoung words all rows seat) (MayBear all rows seat) (λ child. young_may words all rows seat child) (mailed mail.from mail.body (r, [])).1 (young number mail group node r is t here),
       here_found number mail node r is group t here,
     );
     missed = λ number mail group node is t none. missed number mail group node is t;

@@ -45,30 +45,10 @@ use Rattle.sc_log_law.specs.Descent.{Rows}
 use Rattle.sc_following_law.specs.Following.{members_at}
 use Rattle.sc_calm_logs_law.specs.Logged.{logged_sets}
 use Rattle.sc_calm_answers_law.specs.States.{state_at, LeaversFree}
+use Rattle.sc_calm_answers_law.proofs.Cores.{called_core, cond_core, cond_either, numbered_core, served_core}
+use Rattle.sc_hist_law.proofs.Logs.{ordered_either}
 
 -- ---- the core of the group stays
-
-cond_core : (group : Group) (b : Bool) (x y : Group × Effect) → x.0.core ≡ group.core → y.0.core ≡ group.core → (cond b x y).0.core ≡ group.core
-cond_core group true x y e f = e
-cond_core group false x y e f = f
-
-numbered_core : (o : Option Noted) (group : Group) (client seq : ℕ) (op : Op) → (served_by_note o group client seq op).0.core ≡ group.core
-numbered_core None group client seq op = refl
-numbered_core (Some n) group client seq op =
-    cond_core group (nat_lt n.seq seq) (done group client seq op) (cond (eqb n.seq seq) (group, Again n.reply) (group, Stale n.seq)) refl
-    (cond_core group (eqb n.seq seq) (group, Again n.reply) (group, Stale n.seq) refl refl)
-
-served_core : (group : Group) (client seq : ℕ) (op : Op) → (served group client seq op).0.core ≡ group.core
-served_core group client seq op =
-    cond_core group (holds_key group.core.arc (key_of op)) (served_by_note (get group.clients client) group client seq op) (group, NotMine group.core.arc group.core.succ)
-    (numbered_core (get group.clients client) group client seq op) refl
-
-called_core : (gone : Option Route) (lock : Lock) (group : Group) (client seq : ℕ) (op : Op) → (called gone lock group client seq op).0.core ≡ group.core
-called_core (Some into) lock group client seq op = refl
-called_core None Free group client seq op = served_core group client seq op
-called_core None (Watching tx watch) group client seq op = served_core group client seq op
-called_core None (Coordinating tx body order heard) group client seq op = refl
-called_core None (Promised tx offer) group client seq op = refl
 
 -- ---- no member is lost, or the group is free
 
@@ -78,18 +58,8 @@ IsFreed one other = (one.lock ≡ Free) ⊎ ((who : ℕ) → is_member other.mem
 core_freed : (one other : Core) → one ≡ other → IsFreed one other
 core_freed one other e = inr (λ who m. ap (λ (c : Core). is_member c.members who) e ∙ m)
 
-cond_either : (P : Group → Type 0) (b : Bool) (x y : Group × Effect) → P x.0 → P y.0 → P (cond b x y).0
-cond_either P true x y p q = p
-cond_either P false x y p q = q
-
--- an order makes the group another one where it is free, or leaves it
-refused_either : (P : Group → Type 0) (gone : Option Route) (why : Option OrderRefusal) (after group : Group) → P after → P group → P (ordered gone why after group).0
-refused_either P (Some into) why after group p q = q
-refused_either P None (Some why) after group p q = q
-refused_either P None None after group p q = p
-
 ordered_free : (P : Group → Type 0) (gone : Option Route) (lock : Lock) (core : Core) (c : Command) (after group : Group) → (lock ≡ Free → P after) → P group → P (ordered gone (refused_in (locked_in lock) core c) after group).0
-ordered_free P gone Free core c after group p q = refused_either P gone (refused_free core c) after group (p refl) q
+ordered_free P gone Free core c after group p q = ordered_either P gone (refused_free core c) after group (p refl) q
 ordered_free P (Some into) (Coordinating tx body order heard) core c after group p q = q
 ordered_free P None (Coordinating tx body order heard) core c after group p q = q
 ordered_free P (Some into) (Promised tx offer) core c after group p q = q

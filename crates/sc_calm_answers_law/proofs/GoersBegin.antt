@@ -49,16 +49,12 @@ use Rattle.sc_calm_answers_law.specs.Resting.{RestsAt}
 use Rattle.sc_calm_answers_law.specs.TrueUnder.{AreSeen}
 use Rattle.sc_calm_answers_law.proofs.OrderedKnown.{named_there}
 use Rattle.sc_calm_answers_law.proofs.Took.{rests_idle}
-use Rattle.sc_calm_answers_law.proofs.TrueBeginning.{begun_so, ordered_unbound, still_unbound}
+use Rattle.sc_calm_answers_law.proofs.TrueBeginning.{begun_so, ordered_unbound, still_unbound, closing_bond}
 
 -- the transaction of a stage, if it has one
 the_tx : (o : Option Draw) → (tx : Draw) × Each (λ other. other ≡ tx) (listed o)
 the_tx None = (record { node = 0; count = 0 }, tt)
 the_tx (Some tx) = (tx, (refl, tt))
-
-closing_bond : (tx : Draw) (leg : Leg) (host : ℕ) → (closing tx leg host).bond ≡ Bound tx
-closing_bond tx Mailed host = refl
-closing_bond tx Filed host = refl
 
 module _ (found_law : FrontsAreFound) (ends_law : EndsAreLogged) (words : ℕ → ℕ → ℕ × ℕ) (scenario : Scenario) (first : Base) (journal quiet : Rows) (seat : Seat Player) (line : OrderLine) (calm : IsCalmJournal words scenario journal) (rests : RestsAt words scenario first journal quiet)
     (seen : AreSeen scenario quiet) (t : IsToldInQuiet words (births as_nodes scenario) quiet seat line) (front : IsFront journal (with_event quiet seat (Told line))) where

@@ -49,7 +49,7 @@ use Rattle.sc_calm_answers_law.specs.Told.{IsAllowedBy, ReplicasTell, sources_of
 use Rattle.sc_calm_answers_law.specs.TrueEntries.{LeadsSince}
 use Rattle.sc_calm_answers_law.specs.TrueGoing.{GoesOnSince}
 use Rattle.sc_calm_answers_law.proofs.Delivering.{there_or}
-use Rattle.sc_calm_answers_law.proofs.Doers.{lead_runs_so, lead_works}
+use Rattle.sc_calm_answers_law.proofs.Doers.{lead_runs_so, lead_works, one_not_none, same_one}
 use Rattle.sc_calm_answers_law.proofs.Leads.{IsWorkAt, OfOrder, OfOutcome, OfQuestion, OfVote, at_stage, was_there}
 use Rattle.sc_calm_answers_law.proofs.Merging.{IsMergedBy, goes_by}
 use Rattle.sc_calm_answers_law.proofs.Newest.{no_further}
@@ -161,12 +161,6 @@ owner_is scenario journal name tx (GiveUp t) e a = absurd cc
 owner_is scenario journal name tx (Finish t outcome) e a = absurd cc
 owner_is scenario journal name tx (Watched t watch) e a = absurd cc
 owner_is scenario journal name tx (RecordWatch t vote by) e a = absurd cc
-
-one_not_none : (work : Work) (xs : List Work) → xs ≡ work ∷ [] → xs ≡ [] → ⊥
-one_not_none work xs e none = cc
-
-same_one : (one other : Work) → one ∷ [] ≡ other ∷ [] → one ≡ other
-same_one one other e = cc
 
 -- ---- a delivery
 

@@ -22,9 +22,7 @@ use Rattle.sc_calm_answers_law.specs.TrueHinted.{CoordinatorsAreHinted, HintedOr
 use Rattle.sc_calm_answers_law.proofs.TrueBeginning.{begun_so, ordered_unbound, still_unbound}
 use Rattle.sc_calm_answers_law.proofs.Hinting.{errand_there}
 use Rattle.sc_calm_answers_law.proofs.Pending.{elsewhere_at}
-
-no_asking : (tx asked : Draw) (turn : Turn) → Unbound ≡ Asking tx asked turn → ⊥
-no_asking tx asked turn e = cc
+use Rattle.sc_calm_answers_law.proofs.Opened.{no_asking}
 
 pub hinted_begin : HintedOrdersBegin
 hinted_begin words scenario quiet seat line stage t stands = by stage stands

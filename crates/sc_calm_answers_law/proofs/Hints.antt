@@ -32,15 +32,12 @@ use Rattle.sc_calm_answers_law.specs.Deeds.{AreDeeds, Doer, HasDone}
 use Rattle.sc_calm_answers_law.specs.TrueGoing.{GoesOnSince}
 use Rattle.sc_calm_answers_law.specs.Told.{ReplicasTell}
 use Rattle.sc_calm_answers_law.proofs.TrueAsking.{Nothing, Sending, Sends, errand_was, errands_are, leader_row, one}
-use Rattle.sc_calm_answers_law.proofs.Doers.{lead_works}
+use Rattle.sc_calm_answers_law.proofs.Doers.{lead_works, one_not_none}
 use Rattle.sc_calm_answers_law.proofs.Hinting.{among_split}
 use Rattle.sc_calm_answers_law.proofs.Pending.{question_at}
 use Rattle.sc_calm_answers_law.proofs.TrueQuiet.{link_least}
 use Rattle.sc_calm_answers_law.proofs.TrueSending.{AsksOn, Enters, IsSending, Mute}
 use Rattle.sc_calm_answers_law.proofs.Since.{led_first}
-
-one_none : (work : Work) (xs : List Work) → xs ≡ work ∷ [] → xs ≡ [] → ⊥
-one_none work xs e none = cc
 
 pub no_deeds : (entries : List Command) (group made : Group) → AreDeeds [] entries → made ≡ state_after group entries → made ≡ group
 no_deeds [] group made are e = e
@@ -83,7 +80,7 @@ module _ (tells : ReplicasTell) (words : ℕ → ℕ → ℕ × ℕ) (scenario :
       → (scene_at (births as_nodes scenario) (with_event rows seat (Deliver number))).lead name ≡ Some host → ((scene_at (births as_nodes scenario) (with_event rows seat (Deliver number))).at name).work ≡ [] → host ≡ seat.who
   at_seat name host r work has lead had lead_then none = elim (cases_eq host seat.who) [
     | inl e ↦ e
-    | inr ne ↦ absurd (one_none work (works r) (lead_works all rows name host r lead has ∙ had)
+    | inr ne ↦ absurd (one_not_none work (works r) (lead_works all rows name host r lead has ∙ had)
         (lead_works all next name host r lead_then (view_others all rows (row_of player_table seat rows (Deliver number)) name host ne ∙ has) ∙ none))
   ]
 

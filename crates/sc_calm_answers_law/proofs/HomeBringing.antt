@@ -54,12 +54,7 @@ use Rattle.sc_calm_logs_law.proofs.Journals.{front}
 use Rattle.sc_calm_answers_law.proofs.HomeNodes.{BringsNodes, HasNodes, SaysNodes, log_nodes}
 use Rattle.sc_calm_answers_law.proofs.HomeNaming.{says_nodes}
 use Rattle.sc_calm_answers_law.proofs.HomeBearing.{first_nodes, OrdersNodes, lines_nodes, wishes_nodes, children_nodes}
-
--- the child of an entry is one of its log's
-child_in : (group : Group) (front : List Command) (c : Command) (child : Base) → birth_of (state_after group front) c (applied (state_after group front) c).1 ≡ Some child → Among child (children_of group (front ++ c ∷ []))
-child_in group [] c child e = Among-left child (option_to_list (birth_of group c (applied group c).1)) [] (subst (λ o. Among child (option_to_list o)) (sym e) (inl refl))
-child_in group (d ∷ front) c child e =
-    Among-right child (option_to_list (birth_of group d (applied group d).1)) (children_of (applied group d).0 (front ++ c ∷ [])) (child_in (applied group d).0 front c child e)
+use Rattle.sc_calm_answers_law.proofs.Born.{child_in}
 
 -- what policies queue at a tick
 ticks_nodes : (scenario : Scenario) (bases : List Base) (on : Bool) (drawer : Drawer) (rs : List ReplicaState) → MayTick bases (λ (base : Base). (BringsNodes (IsUpTo scenario.nodes))) on drawer rs

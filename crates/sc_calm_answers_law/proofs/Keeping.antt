@@ -63,16 +63,9 @@ use Rattle.sc_calm_answers_law.proofs.Lineage.{child_made}
 use Rattle.sc_calm_answers_law.proofs.Logs.{IsStateless, IsShort, GoesOn, IsRest, kids_of, mailed_goes, rest_leaves}
 use Rattle.sc_calm_answers_law.proofs.YoungPassing.{RowKind, Takes, Makes, row_kind}
 use Rattle.sc_calm_answers_law.proofs.YoungStands.{OfJournals, all_found, borne_by, state_of}
-
-none_some : {X : Type 0} {x : X} → None ≡ Some x → ⊥
-none_some e = cc
-
-some_is : {X : Type 0} (x y : X) → Some x ≡ Some y → x ≡ y
-some_is x y e = cc
-
-plays_of : (who : ℕ) (player : Player) → IsWellPlayer who player → Plays who player
-plays_of who (Node node) k = (k.0, subst (λ m. Each (IsWellKept m) node.replicas) k.0 k.1)
-plays_of who (Client client) k = tt
+use Rattle.std.proofs.lemmas.Option.{same_Some}
+use Rattle.sc_calm_answers_law.proofs.Playing.{plays_of}
+use Rattle.sc_calm_rows_law.proofs.Beginning.{none_some}
 
 -- ---- where nothing is ready, or a group stays
 
@@ -282,7 +275,7 @@ module _ (laws : OfJournals) (well : ScenariosAreWellBorn) (keeps : DeliveriesKe
     still_knows : (t : Takes words (births as_nodes scenario) rows seat number mail) → Was seat.who → Known seat.who
     still_knows t k = elim (cases-draw task.group t.group) [
       | inl e ↦ (
-          let same : k.0 ≡ t.r = some_is k.0 t.r (sym k.1 ∙ (ap (λ n. view_at (births as_nodes scenario) rows n seat.who) e ∙ t.was)) in (
+          let same : k.0 ≡ t.r = same_Some k.0 t.r (sym k.1 ∙ (ap (λ n. view_at (births as_nodes scenario) rows n seat.who) e ∙ t.was)) in (
             (mailed mail.from mail.body (t.r, [])).0.0,
             ap (λ n. view_at (births as_nodes scenario) after n seat.who) e ∙ t.is,
             knows_still mail.from mail.body t.r task.name stateless (subst (λ (y : ReplicaState). HasBorn task.name y.group.core.born) same k.2),
@@ -396,7 +389,7 @@ module _ (laws : OfJournals) (well : ScenariosAreWellBorn) (keeps : DeliveriesKe
         same_group : task.group ≡ t.group → Has seat.who
         same_group e =
             let made : Executed = mailed mail.from mail.body (t.r, []) in
-            let own : r ≡ made.0.0 = some_is r made.0.0 (sym v ∙ (ap (λ n. view_at (births as_nodes scenario) after n seat.who) e ∙ t.is)) in
+            let own : r ≡ made.0.0 = same_Some r made.0.0 (sym v ∙ (ap (λ n. view_at (births as_nodes scenario) after n seat.who) e ∙ t.is)) in
             elim (cases_Bool (list_any (λ other. same_draw other task.name) t.r.group.core.born)) [
               | inl known_before ↦ keep_there t (prior.kept on base is id seat.who t.r member (ap (λ n. view_at (births as_nodes scenario) rows n seat.who) e ∙ t.was) known_before)
               | inr not ↦ new_kid t e member (λ has. true≢false (sym has ∙ not)) (subst (λ (y : ReplicaState). HasBorn task.name y.group.core.born) own knows)

@@ -25,6 +25,8 @@ use Rattle.sc_calm_groups_law.specs.Through.{IsWellPlayer}
 use Rattle.sc_calm_groups_law.proofs.BornWell.{scenarios_well_born}
 use Rattle.sc_calm_answers_law.specs.Rests.{IsQuietGroup, QuietReplicasAreKept}
 use Rattle.sc_calm_answers_law.proofs.Facts.{at, view, states, kept, found}
+use Rattle.sc_calm_answers_law.proofs.Playing.{plays_of}
+use Rattle.sc_calm_answers_law.proofs.EndAll.{few_of}
 
 -- the members of slots are rosters of nodes
 sets_nodes : (sets : Sets) (rosters : (slot : ℕ) → IsRoster (sets slot)) (nodes : (slot node : ℕ) → is_member (sets slot) node ≡ true → is_node node ≡ true) (slot : ℕ) (xs : List (List ℕ)) → AreAt sets slot xs → Each IsOfNodes xs
@@ -34,10 +36,6 @@ sets_nodes sets rosters nodes slot (x ∷ xs) f = (
   sets_nodes sets rosters nodes (slot + 1) xs f.1,
 )
 
-nines_of : (xs : List (List ℕ)) → Each IsOfNodes xs → AreNines xs
-nines_of [] f = tt
-nines_of (x ∷ xs) f = (f.0.roster.most, nines_of xs f.1)
-
 -- the last of four open slots
 fourth : (sets : Sets) (slot : ℕ) (xs : List (List ℕ)) → AreAt sets slot xs → length xs ≡ 4 → slice_get xs 3 ≡ Some (sets (slot + 3))
 fourth sets slot (a ∷ b ∷ c ∷ d ∷ xs) f e = (let same : slot + 1 + 1 + 1 ≡ slot + 3 = omega arith in ap Some (sym f.1.1.1.0 ∙ ap sets same))
@@ -45,10 +43,6 @@ fourth sets slot [] f e = absurd (omega (arith, e))
 fourth sets slot (a ∷ []) f e = absurd (omega (arith, e))
 fourth sets slot (a ∷ b ∷ []) f e = absurd (omega (arith, e))
 fourth sets slot (a ∷ b ∷ c ∷ []) f e = absurd (omega (arith, e))
-
-plays_of : (who : ℕ) (player : Player) → IsWellPlayer who player → Plays who player
-plays_of who (Node node) k = (k.0, subst (λ m. Each (IsWellKept m) node.replicas) k.0 k.1)
-plays_of who (Client client) k = tt
 
 module _ (logged : ReplicasAreLogged) (by : Tellers) (words : ℕ → ℕ → ℕ × ℕ) (scenario : Scenario) (journal front : Rows) (base : Base) (course : Course) (q : IsQuietGroup by words scenario journal front base course)
     (node : ℕ) (r : ReplicaState) (e : view by words scenario journal front base course q node ≡ Some r) where
@@ -88,5 +82,5 @@ module _ (logged : ReplicasAreLogged) (by : Tellers) (words : ℕ → ℕ → �
 pub quiet_replicas_are_kept : ReplicasAreLogged → QuietReplicasAreKept
 quiet_replicas_are_kept logged = record {
   kept = λ by words scenario journal front base course q node r e. is_kept logged by words scenario journal front base course q node r e;
-  pumps = λ by words scenario journal front base course q node r e none. record { unbound = unbound logged by words scenario journal front base course q node r e none; few = nines_of r.sets (each_set logged by words scenario journal front base course q node r e) };
+  pumps = λ by words scenario journal front base course q node r e none. record { unbound = unbound logged by words scenario journal front base course q node r e none; few = few_of r.sets (each_set logged by words scenario journal front base course q node r e) };
 }

@@ -41,12 +41,12 @@ use Rattle.sc_calm_answers_law.specs.KeptFinding.{CountsEntries}
 
 -- ---- lists
 
-work_flies : (flights : List (Flight Command)) (flight : Flight Command) (work : Work) → Among flight flights → work_by flight.value ≡ Some work → Among work (works_flying flights)
+pub work_flies : (flights : List (Flight Command)) (flight : Flight Command) (work : Work) → Among flight flights → work_by flight.value ≡ Some work → Among work (works_flying flights)
 work_flies [] flight work a e = absurd a
 work_flies (other ∷ flights) flight work (inl is) e = among-left work (listed (work_by other.value)) (works_flying flights) (subst (λ o. Among work (listed o)) (sym (ap (λ (f : Flight Command). work_by f.value) is ∙ e)) (inl refl))
 work_flies (other ∷ flights) flight work (inr more) e = among-right work (listed (work_by other.value)) (works_flying flights) (work_flies flights flight work more e)
 
-only_work : (o : Option Work) (work : Work) → Among work (listed o) → listed o ≡ work ∷ []
+pub only_work : (o : Option Work) (work : Work) → Among work (listed o) → listed o ≡ work ∷ []
 only_work None work a = absurd a
 only_work (Some x) work (inl is) = ap (λ w. w ∷ []) is
 only_work (Some x) work (inr none) = absurd none

@@ -29,6 +29,7 @@ use Rattle.sc_budget_law.proofs.BetweenSteps.{in_numbers, to_numbers}
 use Rattle.sc_budget_law.proofs.Lists.{map_among}
 use Rattle.sc_calm_answers_law.specs.Starts.{AreNamedOnce, LawfulReplicasAreNamedOnce}
 use Rattle.sc_calm_answers_law.specs.Settings.{AreAtNodes}
+use Rattle.sc_budget_law.proofs.Knowing.{among_last}
 
 -- what a mapped list has comes of one of its things
 pub from_map : {X Y : Type 0} (f : X → Y) (xs : List X) (y : Y) → Among y (map f xs) → (x : X) × Among x xs × (f x ≡ y)
@@ -76,10 +77,6 @@ split_among [] ys x a = inr a
 split_among (z ∷ xs) ys x (inl e) = inl (inl e)
 split_among (z ∷ xs) ys x (inr a) = elim (split_among xs ys x a) [ inl l ↦ inl (inr l) | inr r ↦ inr r ]
 
-append_among : {X : Type 0} (xs ys : List X) (x : X) → Among x ys → Among x (xs ++ ys)
-append_among [] ys x a = a
-append_among (z ∷ xs) ys x a = inr (append_among xs ys x a)
-
 module _ (all_bounded : ValidScenariosAreBounded) (named : LawfulReplicasAreNamedOnce) (words : ℕ → ℕ → ℕ × ℕ) (scenario : Scenario) (first : Base) (others : List Base) (rows : List (Row Mail OrderLine)) (valid : IsValid scenario) (groups : scenario.groups ≡ first ∷ others)
     (lawful : Lawful as_nodes words scenario rows) (quiet : IsQuietJournal words scenario first rows) (homes : AreAtNodes scenario rows) where
   abbrev seen_at : Draw → ℕ → Option ReplicaState
@@ -107,7 +104,7 @@ module _ (all_bounded : ValidScenariosAreBounded) (named : LawfulReplicasAreName
   into_seats : (ss : List (Seat Player)) (seat : Seat Player) (r : ReplicaState) → Among seat ss → Among r (chart_replicas (value player_table seat rows)) → Among r (all_replicas ss rows)
   into_seats [] seat r a here = absurd a
   into_seats (s ∷ ss) seat r (inl e) here = Among-left r (chart_replicas (value player_table s rows)) (all_replicas ss rows) (subst (λ x. Among r (chart_replicas (value player_table x rows))) (sym e) here)
-  into_seats (s ∷ ss) seat r (inr more) here = append_among (chart_replicas (value player_table s rows)) (all_replicas ss rows) r (into_seats ss seat r more here)
+  into_seats (s ∷ ss) seat r (inr more) here = among_last (chart_replicas (value player_table s rows)) (all_replicas ss rows) r (into_seats ss seat r more here)
 
   -- a client has none
   no_client : (r : ReplicaState) (bases : List Base) → bases ≡ first ∷ others → (seat : Seat Player) → Among seat (client_seats bases scenario.clients) → Among r (chart_replicas (value player_table seat rows)) → ⊥

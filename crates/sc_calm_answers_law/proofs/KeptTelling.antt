@@ -42,7 +42,7 @@ use Rattle.sc_calm_answers_law.specs.Viewing.{ViewsAgree}
 use Rattle.sc_calm_answers_law.proofs.Delivering.{led_there, named_so, gone_leads}
 
 -- one at rest has no work
-no_works : (r : ReplicaState) → IsAtRest r → works r ≡ []
+pub no_works : (r : ReplicaState) → IsAtRest r → works r ≡ []
 no_works r rest =
     ap (λ a. works_in a ++ (works_in r.calls ++ (works_flying r.leader.flights ++ works_ready r.ready))) rest.acts
     ∙ (ap (λ c. works_in c ++ (works_flying r.leader.flights ++ works_ready r.ready)) rest.calls

@@ -34,6 +34,7 @@ use Rattle.sc_calm_answers_law.specs.Starts.{AreNamedOnce, LawfulReplicasAreName
 use Rattle.sc_calm_answers_law.specs.SettingCounting.{GoneAgree}
 use Rattle.sc_calm_answers_law.specs.KnownFronts.{IsQuietFront, IsFoundFront, FrontsAreFound}
 use Rattle.sc_calm_answers_law.proofs.KnownFronts.{IsClient, replayed_client, client_among, seat_in, node_among}
+use Rattle.sc_calm_answers_law.proofs.Frames.{found_once}
 
 -- ---- lists
 
@@ -42,16 +43,8 @@ once_among group [] once = absurd once
 once_among group (name ∷ names) (inl here) = inl here.0
 once_among group (name ∷ names) (inr more) = inr (once_among group names more.1)
 
-found_once : (rs : List ReplicaState) (r : ReplicaState) → AreNamedOnce rs → Among r rs → replica_of (name_of r) rs ≡ Some r
-found_once [] r once a = absurd a
-found_once (x ∷ rs) r once (inl e) = ap (λ b. cond b (Some x) (replica_of (name_of r) rs)) (same_name (name_of x) (name_of r) (ap name_of e)) ∙ ap Some e
-found_once (x ∷ rs) r once (inr more) = elim (cases_Bool (same_draw (name_of x) (name_of r))) [
-  | inl same ↦ absurd (Each-among (λ (other : ReplicaState). name_of other ≡ name_of x → ⊥) rs r once.0 more (sym (draw_is (name_of x) (name_of r) same)))
-  | inr other ↦ ap (λ b. cond b (Some x) (replica_of (name_of r) rs)) other ∙ found_once rs r once.1 more
-]
-
 -- none went anywhere, where none of its replicas is gone
-went_none : (group : Draw) (rs : List ReplicaState) → ((r : ReplicaState) → Among r rs → name_of r ≡ group → r.group.core.gone ≡ None) → went_in group rs ≡ None
+pub went_none : (group : Draw) (rs : List ReplicaState) → ((r : ReplicaState) → Among r rs → name_of r ≡ group → r.group.core.gone ≡ None) → went_in group rs ≡ None
 went_none group [] none = refl
 went_none group (r ∷ rs) none = elim (cases_Bool (same_draw (name_of r) group)) [
   | inl is ↦ ap (λ b. cond b r.group.core.gone (went_in group rs)) (ap (λ b. b && is_some r.group.core.gone) is ∙ ap is_some (none r (inl refl) (draw_is (name_of r) group is))) ∙ went_none group rs (λ x a. none x (inr a))

@@ -40,7 +40,7 @@ use Rattle.sc_calm_answers_law.specs.There.{FrontsHaveMembers}
 use Rattle.sc_calm_answers_law.proofs.Chosen.{log_short}
 
 -- nothing is taken where nothing is in flight or ready
-none_taken : (lead : ReplicaState) (slot : ℕ) → lead.leader.flights ≡ [] → lead.ready ≡ [] → taken_at lead slot ≡ None
+pub none_taken : (lead : ReplicaState) (slot : ℕ) → lead.leader.flights ≡ [] → lead.ready ≡ [] → taken_at lead slot ≡ None
 none_taken lead slot flights ready =
     ap (λ (fs : List (Flight Command)). either (option_map (λ flight. flight.value) (flight_at slot fs)) (at_slot lead.ready slot)) flights ∙ ap (λ (es : List (ℕ × Command)). at_slot es slot) ready
 

@@ -18,7 +18,7 @@ use Rattle.sc_actor.proofs.ReplayLemmas.{value-snoc}
 use Rattle.sc_orderly_law.specs.Timely.{AreInTime}
 use Rattle.sc_orderly_law.proofs.InTime.{by_time, last_in_time}
 use Rattle.sc_paxos_words.proofs.ListLemmas.{Each-among, Each-from_All, find_found, from_filter}
-use Rattle.sc_paxos_law.proofs.Among.{Among-either, from_map}
+use Rattle.sc_paxos_law.proofs.Among.{Among-either, from_map, member-among}
 use Rattle.sc_scenario.specs.Groups.{group_at}
 use Rattle.sc_scenario.specs.Valid.{IsBounded, IsBoundedClient, IsUpTo, ValidScenariosAreBounded}
 use Rattle.sc_scenario.specs.declared.scenarios.Asks.{Asks}
@@ -33,14 +33,6 @@ use Rattle.sc_budget_law.specs.BetweenJournal.{replicas_of}
 use Rattle.sc_calm_answers_law.specs.Settings.{AreAtNodes}
 use Rattle.sc_calm_answers_law.specs.Journal.{IsCalmJournal, IsFront}
 use Rattle.sc_calm_answers_law.proofs.LinkFronts.{of_up_to}
-
-among_member : (members : List ℕ) (node : ℕ) → is_member members node ≡ true → Among node members
-among_member [] node e = absurd (true≢false (sym e))
-among_member (x ∷ members) node e = by (eqb x node) refl e (λ m. among_member members node m)
-  where
-    by : (b : Bool) → eqb x node ≡ b → (b || is_member members node) ≡ true → (is_member members node ≡ true → Among node members) → Among node (x ∷ members)
-    by true t e2 rest = inl (eqb-true x node t)
-    by false f e2 rest = inr (rest e2)
 
 -- a client's seat is behind the nodes
 client_who : (groups : List Base) (clients : List Asks) (seat : Seat Player) → Among seat (client_seats groups clients) → (asks : Asks) × Among asks clients × (seat.who ≡ most_nodes + asks.client)
@@ -65,7 +57,7 @@ module _ (bounded : ValidScenariosAreBounded) (words : ℕ → ℕ → ℕ × �
       let p = of_up_to bound.starts (length bound.starts) base (subst (Among base) bound.groups a) in
       let line = bound.each p.0 (record { lo = 0; members = [] }) p.1 in
       (Each-among (IsUpTo scenario.nodes) (group_at bound.starts p.0).members node (Each-from_All (IsUpTo scenario.nodes) (group_at bound.starts p.0).members line.members_in)
-      (among_member (group_at bound.starts p.0).members node (subst (λ (b : Base). is_member b.core.members node ≡ true) (sym p.2) m))).1
+      (member-among (group_at bound.starts p.0).members node (subst (λ (b : Base). is_member b.core.members node ≡ true) (sym p.2) m))).1
 
   -- a node that is none of the scenario's
   module _ (node : ℕ) (high : node ≤ most_nodes) (out : scenario.nodes < node) where

@@ -40,6 +40,7 @@ use Rattle.sc_paxos_words.specs.Ballots.{below}
 use Rattle.sc_sound.specs.Players.{Player}
 use Rattle.sc_calm_orders_law.specs.Stages.{Asks as AsksStage}
 use Rattle.sc_mail.specs.declared.bodies.MailBody.TheVariants.{Told as ToldMail}
+use Rattle.std.proofs.lemmas.Option.{same_Some}
 
 -- ---- the work
 
@@ -80,9 +81,6 @@ stages_leave_one now group under = parties_one now group (parties_of under.0) un
 
 -- ---- a mail
 
-some_draw : (one other : Draw) → Some one ≡ Some other → one ≡ other
-some_draw one other e = cc
-
 module _ (words : ℕ → ℕ → ℕ × ℕ) (births : List (Seat Player)) (rows : Rows) (seat : Seat Player) (number : ℕ) (mail : Mail) (base : Base) (node : NodeState) (r : ReplicaState) (h : IsHere words births rows seat number mail base node r)
     (runs : r.running ≡ true) where
   abbrev g : IsGuided words births rows seat (Deliver number) base
@@ -113,7 +111,7 @@ module _ (words : ℕ → ℕ → ℕ × ℕ) (births : List (Seat Player)) (row
   free_of = unbound g.at g.over g.by words births rows base g.course g.led seat.who r here_view runs
 
   pub named_so : (named : Draw) (body : MailBody) → mail.body ≡ body → group_of_mail body ≡ Some named → named ≡ base.core.id
-  named_so named body e is = some_draw named base.core.id (sym is ∙ (ap group_of_mail (sym e) ∙ h.taking.named))
+  named_so named body e is = same_Some named base.core.id (sym is ∙ (ap group_of_mail (sym e) ∙ h.taking.named))
 
   marked : (body : MailBody) (mark : Mark) → mail.body ≡ body → mark_of base.core.id mail.from body ≡ Some mark → mark_of base.core.id mail.from mail.body ≡ Some mark
   marked body mark e is = ap (mark_of base.core.id mail.from) e ∙ is

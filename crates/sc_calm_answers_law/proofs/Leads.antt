@@ -30,19 +30,15 @@ use Rattle.sc_calm_answers_law.specs.Deeds.{Voting, doer, doers_of}
 use Rattle.sc_calm_answers_law.specs.TrueEntries.{LeadsSince}
 use Rattle.sc_calm_answers_law.specs.Told.{ReplicasTell}
 use Rattle.sc_calm_answers_law.proofs.Since.{base_of}
+use Rattle.sc_calm_answers_law.proofs.TrueBeginning.{closing_bond}
+use Rattle.sc_calm_answers_law.proofs.KeptCounting.{work_flies}
 
 -- ---- works
-
--- what is in flight is among the works
-flying_work : (flights : List (Flight Command)) (flight : Flight Command) (work : Work) → Among flight flights → work_by flight.value ≡ Some work → Among work (works_flying flights)
-flying_work [] flight work a e = absurd a
-flying_work (other ∷ flights) flight work (inl is) e = among-left work (listed (work_by other.value)) (works_flying flights) (subst (λ o. Among work (listed o)) (sym (ap (λ (f : Flight Command). work_by f.value) is ∙ e)) (inl refl))
-flying_work (other ∷ flights) flight work (inr more) e = among-right work (listed (work_by other.value)) (works_flying flights) (flying_work flights flight work more e)
 
 pub is_work_of : (r : ReplicaState) (flight : Flight Command) (work : Work) → Among flight r.leader.flights → work_by flight.value ≡ Some work → Among work (works r)
 is_work_of r flight work a e =
     among-right work (works_in r.acts) (works_in r.calls ++ (works_flying r.leader.flights ++ works_ready r.ready))
-    (among-right work (works_in r.calls) (works_flying r.leader.flights ++ works_ready r.ready) (among-left work (works_flying r.leader.flights) (works_ready r.ready) (flying_work r.leader.flights flight work a e)))
+    (among-right work (works_in r.calls) (works_flying r.leader.flights ++ works_ready r.ready) (among-left work (works_flying r.leader.flights) (works_ready r.ready) (work_flies r.leader.flights flight work a e)))
 
 -- a party to which an outcome comes: it voted, it has its leader, and it is bound
 pub record IsEnding (stage : Stage) (name tx : Draw) : Type 0 where
@@ -63,21 +59,17 @@ pub data IsWorkAt (stage : Stage) (name : Draw) (work : Work) : Type 0 where
 abbrev Token : Type 0
 Token = Draw × Work
 
-closing_bound : (tx : Draw) (leg : Leg) (host : ℕ) → (closing tx leg host).bond ≡ Bound tx
-closing_bound tx Mailed host = refl
-closing_bound tx Filed host = refl
-
 ends_one : (tx : Draw) (party : Party) (name : Draw) → party.group ≡ name → IsEnding (Closes tx party) name tx
 ends_one tx party name e =
-    subst (λ n. IsEnding (Closes tx party) n tx) e (record { host = party.host; done = inl refl; lead = inl refl; here = closing tx party.leg party.host; party = inl refl; bound = closing_bound tx party.leg party.host })
+    subst (λ n. IsEnding (Closes tx party) n tx) e (record { host = party.host; done = inl refl; lead = inl refl; here = closing tx party.leg party.host; party = inl refl; bound = closing_bond tx party.leg party.host })
 
 ends_first : (tx : Draw) (one two : Party) (name : Draw) → one.group ≡ name → IsEnding (ClosesBoth tx one two) name tx
 ends_first tx one two name e =
-    subst (λ n. IsEnding (ClosesBoth tx one two) n tx) e (record { host = one.host; done = inl refl; lead = inl refl; here = closing tx one.leg one.host; party = inl refl; bound = closing_bound tx one.leg one.host })
+    subst (λ n. IsEnding (ClosesBoth tx one two) n tx) e (record { host = one.host; done = inl refl; lead = inl refl; here = closing tx one.leg one.host; party = inl refl; bound = closing_bond tx one.leg one.host })
 
 ends_second : (tx : Draw) (one two : Party) (name : Draw) → two.group ≡ name → IsEnding (ClosesBoth tx one two) name tx
 ends_second tx one two name e =
-    subst (λ n. IsEnding (ClosesBoth tx one two) n tx) e (record { host = two.host; done = inr (inl refl); lead = inr (inl refl); here = closing tx two.leg two.host; party = inr (inl refl); bound = closing_bound tx two.leg two.host })
+    subst (λ n. IsEnding (ClosesBoth tx one two) n tx) e (record { host = two.host; done = inr (inl refl); lead = inr (inl refl); here = closing tx two.leg two.host; party = inr (inl refl); bound = closing_bond tx two.leg two.host })
 
 work_in : (stage : Stage) (t : Token) → Among t (tokens work_of (parties_of stage)) → IsWorkAt stage t.0 t.1
 work_in Still t a = absurd a

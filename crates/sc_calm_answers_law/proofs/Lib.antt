@@ -26,6 +26,7 @@ pub mod Children
 pub mod Chosen
 pub mod Clients
 pub mod Comers
+pub mod Cores
 mod Covered
 mod Cuts
 pub mod Cycle
@@ -151,6 +152,7 @@ pub mod Parts
 pub mod Pending
 pub mod Places
 pub mod Placing
+pub mod Playing
 pub mod Posted
 pub mod Pumping
 pub mod Questions

@@ -18,17 +18,12 @@ use Rattle.sc_sound.specs.GroupsOf.{children_of}
 use Rattle.sc_calm_orders_law.proofs.Lists.{among-left, among-right}
 use Rattle.sc_calm_answers_law.proofs.WorkBirths.{HasBorn, stays_born, bears_born, new_born}
 use Rattle.sc_calm_answers_law.proofs.Logs.{kids_of}
+use Rattle.sc_paxos_law.proofs.Among.{Among-either}
 
 -- it forgets none
 pub log_stays : (name : Draw) (group : Group) (log : List Command) → HasBorn name group.core.born → HasBorn name (state_after group log).core.born
 log_stays name group [] has = has
 log_stays name group (command ∷ log) has = log_stays name (applied group command).0 log (stays_born group command name has)
-
--- an element of two lists
-among_parts : {X : Type 0} (x : X) (xs ys : List X) → Among x (xs ++ ys) → Among x xs ⊎ Among x ys
-among_parts x [] ys is = inr is
-among_parts x (y ∷ xs) ys (inl e) = inl (inl e)
-among_parts x (y ∷ xs) ys (inr is) = elim (among_parts x xs ys is) [ inl a ↦ inl (inr a) | inr b ↦ inr b ]
 
 -- a child that is made is the one that is borne
 child_is : (me : ℕ) (o : Option Base) (kid : Base) → Among kid (child_at me o) → o ≡ Some kid
@@ -43,7 +38,7 @@ child_made me kid is = ap (λ b. cond b (kid ∷ []) []) is
 -- it knows each that is made
 pub kids_known : (me : ℕ) (group : Group) (log : List Command) (kid : Base) → Among kid (kids_of me group log) → HasBorn kid.core.id (state_after group log).core.born
 kids_known me group [] kid is = absurd is
-kids_known me group (command ∷ log) kid is = elim (among_parts kid (child_at me (child_by group command)) (kids_of me (applied group command).0 log) is) [
+kids_known me group (command ∷ log) kid is = elim (Among-either kid (child_at me (child_by group command)) (kids_of me (applied group command).0 log) is) [
   | inl a ↦ log_stays kid.core.id (applied group command).0 log (bears_born group command kid (child_is me (child_by group command) kid a))
   | inr b ↦ kids_known me (applied group command).0 log kid b
 ]

@@ -51,6 +51,7 @@ use Rattle.sc_budget_law.proofs.BetweenWhole.{of_player}
 use Rattle.sc_budget_law.proofs.CalmClients.{unasked}
 use Rattle.sc_budget_law.proofs.CalmNodes.{stays_by}
 use Rattle.sc_budget_law.proofs.NodeRows.{IsFor, for_node}
+use Rattle.sc_names_law.proofs.Lists.{Each-drop}
 
 -- ---- what a line keeps
 
@@ -74,12 +75,6 @@ module _ (words : ℕ → ℕ → ℕ × ℕ) (scenario : Scenario) (begins : Is
 -- it is nothing to any group
 abbrev pub IsNothing : Mail → Type 0
 IsNothing mail = (name : Draw) → mark name mail ≡ Other
-
-drop_each : {X : Type 0} (P : X → Type 0) (n : ℕ) (xs : List X) → Each P xs → Each P (drop n xs)
-drop_each P zero [] e = tt
-drop_each P zero (x ∷ xs) e = e
-drop_each P (suc n) [] e = tt
-drop_each P (suc n) (x ∷ xs) e = drop_each P n xs e.1
 
 filter_to : {X : Type 0} (P Q : X → Type 0) (p : X → Bool) (xs : List X) → ((x : X) → P x → p x ≡ true → Q x) → Each P xs → Each Q (filter p xs)
 filter_to P Q p [] f e = tt
@@ -138,7 +133,7 @@ module _ (words : ℕ → ℕ → ℕ × ℕ) (scenario : Scenario) (begins : Is
     desk_by : (row : Row Mail OrderLine) → IsOrderly (system_of as_nodes words scenario) rows row → ((who : ℕ) → is_born (system_of as_nodes words scenario) who ≡ false → Each IsNothing (mail_for (system_of as_nodes words scenario) who row.sent)) → AtDesk rows → AtDesk (rows ++ row ∷ [])
     desk_by row o sent desk who away =
         subst (Each IsNothing) (sym (rest-row sys rows row who t o))
-        (Each-append IsNothing (drop (taken who row) (rest sys rows who)) (mail_for sys who row.sent) (drop_each IsNothing (taken who row) (rest sys rows who) (desk who away)) (sent who away))
+        (Each-append IsNothing (drop (taken who row) (rest sys rows who)) (mail_for sys who row.sent) (Each-drop IsNothing (taken who row) (rest sys rows who) (desk who away)) (sent who away))
 
     calm_sent : (begun : Requests) (sent : List Mail) → Each (IsCalmMail begun set) sent → (who : ℕ) → is_born (system_of as_nodes words scenario) who ≡ false → Each IsNothing (mail_for (system_of as_nodes words scenario) who sent)
     calm_sent begun sent e who away = filter_to (IsCalmMail begun set) IsNothing (λ (mail : Mail). eqb (sys.receiver mail) who) sent (λ mail c to. calm_nothing begun who away mail c (eqb-true mail.to who to)) e

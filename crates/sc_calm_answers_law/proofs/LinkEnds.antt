@@ -33,20 +33,13 @@ use Rattle.sc_machine_table.specs.Finishes.{can_gain, gained_group, lost_group, 
 use Rattle.sc_machine_table.specs.Plans.{can_cut}
 use Rattle.sc_ring_law.specs.Allowed.{Sources, IsAllowed}
 use Rattle.sc_ring_law.specs.Stories.{Story, Stories}
+use Rattle.sc_calm_answers_law.proofs.Cores.{numbered_core, served_core}
 
 -- some nodes, of each of which something holds with a group's name
 abbrev pub Good : (Draw → ℕ → Type 0) → Draw → List ℕ → Type 0
 Good P name nodes = (1 ≤ length nodes) × ((node : ℕ) → is_member nodes node ≡ true → P name node)
 
 -- ---- a call changes no record
-
-numbered_core : (o : Option Noted) (group : Group) (client seq : ℕ) (op : Op) → (served_by_note o group client seq op).0.core ≡ group.core
-numbered_core None group client seq op = refl
-numbered_core (Some n) group client seq op =
-    cond_both (nat_lt n.seq seq) _ _ (λ (x : Group × Effect). x.0.core ≡ group.core) (λ _. refl) (λ _. cond_both (eqb n.seq seq) (group, Was.Again n.reply) (group, Was.Stale n.seq) (λ (x : Group × Effect). x.0.core ≡ group.core) (λ _. refl) (λ _. refl))
-
-served_core : (group : Group) (client seq : ℕ) (op : Op) → (served group client seq op).0.core ≡ group.core
-served_core group client seq op = cond_both (holds_key group.core.arc (key_of op)) _ _ (λ (x : Group × Effect). x.0.core ≡ group.core) (λ _. numbered_core (get group.clients client) group client seq op) (λ _. refl)
 
 pub called_core : (gone : Option Route) (lock : Lock) (group : Group) (client seq : ℕ) (op : Op) → (called gone lock group client seq op).0.core ≡ group.core
 called_core (Some into) lock group client seq op = refl

@@ -45,6 +45,7 @@ use Rattle.sc_whole_law.proofs.Turning.{Holds}
 use Rattle.sc_calm_answers_law.specs.Links.{WasMember, WereMembers, AreAllFree, LinksWereMembers}
 use Rattle.sc_calm_answers_law.proofs.LinkEnds.{Good, IsLinkedSo}
 use Rattle.sc_calm_answers_law.proofs.LinkEntries.{groups_then, Come, all_linked, moved}
+use Rattle.sc_calm_orders_law.proofs.Filing.{right_none}
 
 -- ---- two fronts of a list
 
@@ -74,10 +75,6 @@ two_fronts (x ∷ front) more (y ∷ first) rest e =
 take_front : {X : Type 0} (xs ys : List X) → take (length xs) (xs ++ ys) ≡ xs
 take_front [] ys = refl
 take_front (x ∷ xs) ys = ap (λ l. x ∷ l) (take_front xs ys)
-
-none_of_both : {X : Type 0} (xs ys : List X) → xs ++ ys ≡ [] → ys ≡ []
-none_of_both [] ys e = e
-none_of_both (x ∷ xs) ys e = absurd (let f : x ∷ (xs ++ ys) ≡ [] = e in cc)
 
 -- ---- the groups of a scenario
 
@@ -160,7 +157,7 @@ module _ (bounded : ValidScenariosAreBounded) (begin : ValidScenariosBeginWell) 
             is = same_Some u (state_after (group_of base) log) (sym found_ ∙ there) ∙ ap (state_after (group_of base)) (sym (ap (take (length log)) whole ∙ take_front log (log_in base.core.id more)));
           })
       | inr h ↦ (
-          let none : log_in base.core.id h.mid ≡ [] = none_of_both (log_in base.core.id front) (log_in base.core.id h.mid) (sym (log_append base.core.id front h.mid) ∙ (ap (log_in base.core.id) (sym h.is) ∙ b.silent)) in
+          let none : log_in base.core.id h.mid ≡ [] = right_none (log_in base.core.id front) (log_in base.core.id h.mid) (sym (log_append base.core.id front h.mid) ∙ (ap (log_in base.core.id) (sym h.is) ∙ b.silent)) in
           let there : named_group base.core.id (world_of scenario.groups b.first).groups ≡ Some u =
           ap (λ es. named_group base.core.id (world_of scenario.groups es).groups) h.is
           ∙ (ap (λ (w : StoreWorld). named_group base.core.id w.groups) (world_append (first_world scenario.groups) front h.mid)

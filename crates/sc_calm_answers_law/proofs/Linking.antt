@@ -39,6 +39,7 @@ use Rattle.sc_calm_answers_law.specs.Links.{AreAllFree, LinksWereMembers}
 use Rattle.sc_calm_answers_law.specs.There.{FrontsAreThere}
 use Rattle.sc_calm_answers_law.proofs.Known.{found, most, ends, last_state}
 use Rattle.sc_calm_answers_law.proofs.KnownReaching.{last, has_replica, link_of}
+use Rattle.sc_calm_answers_law.proofs.Cuts.{first_held}
 
 -- ---- a key at a position
 
@@ -47,13 +48,6 @@ key_at p = p / 16777216 ∷ (p / 65536) % 256 ∷ (p / 256) % 256 ∷ p % 256 �
 
 key_there : (p : ℕ) → p < 2 ^ 32 → pos_of (key_at p) ≡ p
 key_there p low = omega arith
-
--- an arc holds its first position
-first_held : (arc : Arc) → IsArc arc × (arc.lo < 2 ^ 32) → IsTrue (holds arc arc.lo)
-first_held arc is = lt-ltb (offset arc arc.lo) arc.len (near arc.lo arc.len is.1 is.0.some)
-  where
-    near : (lo len : ℕ) → lo < 2 ^ 32 → 1 ≤ len → ((lo + 2 ^ 32) - lo) % 2 ^ 32 < len
-    near lo len a b = omega arith
 
 module _ (scenario : Scenario) (front : Rows) (map : IsOneMap (world_at as_nodes scenario.groups front)) (logs : AreItsLogs as_nodes scenario.groups front) (apart : (one other : Base) → Among one (groups_at as_nodes scenario.groups front) → Among other (groups_at as_nodes scenario.groups front) → one.core.id ≡ other.core.id → one ≡ other)
     (free : AreAllFree scenario front) (arcs : (base : Base) → Among base (groups_at as_nodes scenario.groups front) → (decided_state as_nodes base front).core.gone ≡ None → IsArc (decided_state as_nodes base front).core.arc × ((decided_state as_nodes base front).core.arc.lo < 2 ^ 32)) where

@@ -50,14 +50,12 @@ use Rattle.sc_calm_groups_law.specs.Through.{IsWellPlayer, AreWellBorn}
 use Rattle.sc_calm_answers_law.specs.Meeting.{MeetsMail, IsPlain, NeedsBesides, IsNoRequest, NeedsAt}
 use Rattle.sc_calm_answers_law.proofs.Elsewhere.{IsApart, owes_same, owes_most, stands_here, elsewhere_apart, apart_off, none_of}
 use Rattle.sc_calm_answers_law.proofs.FindingRows.{next_with, still_named, IsLeft, left_by, nines_at, stays_behind}
+use Rattle.std.proofs.lemmas.Option.{same_Some}
 
 -- a player that is born well, as what is said of it later
 pub plays_of : (who : ℕ) (player : Player) → IsWellPlayer who player → Plays who player
 plays_of who (Node node) k = (k.0, subst (λ m. Each (IsWellKept m) node.replicas) k.0 k.1)
 plays_of who (Client client) k = tt
-
-some_is : (one other : Draw) → Some one ≡ Some other → one ≡ other
-some_is one other e = cc
 
 module _ (at : Sets) (over : Ends) (by : Tellers) (words : ℕ → ℕ → ℕ × ℕ) (births : List (Seat Player)) (front rows : Rows) (seat : Seat Player) (number : ℕ) (mail : Mail) (node : NodeState) (base : Base) (course : Course)
     (m : MeetsMail at over by words births front rows seat number mail node base course) (apart : are_apart births ≡ true) (born : AreWellBorn births) (comes : may_come mail.from mail.body ≡ true)
@@ -133,14 +131,14 @@ module _ (at : Sets) (over : Ends) (by : Tellers) (words : ℕ → ℕ → ℕ �
   pub misses_body : replica_of base.core.id node.replicas ≡ None → (b : MailBody) → mail.body ≡ b → IsNoRequest b → Calm
   misses_body none (Request g client seq op) e k = absurd k
   misses_body none (Learn g slot command) e k =
-      let g_is : g ≡ name = some_is g name (sym (ap group_of_mail e) ∙ group) in
+      let g_is : g ≡ name = same_Some g name (sym (ap group_of_mail e) ∙ group) in
       let body : mail.body ≡ Learn name slot command = e ∙ ap (λ n. Learn n slot command) g_is in
       let is : mark_of name mail.from mail.body ≡ Some (Tells slot) = ap (mark_of name mail.from) body ∙ same_mark name (Tells slot) in
       elim (m.sent.finds rows seat number mail node m.delivers m.seated m.is none) [
         | inl unmarked ↦ (let bad : Some (Tells slot) ≡ None = sym is ∙ unmarked in cc)
         | inr i ↦ (let bad : Learn name slot command ≡ Install name i.0 i.1 i.2 = sym body ∙ i.3 in cc)
       ]
-  misses_body none (Install g slot state sets) e k = makes slot state sets (e ∙ ap (λ n. Install n slot state sets) (some_is g name (sym (ap group_of_mail e) ∙ group))) none
+  misses_body none (Install g slot state sets) e k = makes slot state sets (e ∙ ap (λ n. Install n slot state sets) (same_Some g name (sym (ap group_of_mail e) ∙ group))) none
   misses_body none (Answer g seq answer) e k = (let bad : None ≡ Some name = sym (ap group_of_mail e) ∙ group in cc)
   misses_body none (ToldMail order result) e k = (let bad : None ≡ Some name = sym (ap group_of_mail e) ∙ group in cc)
   misses_body none (Prepare g ballot from_slot) e k = misses none (subst MayMiss (sym e) tt)
@@ -304,16 +302,16 @@ module _ (at : Sets) (over : Ends) (by : Tellers) (words : ℕ → ℕ → ℕ �
 
     pub by_body : (b : MailBody) → mail.body ≡ b → NeedsBesides ways r b → Calm
     by_body (Request g client seq op) e k =
-        takes_still (Request g client seq op) e (found_name name node.replicas r here ∙ sym (some_is g name (sym (ap group_of_mail e) ∙ group)), pumps k.0, k.1) refl
+        takes_still (Request g client seq op) e (found_name name node.replicas r here ∙ sym (same_Some g name (sym (ap group_of_mail e) ∙ group)), pumps k.0, k.1) refl
     by_body (Prepare g ballot from_slot) e k =
-        let body : mail.body ≡ Prepare name ballot from_slot = e ∙ ap (λ n. Prepare n ballot from_slot) (some_is g name (sym (ap group_of_mail e) ∙ group)) in
+        let body : mail.body ≡ Prepare name ballot from_slot = e ∙ ap (λ n. Prepare n ballot from_slot) (same_Some g name (sym (ap group_of_mail e) ∙ group)) in
         let is : mark_of name mail.from mail.body ≡ Some (Prepares ballot) = ap (mark_of name mail.from) body ∙ same_mark name (Prepares ballot) in
         takes_still (Prepare g ballot from_slot) e (goes_on at words births rows seat node base course scene r row.was ballot (known at words births rows seat node base course scene number mail takes (Prepares ballot) is)) (still_named (next r) name g (Prepares ballot) refl)
     by_body (Promise g ballot reports) e k =
-        let body : mail.body ≡ Promise name ballot reports = e ∙ ap (λ n. Promise n ballot reports) (some_is g name (sym (ap group_of_mail e) ∙ group)) in
+        let body : mail.body ≡ Promise name ballot reports = e ∙ ap (λ n. Promise n ballot reports) (same_Some g name (sym (ap group_of_mail e) ∙ group)) in
         takes_still (Promise g ballot reports) e (m.sent.plain rows seat number mail ballot reports m.delivers body, pumps k) (still_named (next r) name g (Promises mail.from ballot) refl)
     by_body (Accept g ballot slot command) e k =
-        let body : mail.body ≡ Accept name ballot slot command = e ∙ ap (λ n. Accept n ballot slot command) (some_is g name (sym (ap group_of_mail e) ∙ group)) in
+        let body : mail.body ≡ Accept name ballot slot command = e ∙ ap (λ n. Accept n ballot slot command) (same_Some g name (sym (ap group_of_mail e) ∙ group)) in
         let is : mark_of name mail.from mail.body ≡ Some (Asks ballot slot) = ap (mark_of name mail.from) body ∙ same_mark name (Asks ballot slot) in
         let fits = fit at words births rows seat node base course scene number mail takes r has (Asks ballot slot) is after row in
         takes_still (Accept g ballot slot command) e
@@ -323,11 +321,11 @@ module _ (at : Sets) (over : Ends) (by : Tellers) (words : ℕ → ℕ → ℕ �
         counts : MayCount slot r
         counts = elim (cases_Bool r.running) [ inl runs ↦ k runs | inr off ↦ inl off ]
     by_body (Nack g promised) e k =
-        let body : mail.body ≡ Nack name promised = e ∙ ap (λ n. Nack n promised) (some_is g name (sym (ap group_of_mail e) ∙ group)) in
+        let body : mail.body ≡ Nack name promised = e ∙ ap (λ n. Nack n promised) (same_Some g name (sym (ap group_of_mail e) ∙ group)) in
         takes_still (Nack g promised) e (m.sent.nacks rows seat number mail promised r m.delivers body row.was) refl
-    by_body (Learn g slot command) e k = learns slot command (e ∙ ap (λ n. Learn n slot command) (some_is g name (sym (ap group_of_mail e) ∙ group)))
-    by_body (Ask g from_slot) e k = absurd (m.sent.asks rows seat number mail from_slot m.delivers (e ∙ ap (λ n. Ask n from_slot) (some_is g name (sym (ap group_of_mail e) ∙ group))))
-    by_body (Install g slot state sets) e k = installs slot state sets (e ∙ ap (λ n. Install n slot state sets) (some_is g name (sym (ap group_of_mail e) ∙ group)))
+    by_body (Learn g slot command) e k = learns slot command (e ∙ ap (λ n. Learn n slot command) (same_Some g name (sym (ap group_of_mail e) ∙ group)))
+    by_body (Ask g from_slot) e k = absurd (m.sent.asks rows seat number mail from_slot m.delivers (e ∙ ap (λ n. Ask n from_slot) (same_Some g name (sym (ap group_of_mail e) ∙ group))))
+    by_body (Install g slot state sets) e k = installs slot state sets (e ∙ ap (λ n. Install n slot state sets) (same_Some g name (sym (ap group_of_mail e) ∙ group)))
     by_body (TxPrepare tx offer) e k = takes_still (TxPrepare tx offer) e (pumps k.0, k.1, k.2) refl
     by_body (TxVote tx coord part vote) e k = takes_still (TxVote tx coord part vote) e (pumps k) refl
     by_body (TxOutcome tx part outcome) e k = takes_still (TxOutcome tx part outcome) e (pumps k) refl

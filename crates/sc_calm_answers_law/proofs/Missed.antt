@@ -36,6 +36,7 @@ use Rattle.sc_sound.specs.Players.{Player}
 use Rattle.sc_calm_scenes_law.specs.Making.{Led as JoinsLed, Unled as JoinsUnled}
 use Rattle.sc_calm_scenes_law.proofs.Viewing.{no_lead as no_scene_lead}
 use Rattle.sc_mail.specs.declared.bodies.MailBody.TheVariants.{Told as ToldMail}
+use Rattle.std.proofs.lemmas.Option.{same_Some}
 
 -- ---- a state
 
@@ -88,16 +89,13 @@ state_named words births rows seat number mail group node base named t g there s
     (state_found words births rows seat number mail base node (subst (λ n. IsTaking words births rows seat number mail n node) (sym named) t) g (subst (IsThere births rows) (sym named) there) slot state sets
     (body ∙ ap (λ n. Install n slot state sets) (sym named)))
 
-some_draw : (one_ other : Draw) → Some one_ ≡ Some other → one_ ≡ other
-some_draw one_ other e = cc
-
 module _ (words : ℕ → ℕ → ℕ × ℕ) (births : List (Seat Player)) (rows : Rows) (seat : Seat Player) (number : ℕ) (mail : Mail) (group : Draw) (node : NodeState) (t : IsTaking words births rows seat number mail group node) (p : IsPosted births mail)
     (states : (slot : ℕ) (state : Base) (sets : List (List ℕ)) → mail.body ≡ Install group slot state sets → IsNamedGuide words births rows seat (Deliver number) group × IsThere births rows group) where
   missed_by : (body : MailBody) → mail.body ≡ body → NodeFinds births rows seat number mail group body
   missed_by (TxPrepare tx offer) e = offers_own births mail tx offer e p
   missed_by (TxWatch tx watch) e = watches_own births mail tx watch e p
   missed_by (Install named slot state sets) e =
-      let own : named ≡ group = some_draw named group (ap group_of_mail (sym e) ∙ t.named) in
+      let own : named ≡ group = same_Some named group (ap group_of_mail (sym e) ∙ t.named) in
       let body : mail.body ≡ Install group slot state sets = e ∙ ap (λ n. Install n slot state sets) own in
       let guide = states slot state sets body in
       state_named words births rows seat number mail group node guide.0.base guide.0.named t guide.0.guided guide.1 slot state sets body

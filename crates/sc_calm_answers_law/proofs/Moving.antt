@@ -43,12 +43,11 @@ use Rattle.sc_machine_table.specs.Splits.{has_named, staying, left_group}
 use Rattle.sc_machine_table.specs.Transactions.{begun_group, aborted, committed, heard_group, granted, participant_answered, asks_watcher, vote_recorded, released, watch_answered, watch_recorded, is_coordinating}
 use Rattle.sc_machine_table.specs.Votes.{has_voted, vote_of, watch_vote_of, voted_on}
 use Rattle.sc_machine_table.specs.Logs.{state_after}
+use Rattle.sc_calm_answers_law.proofs.Cores.{called_core, cond_core, cond_either, numbered_core, served_core}
+use Rattle.sc_hist_law.proofs.Logs.{ordered_either}
+use Rattle.sc_calm_answers_law.proofs.Entering.{or_map}
 
 -- ---- members
-
-or_map : (b c d : Bool) → (c ≡ true → d ≡ true) → (b || c) ≡ true → (b || d) ≡ true
-or_map true c d f e = refl
-or_map false c d f e = f e
 
 or_skip : (b d : Bool) → d ≡ true → (b || d) ≡ true
 or_skip true d e = refl
@@ -76,38 +75,6 @@ united_kept members [] who m = m
 united_kept members (x ∷ others) who m = united_kept (with_any members x) others who (any_kept members x who m)
 
 -- ---- the core of the group stays
-
-cond_core : (group : Group) (b : Bool) (x y : Group × Effect) → x.0.core ≡ group.core → y.0.core ≡ group.core → (cond b x y).0.core ≡ group.core
-cond_core group true x y e f = e
-cond_core group false x y e f = f
-
-numbered_core : (o : Option Noted) (group : Group) (client seq : ℕ) (op : Op) → (served_by_note o group client seq op).0.core ≡ group.core
-numbered_core None group client seq op = refl
-numbered_core (Some n) group client seq op =
-    cond_core group (nat_lt n.seq seq) (done group client seq op) (cond (eqb n.seq seq) (group, Again n.reply) (group, Stale n.seq)) refl
-    (cond_core group (eqb n.seq seq) (group, Again n.reply) (group, Stale n.seq) refl refl)
-
-served_core : (group : Group) (client seq : ℕ) (op : Op) → (served group client seq op).0.core ≡ group.core
-served_core group client seq op =
-    cond_core group (holds_key group.core.arc (key_of op)) (served_by_note (get group.clients client) group client seq op) (group, NotMine group.core.arc group.core.succ)
-    (numbered_core (get group.clients client) group client seq op) refl
-
-called_core : (gone : Option Route) (lock : Lock) (group : Group) (client seq : ℕ) (op : Op) → (called gone lock group client seq op).0.core ≡ group.core
-called_core (Some into) lock group client seq op = refl
-called_core None Free group client seq op = served_core group client seq op
-called_core None (Watching tx watch) group client seq op = served_core group client seq op
-called_core None (Coordinating tx body order heard) group client seq op = refl
-called_core None (Promised tx offer) group client seq op = refl
-
--- an order makes the group another one, or leaves it
-ordered_either : (P : Group → Type 0) (gone : Option Route) (why : Option OrderRefusal) (after group : Group) → P after → P group → P (ordered gone why after group).0
-ordered_either P (Some into) why after group p q = q
-ordered_either P None (Some why) after group p q = q
-ordered_either P None None after group p q = p
-
-cond_either : (P : Group → Type 0) (b : Bool) (x y : Group × Effect) → P x.0 → P y.0 → P (cond b x y).0
-cond_either P true x y p q = p
-cond_either P false x y p q = q
 
 -- no member is lost, or nobody comes
 abbrev MovesOneWay : Core → Core → Type 0

@@ -26,14 +26,9 @@ use Rattle.sc_names_law.specs.Fresh.{BeginsUndrawn, IsUsed, NamesAreDrawn}
 use Rattle.sc_names_law.specs.Names.{CoreNames, OutcomeNames, PastNames, PlayerNames, ReplicaNames}
 use Rattle.sc_calm_law.specs.Totals.{Rows}
 use Rattle.sc_calm_rows_law.specs.Groups.{replica_in, view_at}
+use Rattle.sc_calm_answers_law.proofs.Drawn.{undrawn_to}
 
 -- ---- the groups of a scenario
-
-undrawn_to : (lines : List GroupLine) (n : ℕ) → Each BeginsUndrawn (bases_up_to lines n)
-undrawn_to lines zero = tt
-undrawn_to lines (suc n) =
-    Each-append BeginsUndrawn (bases_up_to lines n) (base_at lines n ∷ []) (undrawn_to lines n)
-    (record { id = refl; succ = refl; pred = refl; free = refl; decided = refl; voted = refl; born = refl; here = refl }, tt)
 
 pub undrawn : (scenario : Scenario) → IsBounded scenario → Each BeginsUndrawn scenario.groups
 undrawn scenario bounded = subst (Each BeginsUndrawn) (sym bounded.groups) (undrawn_to bounded.starts (length bounded.starts))

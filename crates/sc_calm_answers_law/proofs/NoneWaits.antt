@@ -45,9 +45,7 @@ use Rattle.sc_calm_answers_law.proofs.Leading.{gives}
 use Rattle.sc_calm_answers_law.proofs.NoneWaiting.{off_none, idle_none, mailed_ends, order_ends, made_none}
 use Rattle.sc_calm_answers_law.proofs.OrderedKnown.{named_there}
 use Rattle.sc_calm_answers_law.proofs.Turned.{IsTurn, TurnRests, TurnBears, TurnTakes, TurnMakes, TurnTold, turn_of}
-
-some_is : {X : Type 0} (x y : X) → Some x ≡ Some y → x ≡ y
-some_is x y e = cc
+use Rattle.std.proofs.lemmas.Option.{same_Some}
 
 -- one that runs or not
 none_at : (r : ReplicaState) → (r.running ≡ true → HasNoneWaiting r) → HasNoneWaiting r
@@ -88,7 +86,7 @@ module _ (pump_law : PumpsLeaveNone) (idle_law : JournalsKeepIdle) (wb : Scenari
 
     -- what the row left of it
     ends : (x : ReplicaState) → view_at all then base.core.id seat.who ≡ Some x → (1 ≤ length x.sets → HasNoneWaiting x) → HasNoneWaiting r
-    ends x is none = subst (λ (y : ReplicaState). 1 ≤ length y.sets → HasNoneWaiting y) (some_is x r (sym is ∙ e)) none some
+    ends x is none = subst (λ (y : ReplicaState). 1 ≤ length y.sets → HasNoneWaiting y) (same_Some x r (sym is ∙ e)) none some
 
     by_turn : IsTurn (logged_sets as_nodes base journal) (tellers_at as_nodes scenario base journal) words all rows seat event base → HasNoneWaiting r
     by_turn (TurnRests same idle) = had_at base.core.id seat.who r (sym same ∙ e)

@@ -39,7 +39,7 @@ pub record IsOpened (group : Group) (tx asked : Draw) (turn : Turn) (made : Grou
   pub asked_is : asked ≡ group.core.succ.group
   pub turn_is : turn ≡ turn_of group.core body None
 
-no_asking : (tx asked : Draw) (turn : Turn) → Unbound ≡ Asking tx asked turn → ⊥
+pub no_asking : (tx asked : Draw) (turn : Turn) → Unbound ≡ Asking tx asked turn → ⊥
 no_asking tx asked turn e = cc
 
 no_bound : (tx : Draw) → Unbound ≡ Bound tx → ⊥

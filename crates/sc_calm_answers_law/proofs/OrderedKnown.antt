@@ -49,38 +49,13 @@ use Rattle.sc_calm_answers_law.specs.Strangers.{NoMailForStrangers}
 use Rattle.sc_calm_answers_law.specs.Journal.{IsCalmJournal, IsFront, AreSent, GoesOnBy, IsNamedGroup}
 use Rattle.sc_calm_answers_law.specs.JournalUnder.{IsUnder, IsYoungAt}
 use Rattle.sc_calm_answers_law.proofs.Delivering.{there_or}
+use Rattle.sc_calm_answers_law.proofs.Children.{unmarked}
 
 -- ---- marks
 
--- a mail of another group has no mark for this one
-mark_none : (name : Draw) (from : ℕ) (body : MailBody) → (group_of_mail body ≡ Some name → ⊥) → mark_of name from body ≡ None
-mark_none name from body = by body
-  where
-    unnamed : (group : Draw) (m : Mark) → (Some group ≡ Some name → ⊥) → named_mark name group m ≡ None
-    unnamed group m ne = elim (cases_Bool (same_draw group name)) [ inl t ↦ absurd (ne (ap Some (draw_is group name t))) | inr f ↦ cond-false (same_draw group name) (Some m) None f ]
-
-    by : (b : MailBody) → (group_of_mail b ≡ Some name → ⊥) → mark_of name from b ≡ None
-    by (Accept group ballot slot command) ne = unnamed group (Asks ballot slot) ne
-    by (Accepted group ballot slot) ne = unnamed group (Votes from ballot slot) ne
-    by (Learn group slot command) ne = unnamed group (Tells slot) ne
-    by (Install group slot base sets) ne = unnamed group (Installs slot) ne
-    by (Prepare group ballot from_slot) ne = unnamed group (Prepares ballot) ne
-    by (Promise group ballot reports) ne = unnamed group (Promises from ballot) ne
-    by (Request group client seq op) ne = refl
-    by (Answer group seq answer) ne = refl
-    by (Nack group promised) ne = refl
-    by (Ask group from_slot) ne = refl
-    by (TxPrepare tx offer) ne = refl
-    by (TxVote tx coord part vote) ne = refl
-    by (TxOutcome tx part outcome) ne = refl
-    by (TxElsewhere tx coord hint) ne = refl
-    by (TxWatch tx watch) ne = refl
-    by (TxWatched tx coord part vote) ne = refl
-    by (Told order result) ne = refl
-
 pub no_marks_of : (name : Draw) (mails : List Mail) → Each (λ mail. group_of_mail mail.body ≡ Some name → ⊥) mails → marks_of name mails ≡ []
 no_marks_of name [] none = refl
-no_marks_of name (mail ∷ mails) none = ap (λ (o : Option Mark). listed o ++ marks_of name mails) (mark_none name mail.from mail.body none.0) ∙ no_marks_of name mails none.1
+no_marks_of name (mail ∷ mails) none = ap (λ (o : Option Mark). listed o ++ marks_of name mails) (unmarked name mail.from mail.body none.0) ∙ no_marks_of name mails none.1
 
 -- ---- the newest state
 

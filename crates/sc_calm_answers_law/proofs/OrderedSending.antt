@@ -51,7 +51,7 @@ use Rattle.sc_calm_answers_law.specs.Young.{IsUnanswered}
 use Rattle.sc_calm_answers_law.proofs.Staying.{IsNoneFor, sends_none}
 use Rattle.sc_calm_answers_law.specs.Ordered.{IsOfJournal}
 
-each_filter : {X : Type 0} (P : X → Type 0) (test : X → Bool) (xs : List X) → Each P xs → Each P (filter test xs)
+pub each_filter : {X : Type 0} (P : X → Type 0) (test : X → Bool) (xs : List X) → Each P xs → Each P (filter test xs)
 each_filter P test [] e = tt
 each_filter P test (x ∷ xs) e = either_way (Each P) (test x) (x ∷ filter test xs) (filter test xs) (e.0, each_filter P test xs e.1) (each_filter P test xs e.1)
 

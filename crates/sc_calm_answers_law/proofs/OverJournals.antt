@@ -27,13 +27,9 @@ use Rattle.sc_budget_law.specs.AskingQuiet.{IsQuietJournal, replicas_after}
 use Rattle.sc_calm_answers_law.specs.Resting.{RestsAt}
 use Rattle.sc_calm_answers_law.specs.OverEnding.{QuietFrontsRest}
 use Rattle.sc_calm_answers_law.specs.OverJournals.{RestsBesides, QuietJournalsRest}
+use Rattle.sc_calm_answers_law.proofs.KeptTelling.{no_works}
 
 -- ---- replicas that rest
-
-rest_works : (r : ReplicaState) → IsAtRest r → works r ≡ []
-rest_works r k =
-    ap (λ l. works_in l ++ (works_in r.calls ++ (works_flying r.leader.flights ++ works_ready r.ready))) k.acts
-    ∙ (ap (λ l. works_in l ++ (works_flying r.leader.flights ++ works_ready r.ready)) k.calls ∙ (ap (λ l. works_flying l ++ works_ready r.ready) k.flights ∙ ap works_ready k.ready))
 
 -- at these nodes each replica is one of those
 module _ (at : ℕ → Option ReplicaState) (rests : (node : ℕ) (r : ReplicaState) → at node ≡ Some r → IsAtRest r) where
@@ -43,7 +39,7 @@ module _ (at : ℕ → Option ReplicaState) (rests : (node : ℕ) (r : ReplicaSt
 
   works_here : (o : Option ReplicaState) → ((r : ReplicaState) → o ≡ Some r → IsAtRest r) → works_of o ≡ []
   works_here None k = refl
-  works_here (Some r) k = rest_works r (k r refl)
+  works_here (Some r) k = no_works r (k r refl)
 
   either_of : (c : Bool) (a b r : ReplicaState) → cond c (Some a) (Some b) ≡ Some r → (Some a ≡ Some r) ⊎ (Some b ≡ Some r)
   either_of true a b r l = inl l

@@ -35,19 +35,12 @@ use Rattle.sc_calm_groups_law.proofs.Resting.{quiet_groups_led}
 use Rattle.sc_calm_answers_law.specs.States.{state_at, ReplicasRunLogs}
 use Rattle.sc_calm_answers_law.specs.Rests.{replicas_at, IsQuietGroup, SawNoMore, QuietGroupsStand, IsTakenIn, QuietGroupsAreGone}
 use Rattle.sc_calm_answers_law.proofs.Facts.{opens_same, set_slot, at, over, all, now, view, even, place, has_one, newest_next, members_have, states, kept, room, same_state, ran}
-
-none_of : {X : Type 0} (o : Option X) → is_some o ≡ false → o ≡ None
-none_of None e = refl
-none_of (Some x) e = cc
+use Rattle.sc_calm_answers_law.proofs.KnownGroups.{none_taken}
+use Rattle.sc_calm_answers_law.proofs.Elsewhere.{none_of}
 
 some_of : {X : Type 0} (o : Option X) → is_some o ≡ true → (x : X) × (o ≡ Some x)
 some_of (Some x) e = (x, refl)
 some_of None e = cc
-
--- nothing is taken where nothing is in flight or ready
-none_taken : (lead : ReplicaState) (slot : ℕ) → lead.leader.flights ≡ [] → lead.ready ≡ [] → taken_at lead slot ≡ None
-none_taken lead slot flights ready =
-    ap (λ (fs : List (Flight Command)). either (option_map (λ flight. flight.value) (flight_at slot fs)) (at_slot lead.ready slot)) flights ∙ ap (λ (es : List (ℕ × Command)). at_slot es slot) ready
 
 module _ (run : ReplicasRunLogs) (by : Tellers) (words : ℕ → ℕ → ℕ × ℕ) (scenario : Scenario) (journal front : Rows) (base : Base) (course : Course) (q : IsQuietGroup by words scenario journal front base course) where
   abbrev sets : Sets

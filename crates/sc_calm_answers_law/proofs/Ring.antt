@@ -33,6 +33,7 @@ use Rattle.sc_ideal.specs.History.{contents_after}
 use Rattle.sc_ring_law.proofs.Insides.{InsideOf, inside_part, room_of}
 use Rattle.sc_ring_law.proofs.View.{Holds, IsOnRing}
 use Rattle.sc_calm_answers_law.proofs.Fits.{Meets}
+use Rattle.sc_calm_answers_law.proofs.Cuts.{first_held}
 
 -- ---- names
 
@@ -62,10 +63,6 @@ key_there p low = omega arith
 
 near : (lo len : ℕ) → lo < 2 ^ 32 → 1 ≤ len → ((lo + 2 ^ 32) - lo) % 2 ^ 32 < len
 near lo len a b = omega arith
-
--- an arc holds its first position
-first_held : (arc : Arc) → IsArc arc × (arc.lo < 2 ^ 32) → IsTrue (holds arc arc.lo)
-first_held arc is = lt-ltb (offset arc arc.lo) arc.len (near arc.lo arc.len is.1 is.0.some)
 
 -- .. and its last
 last_of : Arc → ℕ

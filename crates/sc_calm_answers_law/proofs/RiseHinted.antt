@@ -61,9 +61,7 @@ use Rattle.sc_calm_mail_law.specs.Idle.{JournalsKeepIdle}
 use Rattle.sc_calm_answers_law.proofs.Asked.{kept_of, turn, s, named_is, own_name, marked, dated_is, most, goes}
 use Rattle.sc_calm_answers_law.proofs.Seeing.{stays_or_may, entered_top}
 use Rattle.sc_calm_answers_law.proofs.Turned.{TurnsMail, IsTurn, TurnRests, TurnBears, TurnTakes, TurnMakes, TurnTold}
-
-some_is : {X : Type 0} (x y : X) → Some x ≡ Some y → x ≡ y
-some_is x y e = cc
+use Rattle.std.proofs.lemmas.Option.{same_Some}
 
 -- votes and promises that no leader counts leave whom it takes for that
 vote_hint : (from : ℕ) (group : Draw) (ballot : Ballot) (slot : ℕ) (r : ReplicaState) → r.running ≡ false → (mailed from (Accepted group ballot slot) (r, [])).0.0.hint ≡ r.hint
@@ -165,7 +163,7 @@ module _ (words : ℕ → ℕ → ℕ × ℕ) (at : Sets) (over : Ends) (by : Te
 
     module _ (mark : Mark) (took : taken_mark base.core.id (mails rows) event ≡ Some mark) (off : r.running ≡ false) (other : course.runs ≡ true → seat.who ≡ course.ballot.node → ⊥) (steps : (mailed mail.from mail.body (r, [])).0.0.running ≡ false) (reaches : (slot : ℕ) → mark ≡ Tells slot → next (mailed mail.from mail.body (r, [])).0.0 ≡ suc slot) where
       as_mark : (own_mark : Mark) → mark_of base.core.id mail.from mail.body ≡ Some own_mark → Hinted own_mark → Hinted mark
-      as_mark own_mark is h = subst Hinted (some_is own_mark mark (sym (mark_is own_mark is) ∙ took)) h
+      as_mark own_mark is h = subst Hinted (same_Some own_mark mark (sym (mark_is own_mark is) ∙ took)) h
 
       unmarked : mark_of base.core.id mail.from mail.body ≡ None → Hinted mark
       unmarked none =
@@ -197,7 +195,7 @@ module _ (words : ℕ → ℕ → ℕ × ℕ) (at : Sets) (over : Ends) (by : Te
           let body : mail.body ≡ Learn name slot command = e ∙ ap (λ n. Learn n slot command) (named_as g (ap group_of_mail e)) in
           let is : mark_of name mail.from mail.body ≡ Some (Tells slot) = ap (mark_of name mail.from) body ∙ same_mark name (Tells slot) in
           elim (told_or slot command body off) [
-            | inl stays ↦ as_mark (Tells slot) is (told_hint slot command body off stays (reaches slot (some_is mark (Tells slot) (sym took ∙ mark_is (Tells slot) is))))
+            | inl stays ↦ as_mark (Tells slot) is (told_hint slot command body off stays (reaches slot (same_Some mark (Tells slot) (sym took ∙ mark_is (Tells slot) is))))
             | inr may ↦ absurd (elected_runs slot command body off may)
           ]
         where
@@ -249,7 +247,7 @@ module _ (words : ℕ → ℕ → ℕ × ℕ) (at : Sets) (over : Ends) (by : Te
 
         ends : (after.0.hint ≡ hint_by at by r.acceptor.promised r.hint mark) ⊎ ((course.gone ≡ true) × (next after.0 ≡ course.newest)) → Goal
         ends (inl said) = inl (
-            ap (hint_in base) row_.is ∙ (said ∙ (ap (λ x. hint_by at by r.acceptor.promised r.hint x) (some_is mark m (sym took ∙ e)) ∙ ap (λ o. hint_by at by (promise_in base o) (hint_in base o) m) (sym row_.was)))
+            ap (hint_in base) row_.is ∙ (said ∙ (ap (λ x. hint_by at by r.acceptor.promised r.hint x) (same_Some mark m (sym took ∙ e)) ∙ ap (λ o. hint_by at by (promise_in base o) (hint_in base o) m) (sym row_.was)))
             )
         ends (inr over_) = inr (over_.0, ap (next_in base seat.who) row_.is ∙ over_.1)
 
@@ -259,9 +257,9 @@ module _ (words : ℕ → ℕ → ℕ × ℕ) (at : Sets) (over : Ends) (by : Te
         by_turn (TurnRests same none) = absurd (none_taken none)
         by_turn (TurnTold line node q t) = absurd (none_taken (ap (taken_mark name (mails rows)) t.event_is))
         by_turn (TurnTakes number mail node q t) =
-            let here : q ≡ r = some_is q r (sym t.row_.was ∙ row_.was) in
+            let here : q ≡ r = same_Some q r (sym t.row_.was ∙ row_.was) in
             let viewed : view_at all (with_event rows seat event) base.core.id seat.who ≡ Some (mailed mail.from mail.body (q, [])).0.0 = ap (λ e_. view_at all (with_event rows seat e_) name seat.who) t.event_is ∙ t.row_.is in
-            let there : (mailed mail.from mail.body (q, [])).0.0 ≡ after.0 = some_is (mailed mail.from mail.body (q, [])).0.0 after.0 (sym viewed ∙ row_.is) in
+            let there : (mailed mail.from mail.body (q, [])).0.0 ≡ after.0 = same_Some (mailed mail.from mail.body (q, [])).0.0 after.0 (sym viewed ∙ row_.is) in
             let off : q.running ≡ false = apart_off at words all rows seat node base course (the_scene number mail node q t) q t.row_.was other in
             let off_r : r.running ≡ false = ap (λ (x : ReplicaState). x.running) (sym here) ∙ off in
             let still : (mailed mail.from mail.body (q, [])).0.0.running ≡ false = ap (λ (x : ReplicaState). x.running) there ∙ (steps.runs ∙ off_r) in

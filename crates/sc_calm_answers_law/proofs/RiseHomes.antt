@@ -59,14 +59,12 @@ use Rattle.sc_calm_answers_law.proofs.Lists.{pledged_rises}
 use Rattle.sc_calm_answers_law.proofs.Said.{IsRefusal, AreSaid}
 use Rattle.sc_calm_answers_law.proofs.SaidNodes.{found_named, MayRefuse, input_said}
 use Rattle.sc_calm_answers_law.proofs.SaidRows.{Refuses}
+use Rattle.std.proofs.lemmas.Option.{same_Some}
 
 -- a refusal that an event delivers to a replica of the group names no later ballot than that saw
 abbrev pub RefusesOld : List (Seat Player) → Rows → Seat Player → Event OrderLine → Base → Type 0
 RefusesOld births rows seat event base =
     (number : ℕ) (mail : Mail) (promised : Ballot) (r : ReplicaState) → event ≡ Deliver number → numbered (mails rows) number ≡ Some mail → mail.body ≡ Nack base.core.id promised → view_at births rows base.core.id seat.who ≡ Some r → below r.top promised ≡ false
-
-some_is : {X : Type 0} (x y : X) → Some x ≡ Some y → x ≡ y
-some_is x y e = cc
 
 -- ---- lists
 
@@ -303,13 +301,13 @@ module _ (words : ℕ → ℕ → ℕ × ℕ) (at : Sets) (over : Ends) (by : Te
 
       refused_by : (body : MailBody) → mail.body ≡ body → Refuses r.acceptor body → mail.from ≡ r.acceptor.promised.node
       refused_by (Prepare g ballot from_slot) e n =
-          let named : g ≡ name = some_is g name (sym (ap group_of_mail e) ∙ group) in
+          let named : g ≡ name = same_Some g name (sym (ap group_of_mail e) ∙ group) in
           let mark : mark_of base.core.id mail.from mail.body ≡ Some (Prepares ballot) = ap (mark_of name mail.from) e ∙ (ap (λ g_. mark_of name mail.from (Prepare g_ ballot from_slot)) named ∙ same_mark name (Prepares ballot)) in
           let same : ballot ≡ r.acceptor.promised = same_from_at_least ballot r.acceptor.promised (fit_first (Prepares ballot) mark).0.1 n in
           let own : mail.from ≡ ballot.node = subst (IsOwnAsking mail.from) e own_mail in
           own ∙ ap (λ (b : Ballot). b.node) same
       refused_by (Accept g ballot slot command) e n =
-          let named : g ≡ name = some_is g name (sym (ap group_of_mail e) ∙ group) in
+          let named : g ≡ name = same_Some g name (sym (ap group_of_mail e) ∙ group) in
           let mark : mark_of base.core.id mail.from mail.body ≡ Some (Asks ballot slot) = ap (mark_of name mail.from) e ∙ (ap (λ g_. mark_of name mail.from (Accept g_ ballot slot command)) named ∙ same_mark name (Asks ballot slot)) in
           let own : mail.from ≡ ballot.node = subst (IsOwnAsking mail.from) e own_mail in
           own ∙ ap (λ (b : Ballot). b.node) (fit_first (Asks ballot slot) mark).0.2
@@ -393,7 +391,7 @@ module _ (words : ℕ → ℕ → ℕ × ℕ) (at : Sets) (over : Ends) (by : Te
     refuses_old number mail promised r event_is sent_at body view =
         let c : IsCalmEvent (players words all) rows seat.who (Deliver number) = subst (IsCalmEvent (players words all) rows seat.who) event_is calm in
         let f = takes_first (players words all) rows seat.who number (in_time_tidy (players words all) rows before) (is_born-from (players words all) seat.who seat born) c in
-        let same : f.mail ≡ mail = some_is f.mail mail (sym f.sent ∙ sent_at) in
+        let same : f.mail ≡ mail = same_Some f.mail mail (sym f.sent ∙ sent_at) in
         let to : mail.to ≡ seat.who = ap (λ (m : Mail). m.to) (sym same) ∙ f.receiver in
         let seen = Each-among (RefusesSeen all rows base) (mails rows) mail home.refused (number_among (mails rows) number mail sent_at) promised body in
         let here : top_in base (view_at all rows base.core.id promised.node) ≡ r.top = ap (λ n. top_in base (view_at all rows name n)) (sym seen.0 ∙ to) ∙ ap (top_in base) view in

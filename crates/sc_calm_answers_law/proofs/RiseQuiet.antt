@@ -28,9 +28,7 @@ use Rattle.sc_calm_answers_law.specs.Hinting.{QuietHintsRise}
 use Rattle.sc_calm_answers_law.specs.RiseRising.{IsRisingOn}
 use Rattle.sc_calm_answers_law.proofs.Even.{has_one as even_has, leader as even_leader, over_then as even_over}
 use Rattle.sc_calm_answers_law.proofs.Lists.{round_most, open_or}
-
-some_is : {X : Type 0} (x y : X) → Some x ≡ Some y → x ≡ y
-some_is x y e = cc
+use Rattle.std.proofs.lemmas.Option.{same_Some}
 
 -- a group that says that it is gone
 gone_of : (o : Option Route) → is_some o ≡ true → (into : Route) × (o ≡ Some into)
@@ -90,7 +88,7 @@ module _ (words : ℕ → ℕ → ℕ × ℕ) (at : Sets) (over : Ends) (by : Te
     apart : course.runs ≡ true → node ≡ course.ballot.node → ⊥
     apart runs is =
         let lead = leader runs in
-        let same : r ≡ lead.0 = some_is r lead.0 (sym here ∙ (ap (view_at all front name) is ∙ lead.1)) in
+        let same : r ≡ lead.0 = same_Some r lead.0 (sym here ∙ (ap (view_at all front name) is ∙ lead.1)) in
         true≢false (sym lead.2 ∙ (ap (λ (x : ReplicaState). x.running) (sym same) ∙ off))
 
     -- one that takes the leader of the ballot for it that it has promised
@@ -119,7 +117,7 @@ module _ (words : ℕ → ℕ → ℕ × ℕ) (at : Sets) (over : Ends) (by : Te
         near : (there : ReplicaState) → view_at all front base.core.id r.top.node ≡ Some there → IsPassed now marks r.top → (there.running ≡ true) ⊎ (((into : Route) × (there.group.core.gone ≡ Some into)) ⊎ (r.top.round < there.top.round))
         near there e (inl same) = elim (cases_Bool course.runs) [
           | inl runs ↦ (let lead = leader runs in
-              let is : lead.0 ≡ there = some_is lead.0 there (sym lead.1 ∙ (ap (λ (b : Ballot). view_at all front name b.node) (sym same) ∙ e)) in
+              let is : lead.0 ≡ there = same_Some lead.0 there (sym lead.1 ∙ (ap (λ (b : Ballot). view_at all front name b.node) (sym same) ∙ e)) in
               inl (ap (λ (x : ReplicaState). x.running) (sym is) ∙ lead.2))
           | inr off_ ↦ (let gone = over_then off_ in
               let last : next there ≡ course.newest = sym (ap (next_in base r.top.node) e) ∙ (ap (λ (b : Ballot). now.next b.node) same ∙ rising.fated.last off_ gone) in

@@ -57,9 +57,7 @@ use Rattle.sc_calm_answers_law.specs.Fates.{AreFated}
 use Rattle.sc_calm_answers_law.proofs.Fates.{idle_fates, takes_fates, leads_fates, elects_fates}
 use Rattle.sc_calm_answers_law.proofs.RiseHinted.{told_fit, own_body, none_flies, told_or, takes_by}
 use Rattle.sc_calm_answers_law.proofs.Lists.{round_most, member_open}
-
-some_is : {X : Type 0} (x y : X) → Some x ≡ Some y → x ≡ y
-some_is x y e = cc
+use Rattle.std.proofs.lemmas.Option.{same_Some}
 
 -- the mark of an entry
 module _ (name : Draw) (slot : ℕ) where
@@ -140,7 +138,7 @@ module _ (words : ℕ → ℕ → ℕ × ℕ) (at : Sets) (over : Ends) (by : Te
   module _ (from slot : ℕ) (state : Base) (sets : List (List ℕ)) (row_ : IsReplicasRow all rows seat event base.core.id None (made_by seat.who from base.core.id slot state sets)) (took : taken_mark base.core.id (mails rows) event ≡ Some (Installs slot)) (logs : IsLogsState at by base slot from state sets) where
     makes_by : GoesBy at by now (progress_at all (with_event rows seat event) base course) seat.who (taken_mark name (mails rows) event) (hints_at all rows base seat.who) (hints_at all (with_event rows seat event) base seat.who)
     makes_by m e other =
-        let is : Installs slot ≡ m = some_is (Installs slot) m (sym took ∙ e) in
+        let is : Installs slot ≡ m = same_Some (Installs slot) m (sym took ∙ e) in
         let first : marks seat.who ≡ Installs slot ∷ (row_in course).left = (row_in course).takes ∙ ap (λ o. listed o ++ (row_in course).left) took in
         let member : is_member state.core.members (by slot) ≡ true = ap (λ ms. is_member ms (by slot)) (sym logs.members_are) ∙ (subst (AreHeeded at by course seat.who (now.promise seat.who) (hints_at all rows base seat.who)) first (was.heeded.heeds seat.who other)).0 in
         inl (ap (hint_in base) row_.is ∙ (ap (λ n. (made_by seat.who n base.core.id slot state sets).0.hint) logs.teller
@@ -184,9 +182,9 @@ module _ (words : ℕ → ℕ → ℕ × ℕ) (at : Sets) (over : Ends) (by : Te
         by_turn (TurnMakes from slot state sets t) = absurd (none_left t.was)
         by_turn (TurnTold line node q t) = absurd (none_taken (ap (taken_mark name (mails rows)) t.event_is))
         by_turn (TurnTakes number mail node q t) =
-            let here : q ≡ r = some_is q r (sym t.row_.was ∙ row_.was) in
+            let here : q ≡ r = same_Some q r (sym t.row_.was ∙ row_.was) in
             let viewed : view_at all (with_event rows seat event) base.core.id seat.who ≡ Some (mailed mail.from mail.body (q, [])).0.0 = ap (λ e_. view_at all (with_event rows seat e_) name seat.who) t.event_is ∙ t.row_.is in
-            let there : (mailed mail.from mail.body (q, [])).0.0 ≡ after.0 = some_is (mailed mail.from mail.body (q, [])).0.0 after.0 (sym viewed ∙ row_.is) in
+            let there : (mailed mail.from mail.body (q, [])).0.0 ≡ after.0 = same_Some (mailed mail.from mail.body (q, [])).0.0 after.0 (sym viewed ∙ row_.is) in
             let mark : mark_of name mail.from mail.body ≡ Some (Tells e.told.0) = sym (ap (mark_in name) t.takes.sent) ∙ (sym (ap (taken_mark name (mails rows)) t.event_is) ∙ e.told.2) in
             let entry = entry_of name e.told.0 mail.from mail.body mark in
             let off_q : q.running ≡ false = ap (λ (x : ReplicaState). x.running) here ∙ off in

@@ -54,10 +54,11 @@ use Rattle.sc_calm_answers_law.specs.Above.{IsAskedOn}
 use Rattle.sc_calm_answers_law.specs.SentJournals.{IsSentOn}
 use Rattle.sc_calm_answers_law.specs.Sent.{SaysWell}
 use Rattle.sc_calm_answers_law.proofs.Accepting.{IsPlainMail, StandsAt, asked_low, polled_stands, nacked_low, nacked_stands}
-use Rattle.sc_calm_answers_law.proofs.Asked.{kept_of, turn, s, named_is, own_name, marked, most, goes, leader_moves}
+use Rattle.sc_calm_answers_law.proofs.Asked.{kept_of, turn, s, named_is, own_name, marked, most, goes, leader_moves, some_none}
 use Rattle.sc_calm_answers_law.proofs.Ballots.{All_, mail_sees, order_sees}
 use Rattle.sc_calm_answers_law.proofs.Seeing.{IsIdleMail, mail_idly, order_idly, told_idly, installed_keeps, made_keeps, stays_or_may, entered_top}
 use Rattle.sc_calm_answers_law.proofs.Turned.{TurnsMail, IsTurn, TurnRests, TurnBears, TurnTakes, TurnMakes, TurnTold}
+use Rattle.std.proofs.lemmas.Option.{same_Some}
 
 -- what of ballots an event of the group may show to the replica of who acts, which becomes another: none that is later than what it saw; the one that it is asked to promise; one that a refusal names; or its own, with which it runs then
 pub data Shows (rows : Rows) (event : Event OrderLine) (base : Base) (r q : ReplicaState) : Type 0 where
@@ -65,12 +66,6 @@ pub data Shows (rows : Rows) (event : Event OrderLine) (base : Base) (r q : Repl
   ShowsAsked : (ballot : Ballot) → taken_mark base.core.id (mails rows) event ≡ Some (Prepares ballot) → q.top ≡ ballot → Shows rows event base r q
   ShowsRefused : (number : ℕ) (mail : Mail) (promised : Ballot) → event ≡ Deliver number → numbered (mails rows) number ≡ Some mail → mail.body ≡ Nack base.core.id promised → below r.top promised ≡ true → q.top ≡ promised → Shows rows event base r q
   ShowsOwn : q.running ≡ true → Shows rows event base r q
-
-some_is : {X : Type 0} (x y : X) → Some x ≡ Some y → x ≡ y
-some_is x y e = cc
-
-some_none : {X : Type 0} (x : X) (o : Option X) → o ≡ Some x → o ≡ None → ⊥
-some_none x o e f = (let bad : Some x ≡ None = sym e ∙ f in cc)
 
 all_any : (reports : List (Report Command)) → Each All_ reports
 all_any [] = tt
@@ -100,21 +95,21 @@ module _ (words : ℕ → ℕ → ℕ × ℕ) (at : Sets) (over : Ends) (by : Te
 
   module _ (r q : ReplicaState) (view_r : view_at all rows base.core.id seat.who ≡ Some r) (viewed : view_at all (with_event rows seat event) base.core.id seat.who ≡ Some q) (runs : r.running ≡ true) (off : q.running ≡ false) where
     ran : (x : ReplicaState) → view_at all rows base.core.id seat.who ≡ Some x → x.running ≡ false → ⊥
-    ran x e still = true≢false (sym runs ∙ subst (λ (y : ReplicaState). y.running ≡ false) (some_is x r (sym e ∙ view_r)) still)
+    ran x e still = true≢false (sym runs ∙ subst (λ (y : ReplicaState). y.running ≡ false) (same_Some x r (sym e ∙ view_r)) still)
 
     -- it has kept its ballot
     stopped_ballot : (c : Course) → IsGroupRow at over by all rows seat event base course c → q.leader.ballot ≡ course.ballot
     stopped_ballot c (RowPasses same leaves) = elim (leaves.view) [
-      | inl same_view ↦ absurd (true≢false (sym (subst (λ (y : ReplicaState). y.running ≡ true) (some_is r q (sym view_r ∙ (sym same_view ∙ viewed))) runs) ∙ off))
+      | inl same_view ↦ absurd (true≢false (sym (subst (λ (y : ReplicaState). y.running ≡ true) (same_Some r q (sym view_r ∙ (sym same_view ∙ viewed))) runs) ∙ off))
       | inr bears ↦ absurd (some_none r (view_at all rows base.core.id seat.who) view_r bears.0)
     ]
     stopped_ballot c (RowRests same x after row_ still i k) = absurd (ran x row_.was still)
     stopped_ballot c (RowTakes same x after mark row_ is steps k) =
-        absurd (true≢false (sym (steps.runs ∙ subst (λ (y : ReplicaState). y.running ≡ true) (some_is r x (sym view_r ∙ row_.was)) runs) ∙ (ap (λ (y : ReplicaState). y.running) (some_is after.0 q (sym row_.is ∙ viewed)) ∙ off)))
+        absurd (true≢false (sym (steps.runs ∙ subst (λ (y : ReplicaState). y.running ≡ true) (same_Some r x (sym view_r ∙ row_.was)) runs) ∙ (ap (λ (y : ReplicaState). y.running) (same_Some after.0 q (sym row_.is ∙ viewed)) ∙ off)))
     stopped_ballot c (RowMakes same from slot state sets row_ is logs k) = absurd (some_none r (view_at all rows base.core.id seat.who) view_r row_.was)
     stopped_ballot c (RowElects x after ballot row_ still e same) = absurd (ran x row_.was still)
     stopped_ballot c (RowLeads x after row_ on counts l same) =
-        let is : after.0 ≡ q = some_is after.0 q (sym row_.is ∙ viewed) in
+        let is : after.0 ≡ q = same_Some after.0 q (sym row_.is ∙ viewed) in
         let stops = (l.led.leads.stops (ap (λ (y : ReplicaState). y.running) is ∙ off)).0 in
         let from = (was.followed.given.gives seat.who x row_.was on).0.newest in
         let to = l.led.leads.newest in
@@ -260,7 +255,7 @@ module _ (words : ℕ → ℕ → ℕ × ℕ) (at : Sets) (over : Ends) (by : Te
       Result x = ((r : ReplicaState) × (view_at all rows base.core.id seat.who ≡ Some r) × Shows rows event base r x) ⊎ ((view_at all rows base.core.id seat.who ≡ None) × Begins x)
 
       to : (p : ReplicaState) → view_at all (with_event rows seat event) base.core.id seat.who ≡ Some p → Result p → Result q
-      to p view_p k = subst (λ x. Result x) (some_is p q (sym view_p ∙ is)) k
+      to p view_p k = subst (λ x. Result x) (same_Some p q (sym view_p ∙ is)) k
 
       by_turn : IsTurn at by words all rows seat event base → Result q
       by_turn (TurnRests same none) = inl (q, sym same ∙ is, ShowsNone (at_least_itself q.top))

@@ -30,6 +30,7 @@ use Rattle.sc_budget_law.proofs.Pumping.{call_is}
 use Rattle.sc_budget_law.proofs.ReplicaRows.{DidRefuse, DidQueue, DidCount, following_at, none_stops, replica_row}
 use Rattle.sc_calm_answers_law.proofs.Calls.{knows, Leaves, leaves_itself, leaves_bare, request_kept, vote_goes}
 use Rattle.sc_calm_answers_law.proofs.RequestsTaking.{takes_it, accept_takes, learn_leaves}
+use Rattle.sc_calm_answers_law.proofs.Following.{split_among}
 
 -- ---- how many slots are taken
 
@@ -47,11 +48,6 @@ taken_low r a b p q = elim (cases_lt b a) [
 -- it is one number
 pub taken_once : (r : ReplicaState) (a b : ℕ) → AreTaken r a → AreTaken r b → a ≡ b
 taken_once r a b p q = (let one = taken_low r a b p q in let two = taken_low r b a q p in omega (arith, one, two))
-
-among_either : {X : Type 0} (xs ys : List X) (x : X) → Among x (xs ++ ys) → Among x xs ⊎ Among x ys
-among_either [] ys x a = inr a
-among_either (y ∷ xs) ys x (inl same) = inl (inl same)
-among_either (y ∷ xs) ys x (inr a) = elim (among_either xs ys x a) [ inl here ↦ inl (inr here) | inr there ↦ inr there ]
 
 -- ---- what a row leaves
 
@@ -141,7 +137,7 @@ module _ (begun : Requests) (frame : Frame) (is : IsFrame frame) (r : ReplicaSta
       → Among report r.acceptor.accepted ⊎ AsksAt (Accept group ballot slot command) report.slot
   among_new group ballot slot command report a =
       let new : Report Command = record { slot = slot; ballot = frame.ballot; value = command } in
-      elim (among_either (filter (λ (x : Report Command). nat_lt x.slot slot) r.acceptor.accepted) (new ∷ filter (λ (x : Report Command). nat_lt slot x.slot) r.acceptor.accepted) report a) [
+      elim (split_among (filter (λ (x : Report Command). nat_lt x.slot slot) r.acceptor.accepted) (new ∷ filter (λ (x : Report Command). nat_lt slot x.slot) r.acceptor.accepted) report a) [
         | inl early ↦ inl (from_filter _ r.acceptor.accepted report early).0
         | inr o ↦ elim o [
           | inl same ↦ inr (group, ballot, command, ap (λ (x : Report Command). Accept group ballot x.slot command) same)

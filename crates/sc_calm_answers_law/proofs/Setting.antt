@@ -32,11 +32,7 @@ use Rattle.sc_calm_answers_law.specs.Journal.{IsCalmJournal, IsFront}
 use Rattle.sc_calm_answers_law.specs.Resting.{RestsAt}
 use Rattle.sc_calm_answers_law.specs.KeptRising.{ChartHintsRise}
 use Rattle.sc_calm_answers_law.specs.Requested.{setting_of, IsKnownFront}
-
-got_among : {X : Type 0} (xs : List X) (place : ℕ) (x : X) → slice_get xs place ≡ Some x → Among x xs
-got_among [] place x e = cc
-got_among (y ∷ xs) zero x e = inl cc
-got_among (y ∷ xs) (suc place) x e = inr (got_among xs place x e)
+use Rattle.sc_paxos_law.proofs.Among.{place_among}
 
 -- the first rows of a lawful journal are one
 pub front_lawful : (words : ℕ → ℕ → ℕ × ℕ) (scenario : Scenario) (journal rows : Rows) → Lawful as_nodes words scenario journal → IsFront journal rows → Lawful as_nodes words scenario rows
@@ -111,4 +107,4 @@ module _ (all_bounded : ValidScenariosAreBounded) (frames_law : QuietJournalsHav
             where
               by : (o : Option (List ℕ)) → slice_get q.lead.sets (slot - next q.lead) ≡ o → (1 ≤ node) × (node ≤ scenario.nodes)
               by None e = (let u = q.member node (sym (ap (λ x. is_member (unwrap_or x (members q.lead)) node) e) ∙ n) in homes group node (u.0, u.1))
-              by (Some voters) e = (let u = q.voter voters node (got_among q.lead.sets (slot - next q.lead) voters e) (sym (ap (λ x. is_member (unwrap_or x (members q.lead)) node) e) ∙ n) in homes group node (u.0, u.1))
+              by (Some voters) e = (let u = q.voter voters node (place_among q.lead.sets (slot - next q.lead) voters e) (sym (ap (λ x. is_member (unwrap_or x (members q.lead)) node) e) ∙ n) in homes group node (u.0, u.1))

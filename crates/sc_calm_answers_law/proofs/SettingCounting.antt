@@ -44,13 +44,11 @@ use Rattle.sc_calm_answers_law.specs.Starts.{LawfulReplicasAreNamedOnce}
 use Rattle.sc_calm_answers_law.specs.SettingCounting.{GoneAgree, QuietChartsCount}
 use Rattle.sc_calm_answers_law.specs.Settings.{AreAtNodes, AreReachable}
 use Rattle.sc_calm_answers_law.proofs.Frames.{from_map, nodes_numbered, seen, view}
+use Rattle.sc_calm_answers_law.proofs.Following.{split_among}
+use Rattle.sc_budget_law.proofs.Knowing.{among_last}
+use Rattle.sc_calm_answers_law.proofs.KnownGoing.{once_among, went_none}
 
 -- ---- lists
-
-once_among : (group : Draw) (names : List Draw) → StandsOnce group names → Among group names
-once_among group [] once = absurd once
-once_among group (name ∷ names) (inl here) = inl here.0
-once_among group (name ∷ names) (inr more) = inr (once_among group names more.1)
 
 -- no group that passes has a name that does not
 left_out : (test : Draw → Bool) (group : Draw) (names : List Draw) → test group ≡ false → Each (λ other. other ≡ group → ⊥) (filter test names)
@@ -58,14 +56,6 @@ left_out test group names none = Each-from (λ other. other ≡ group → ⊥) (
   where
     passed : (xs : List Draw) (x : Draw) → Among x (filter test xs) → test x ≡ true
     passed xs x a = Each-among (λ y. test y ≡ true) (filter test xs) x (Each-passes test xs) a
-
--- none went anywhere, where none of its replicas is gone
-went_none : (group : Draw) (rs : List ReplicaState) → ((r : ReplicaState) → Among r rs → name_of r ≡ group → r.group.core.gone ≡ None) → went_in group rs ≡ None
-went_none group [] none = refl
-went_none group (r ∷ rs) none = elim (cases_Bool (same_draw (name_of r) group)) [
-  | inl is ↦ ap (λ b. cond b r.group.core.gone (went_in group rs)) (ap (λ b. b && is_some r.group.core.gone) is ∙ ap is_some (none r (inl refl) (draw_is (name_of r) group is))) ∙ went_none group rs (λ x a. none x (inr a))
-  | inr other ↦ ap (λ b. cond b r.group.core.gone (went_in group rs)) (ap (λ b. b && is_some r.group.core.gone) other) ∙ went_none group rs (λ x a. none x (inr a))
-]
 
 both : (x y : Bool) → (x && y) ≡ true → (x ≡ true) × (y ≡ true)
 both true y e = (refl, e)
@@ -87,15 +77,6 @@ went_some group into (x ∷ rs) r a named went agree = elim (cases_Bool (same_dr
     there : Among r (x ∷ rs) → (same_draw (name_of x) group && is_some x.group.core.gone) ≡ false → Among r rs
     there (inr more) other = more
     there (inl e) other = absurd (true≢false (sym (ap (λ b. b && is_some x.group.core.gone) (same_name (name_of x) group (ap name_of e ∙ named)) ∙ ap is_some (ap (λ (y : ReplicaState). y.group.core.gone) e ∙ went)) ∙ other))
-
-split_among : {X : Type 0} (xs ys : List X) (x : X) → Among x (xs ++ ys) → Among x xs ⊎ Among x ys
-split_among [] ys x a = inr a
-split_among (z ∷ xs) ys x (inl e) = inl (inl e)
-split_among (z ∷ xs) ys x (inr more) = elim (split_among xs ys x more) [ inl there ↦ inl (inr there) | inr behind ↦ inr behind ]
-
-append_among : {X : Type 0} (xs ys : List X) (x : X) → Among x ys → Among x (xs ++ ys)
-append_among [] ys x a = a
-append_among (z ∷ xs) ys x a = inr (append_among xs ys x a)
 
 -- ---- the longest way, and no ends
 
@@ -145,7 +126,7 @@ module _ (all_bounded : ValidScenariosAreBounded) (named : LawfulReplicasAreName
   into_seats : (ss : List (Seat Player)) (seat : Seat Player) (r : ReplicaState) → Among seat ss → Among r (chart_replicas (value player_table seat rows)) → Among r (all_replicas ss rows)
   into_seats [] seat r a here = absurd a
   into_seats (s ∷ ss) seat r (inl e) here = Among-left r (chart_replicas (value player_table s rows)) (all_replicas ss rows) (subst (λ x. Among r (chart_replicas (value player_table x rows))) (sym e) here)
-  into_seats (s ∷ ss) seat r (inr more) here = append_among (chart_replicas (value player_table s rows)) (all_replicas ss rows) r (into_seats ss seat r more here)
+  into_seats (s ∷ ss) seat r (inr more) here = among_last (chart_replicas (value player_table s rows)) (all_replicas ss rows) r (into_seats ss seat r more here)
 
   -- a client has none
   no_client : (r : ReplicaState) (bases : List Base) → bases ≡ first ∷ others → (seat : Seat Player) → Among seat (client_seats bases scenario.clients) → Among r (chart_replicas (value player_table seat rows)) → ⊥

@@ -65,6 +65,9 @@ use Rattle.sc_calm_answers_law.proofs.Parties.{Coordinates}
 use Rattle.sc_calm_answers_law.proofs.Pending.{IsSentOn, elsewhere_at, is_pending}
 use Rattle.sc_calm_answers_law.proofs.TrueRounds.{rounds_stay}
 use Rattle.sc_calm_answers_law.proofs.Since.{base_of, coords}
+use Rattle.std.proofs.lemmas.Option.{same_Some}
+use Rattle.sc_calm_answers_law.proofs.Hints.{no_deeds}
+use Rattle.sc_base.proofs.AscendingLemmas.{and_both}
 
 -- ---- members
 
@@ -72,10 +75,6 @@ same_members : (group : Group) (tx asked : Draw) (turn : Turn) (made : Group) �
 same_members group tx asked First made c = ap (λ (g : Group). g.core.members) c.is
 same_members group tx asked Lone made c = ap (λ (g : Group). g.core.members) c.is
 same_members group tx asked (Next part host) made c = ap (λ (g : Group). g.core.members) c.heard.is ∙ ap (λ (g : Group). g.core.members) c.opened.is
-
-no_deeds : (entries : List Command) (group made : Group) → AreDeeds [] entries → made ≡ state_after group entries → made ≡ group
-no_deeds [] group made are e = e
-no_deeds (c ∷ cs) group made are e = absurd are
 
 -- the group that is told the order, or coordinates, after some rows: it is led by who led it in the quiet, with the members that it had
 record IsCoord (scenario : Scenario) (quiet xs : Rows) (x : Draw × ℕ) : Type 0 where
@@ -86,9 +85,6 @@ record IsCoord (scenario : Scenario) (quiet xs : Rows) (x : Draw × ℕ) : Type 
   is : view_at (births as_nodes scenario) xs x.0 x.1 ≡ Some now
   runs : now.running ≡ true
   same : members now ≡ members first
-
-same_some : (a b : ReplicaState) → Some a ≡ Some b → a ≡ b
-same_some a b e = cc
 
 module _ (tells : ReplicasTell) (words : ℕ → ℕ → ℕ × ℕ) (scenario : Scenario) (first : Base) (journal quiet xs more : Rows) (front : journal ≡ xs ++ more) (calm : IsCalmJournal words scenario journal) (rests : RestsAt words scenario first journal quiet) (seen : AreSeen scenario quiet) where
   abbrev all : List (Seat Player)
@@ -190,7 +186,7 @@ module _ (tells : ReplicasTell) (words : ℕ → ℕ → ℕ × ℕ) (scenario :
       let t = sent_then base.0 base.1.stands in
       let has : view_at births_ rows base.0.core.id x.1 ≡ Some c.now = ap (λ n. view_at births_ rows n x.1) name ∙ c.is in
       let had : view_at births_ then_ base.0.core.id x.1 ≡ Some d.now = ap (λ n. view_at births_ then_ n x.1) name ∙ d.is in
-      let firsts : d.first ≡ c.first = same_some d.first c.first (sym d.was ∙ c.was) in
+      let firsts : d.first ≡ c.first = same_Some d.first c.first (sym d.was ∙ c.was) in
       let sets : members_at at (next d.now) ≡ members_at at (next c.now) =
       (t.one.states then_ [] x.1 d.now (sym (append-nil then_)) had).members_are
       ∙ (d.same ∙ (ap members firsts ∙ (sym c.same ∙ sym (s.one.states rows [] x.1 c.now (sym (append-nil rows)) has).members_are))) in
@@ -198,7 +194,7 @@ module _ (tells : ReplicasTell) (words : ℕ → ℕ → ℕ × ℕ) (scenario :
       events_go_on at over by words births_ then_ base.0 (scenarios_well_born scenario) t.one t.so rows seat event s.course (record { more = []; is = sym (append-nil then_) }) seated comes timely s.led in
       subst (HasNoRounds words births_ then_) name
       (rounds_stay at over by words births_ rows seat event base.0 s.course s.led timely (λ a c2 y l o. order_is_kept.alone a c2 y l o) x.1 c.now has c.runs (alone c.now c.is c.runs)
-      (λ y e. subst (λ z. members_at at (next z) ≡ members_at at (next c.now)) (same_some d.now y (sym had ∙ e)) sets) (subst (HasNoRounds words births_ rows) (sym name) none) step)
+      (λ y e. subst (λ z. members_at at (next z) ≡ members_at at (next c.now)) (same_Some d.now y (sym had ∙ e)) sets) (subst (HasNoRounds words births_ rows) (sym name) none) step)
 
 pub settled_go_on : ReplicasTell → SettledOrdersGoOn
 settled_go_on tells words scenario first journal quiet rows seat number stage later g sent sent_then alone at_later goes true_later settled_ =
@@ -262,9 +258,6 @@ all_votes (x ∷ xs) voters f =
 all_decide : (xs voters : List ℕ) → 1 ≤ length xs → ((node : ℕ) → is_member xs node ≡ true → is_member voters node ≡ true) → is_majority xs voters ≡ true
 all_decide xs voters some f = (let all = all_votes xs voters f in lt-ltb (length xs) (2 * votes_of xs voters) (omega (arith, all, some)))
 
-both_true : (a b : Bool) → a ≡ true → b ≡ true → (a && b) ≡ true
-both_true a b e f = ap (λ x. x && b) e ∙ f
-
 module _ (tells : ReplicasTell) (words : ℕ → ℕ → ℕ × ℕ) (scenario : Scenario) (first : Base) (journal quiet rows : Rows) (seat : Seat Player) (number : ℕ) (mail : Mail) (group : Draw) (node : NodeState) (r : ReplicaState)
     (stage : Stage) (tx coord : Draw) (hint : Option ℕ) (t : TakesSince words scenario first journal quiet rows seat number mail group node r stage) (front : IsFront journal rows) (sent : AreSent words scenario journal rows) (quiet_rounds : AreSettled words scenario rows stage)
     (body : mail.body ≡ TxElsewhere tx coord hint) (runs : r.running ≡ true) where
@@ -327,8 +320,8 @@ module _ (tells : ReplicasTell) (words : ℕ → ℕ → ℕ × ℕ) (scenario :
 
   is_settled : settled r ≡ true
   is_settled =
-      both_true r.running (may_offer r (first_set r.sets)) runs
-      (both_true (not (below r.leader.ballot r.acceptor.promised)) (r.leader.is_first || is_majority (first_set r.sets) r.leader.promisers) (ap not low)
+      and_both r.running (may_offer r (first_set r.sets)) runs
+      (and_both (not (below r.leader.ballot r.acceptor.promised)) (r.leader.is_first || is_majority (first_set r.sets) r.leader.promisers) (ap not low)
       (elim (cases_Bool r.leader.is_first) [
         | inl one ↦ or_left r.leader.is_first (is_majority (first_set r.sets) r.leader.promisers) one
         | inr later ↦ or_right r.leader.is_first (is_majority (first_set r.sets) r.leader.promisers) (majority later)

@@ -60,16 +60,13 @@ use Rattle.sc_calm_answers_law.specs.SentJournals.{IsSentOn}
 use Rattle.sc_calm_answers_law.specs.Sent.{SaysWell, AreSaidWell}
 use Rattle.sc_calm_answers_law.proofs.SentSaying.{Fits, mail_says, order_says, prepare_says}
 use Rattle.sc_calm_answers_law.proofs.SentTurns.{IsLate, node_says, node_orders, client_says}
+use Rattle.sc_calm_answers_law.proofs.Playing.{plays_of}
 
 -- a mail of this event that asks the replica of who acts to promise a ballot finds nothing that it accepted from the slot on from which it asks
 abbrev pub FindsNoneBy : List (Seat Player) → Rows → Seat Player → Event OrderLine → Base → Type 0
 FindsNoneBy births rows seat event base =
     (number : ℕ) (mail : Mail) (ballot : Ballot) (from_slot : ℕ) (r : ReplicaState) → event ≡ Deliver number → numbered (mails rows) number ≡ Some mail → mail.body ≡ Prepare base.core.id ballot from_slot
     → view_at births rows base.core.id seat.who ≡ Some r → reports_from from_slot r.acceptor.accepted ≡ []
-
-plays_of : (who : ℕ) (player : Player) → IsWellPlayer who player → Plays who player
-plays_of who (Node node) k = (k.0, subst (λ m. Each (IsWellKept m) node.replicas) k.0 k.1)
-plays_of who (Client client) k = tt
 
 module _ (words : ℕ → ℕ → ℕ × ℕ) (at : Sets) (over : Ends) (by : Tellers) (scenario : Scenario) (rows : Rows) (seat : Seat Player) (event : Event OrderLine) (base : Base) (course : Course) (bounded : IsBounded scenario) (idle : JournalsKeepIdle) (wb : AreWellBorn (births as_nodes scenario))
     (one : HasOneLog at over by (births as_nodes scenario) (with_event rows seat event) base) (so : IsSentSo (births as_nodes scenario) (with_event rows seat event) base) (nothing : FindsNoneBy (births as_nodes scenario) rows seat event base)

@@ -28,6 +28,7 @@ use Rattle.sc_budget_law.proofs.QuietTurns.{client_is}
 use Rattle.sc_calm_answers_law.specs.Starts.{QuietJournalsKnowOne, QuietJournalsHaveNoMail, QuietJournalsCountOnce, AreNamedOnce, QuietLeadersAreReached}
 use Rattle.sc_calm_answers_law.specs.Tokens.{command_token, flight_tokens, ready_tokens, replica_tokens}
 use Rattle.sc_calm_answers_law.proofs.TokensIdle.{idle_once}
+use Rattle.sc_calm_answers_law.proofs.Hinting.{no_append}
 
 -- ---- what clients know
 
@@ -41,19 +42,15 @@ know_one words scenario first rows q asks client a not_gone v =
 
 -- ---- mail
 
-empty_parts : {X : Type 0} (xs ys : List X) → xs ++ ys ≡ [] → (xs ≡ []) × (ys ≡ [])
-empty_parts [] ys e = (refl, e)
-empty_parts (x ∷ xs) ys e = cc
-
 -- where nobody of some has mail, they all have none
 none_with : {M : Type 0} (to : M → ℕ) (born : ℕ → Bool) (sent : List M) (counts : List ℕ) → ((who : ℕ) → born who ≡ true → mail_with (λ m. eqb (to m) who) sent counts ≡ []) → mail_with (λ m. born (to m)) sent counts ≡ []
 none_with to born [] counts none = refl
 none_with to born (m ∷ sent) [] none = refl
 none_with to born (m ∷ sent) (c ∷ counts) none =
-    let rec = none_with to born sent counts (λ who is. (empty_parts (cond (eqb (to m) who) (replicate c m) []) (mail_with (λ x. eqb (to x) who) sent counts) (none who is)).1) in
+    let rec = none_with to born sent counts (λ who is. (no_append (cond (eqb (to m) who) (replicate c m) []) (mail_with (λ x. eqb (to x) who) sent counts) (none who is)).1) in
     elim (cases_Bool (born (to m))) [
       | inl t ↦ (
-          let mine = (empty_parts (cond (eqb (to m) (to m)) (replicate c m) []) (mail_with (λ x. eqb (to x) (to m)) sent counts) (none (to m) t)).0 in
+          let mine = (no_append (cond (eqb (to m) (to m)) (replicate c m) []) (mail_with (λ x. eqb (to x) (to m)) sent counts) (none (to m) t)).0 in
           let copies_ : replicate c m ≡ [] = sym (cond-true (eqb (to m) (to m)) (replicate c m) [] (eq-eqb (to m) (to m) refl)) ∙ mine in
           ap (λ xs. xs ++ mail_with (λ x. born (to x)) sent counts) (cond-true (born (to m)) (replicate c m) [] t ∙ copies_) ∙ rec)
       | inr f ↦ ap (λ xs. xs ++ mail_with (λ x. born (to x)) sent counts) (cond-false (born (to m)) (replicate c m) [] f) ∙ rec

@@ -66,16 +66,9 @@ use Rattle.sc_calm_scenes_law.proofs.Taking.{OneOf, all_children, all_sent, now_
 use Rattle.sc_calm_scenes_law.proofs.Turning.{calm_is}
 use Rattle.sc_calm_answers_law.specs.JournalUnder.{IsYoungAt}
 use Rattle.sc_calm_answers_law.specs.Young.{IsUnanswered, YoungGroupsStay}
-
-none_some : {X : Type 0} {x : X} → None ≡ Some x → ⊥
-none_some e = cc
-
-some_is : {X : Type 0} (a b : X) → Some a ≡ Some b → a ≡ b
-some_is a b e = cc
-
-plays_of : (who : ℕ) (player : Player) → IsWellPlayer who player → Plays who player
-plays_of who (Node node) k = (k.0, subst (λ m. Each (IsWellKept m) node.replicas) k.0 k.1)
-plays_of who (Client client) k = tt
+use Rattle.std.proofs.lemmas.Option.{same_Some}
+use Rattle.sc_calm_answers_law.proofs.Playing.{plays_of}
+use Rattle.sc_calm_rows_law.proofs.Beginning.{none_some}
 
 -- a node has the number of its seat
 pub node_number : ScenariosAreWellBorn → (scenario : Scenario) (rows : Rows) (seat : Seat Player) (node : NodeState) → IsSeat (births as_nodes scenario) seat → value player_table seat rows ≡ Node node → node.me ≡ seat.who

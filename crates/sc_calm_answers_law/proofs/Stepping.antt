@@ -58,9 +58,7 @@ use Rattle.sc_calm_scenes_law.proofs.Turning.{calm_is}
 use Rattle.sc_calm_scenes_law.proofs.Viewing.{tell}
 use Rattle.sc_calm_answers_law.specs.Deeds.{HasStepped, Rested, Executed}
 use Rattle.sc_calm_answers_law.proofs.Late.{untouched, asks_leave, votes_late, learnt_late, sent_late}
-
-none_some : {X : Type 0} {x : X} → None ≡ Some x → ⊥
-none_some e = cc
+use Rattle.sc_calm_rows_law.proofs.Beginning.{none_some}
 
 some_or_none : (xs : List Work) → (xs ≡ []) ⊎ (xs ≡ [] → ⊥)
 some_or_none [] = inl refl

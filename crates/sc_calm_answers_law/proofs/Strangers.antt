@@ -57,6 +57,7 @@ use Rattle.sc_calm_answers_law.specs.KnownFronts.{FrontsAreFound}
 use Rattle.sc_calm_answers_law.specs.KnownMembers.{MembersAreHome}
 use Rattle.sc_calm_answers_law.specs.Strangers.{NoMailForStrangers}
 use Rattle.sc_calm_answers_law.proofs.KnownFronts.{seat_in}
+use Rattle.sc_calm_answers_law.proofs.Desk.{none_first}
 
 find_nothing : {X : Type 0} (p : X → Bool) (xs : List X) (x : X) → find p xs ≡ None → Among x xs → p x ≡ false
 find_nothing p [] x e a = absurd a
@@ -66,10 +67,6 @@ find_nothing p (y ∷ ys) x e a = by (p y) refl (λ f m. find_nothing p ys x f m
     by true t rest f m = absurd (none-some y (sym f))
     by false t rest f (inl same) = ap p (sym same) ∙ t
     by false t rest f (inr m) = rest f m
-
-empty_left : (o : Option Mark) (left : List Mark) → listed o ++ left ≡ [] → (o ≡ None) × (left ≡ [])
-empty_left None left e = (refl, e)
-empty_left (Some m) left e = cc
 
 module _ (finds : FrontsAreFound) (home : MembersAreHome) (words : ℕ → ℕ → ℕ × ℕ) (scenario : Scenario) (journal : Rows) (calm : IsCalmJournal words scenario journal) where
   abbrev all : List (Seat Player)
@@ -115,7 +112,7 @@ module _ (finds : FrontsAreFound) (home : MembersAreHome) (words : ℕ → ℕ �
         moved = rows_are words all rows (row_of player_table seat rows event) dummy (begun_course dummy) (begun_course dummy) timely
 
         taken_none : (taken_mark dummy.core.id (mails rows) event ≡ None) × (moved.left ≡ [])
-        taken_none = empty_left (taken_mark name (mails rows) event) moved.left (sym moved.takes ∙ none seat.who)
+        taken_none = none_first (taken_mark name (mails rows) event) moved.left (sym moved.takes ∙ none seat.who)
 
         -- a node has no replica of it
         no_replica : (node : NodeState) → value player_table seat rows ≡ Node node → (r : ReplicaState) → replica_of dummy.core.id node.replicas ≡ Some r → ⊥

@@ -50,7 +50,7 @@ use Rattle.sc_calm_answers_law.specs.Tasks.{SaysWork}
 use Rattle.sc_calm_answers_law.proofs.Homeward.{node_seated}
 use Rattle.sc_calm_answers_law.proofs.Nodes.{node_replays}
 
-roles_differ : (client : ClientState) (node : NodeState) → ◌≡◌ {A = Player} (Client client) (Node node) → ⊥
+pub roles_differ : (client : ClientState) (node : NodeState) → ◌≡◌ {A = Player} (Client client) (Node node) → ⊥
 roles_differ client node e = cc
 
 one_seat : (one other : Seat Player) → Some one ≡ Some other → one ≡ other

@@ -40,19 +40,11 @@ use Rattle.sc_paxos_law.proofs.Among.{among-member, member-among}
 use Rattle.sc_group_law.proofs.Rosters.{ordered_if}
 use Rattle.sc_calm_answers_law.specs.Tasks.{IsNoSplit, DoesSplit, DoesOther, DoesBy, SplitsInto, LockSplits, LockOther, IsBy, BearsBy}
 use Rattle.sc_calm_answers_law.proofs.Affairs.{Affair, BeginsFree}
-
-none_some : {X P : Type 0} {x : X} → None ≡ Some x → P
-none_some e = absurd (let bad : None ≡ Some _ = e in cc)
-
--- an order that is not refused comes to a group that is in no transaction
-free_by : (lock : Lock) (core : Core) (command : Command) → refused_in (locked_in lock) core command ≡ None → lock ≡ Free
-free_by Free core command e = refl
-free_by (Coordinating tx body order heard) core command e = cc
-free_by (Promised tx offer) core command e = cc
-free_by (Watching tx watch) core command e = cc
+use Rattle.sc_calm_answers_law.proofs.Children.{none_some}
+use Rattle.sc_hist_law.proofs.Staying.{free_by}
 
 -- of two that are off, the first is
-first_off : (b c : Bool) → b || c ≡ false → b ≡ false
+pub first_off : (b c : Bool) → b || c ≡ false → b ≡ false
 first_off true c e = cc
 first_off false c e = refl
 

@@ -48,7 +48,7 @@ use Rattle.sc_budget_law.specs.PlainClient.{IsWaiting, IsBegun}
 use Rattle.sc_budget_law.proofs.AskingClients as clients_of
 use Rattle.sc_budget_law.proofs.AskingSought.{AreSought, IsSought, sought_row}
 use Rattle.sc_budget_law.proofs.BetweenStage.{IsStage, stage}
-use Rattle.sc_budget_law.proofs.BetweenSteps.{node_born, node_number, client_number}
+use Rattle.sc_budget_law.proofs.BetweenSteps.{node_born, node_number, client_number, one_of_sum}
 use Rattle.sc_budget_law.proofs.BetweenViews.{Journal, replica_is}
 use Rattle.sc_budget_law.proofs.CalmClients.{waiting_home}
 use Rattle.sc_budget_law.proofs.Clients.{asking}
@@ -62,11 +62,6 @@ use Rattle.sc_calm_answers_law.proofs.LinesKeep.{line_keeps}
 use Rattle.sc_calm_answers_law.proofs.TokensJournal.{falls}
 
 -- ---- sums
-
-sum_among : {X : Type 0} (f : X → ℕ) (xs : List X) (x : X) → Among x xs → f x ≤ sum_by f xs
-sum_among f [] x a = absurd a
-sum_among f (y ∷ xs) x (inl same) = (let s = sum_by-cons f y xs in let e = ap f same in omega (arith, s, e))
-sum_among f (y ∷ xs) x (inr a) = (let s = sum_by-cons f y xs in let le = sum_among f xs x a in omega (arith, s, le))
 
 -- what passes one of two tests that exclude each other is among what passes a wider one
 module _ {M : Type 0} (p q r : M → Bool) (apart : (m : M) → p m ≡ true → q m ≡ true → ⊥) (one : (m : M) → p m ≡ true → r m ≡ true) (other : (m : M) → q m ≡ true → r m ≡ true) (owes : M → ℕ) where
@@ -99,9 +94,9 @@ call_one c seq op = cond-true (eqb c c) 1 0 (eq-eqb c c refl)
 
 held_one : (c seq : ℕ) (r : ReplicaState) → IsHeld r c seq → 1 ≤ replica_tokens c r
 held_one c seq r h = elim (h.where_) [
-  | inl a ↦ (let le = sum_among (command_token c) r.calls (Call c h.number h.op) a in let one = call_one c h.number h.op in omega (arith, le, one))
-  | inr (inl f) ↦ (let le = sum_among (λ (x : Flight Command). command_token c x.value) r.leader.flights f.0 f.1 in let one = ap (command_token c) f.2 ∙ call_one c h.number h.op in omega (arith, le, one))
-  | inr (inr e) ↦ (let le = sum_among (λ (x : ℕ × Command). command_token c x.1) r.ready (e.0, Call c h.number h.op) e.1 in let one = call_one c h.number h.op in omega (arith, le, one))
+  | inl a ↦ (let le = one_of_sum (command_token c) r.calls (Call c h.number h.op) a in let one = call_one c h.number h.op in omega (arith, le, one))
+  | inr (inl f) ↦ (let le = one_of_sum (λ (x : Flight Command). command_token c x.value) r.leader.flights f.0 f.1 in let one = ap (command_token c) f.2 ∙ call_one c h.number h.op in omega (arith, le, one))
+  | inr (inr e) ↦ (let le = one_of_sum (λ (x : ℕ × Command). command_token c x.1) r.ready (e.0, Call c h.number h.op) e.1 in let one = call_one c h.number h.op in omega (arith, le, one))
 ]
 
 module _ (words : ℕ → ℕ → ℕ × ℕ) (scenario : Scenario) (begins : IsStage scenario) (set : Setting) (is : IsSetting set) (linked : IsLinkedSetting set) (seated : AreSeated scenario set) where
@@ -237,7 +232,7 @@ module _ (words : ℕ → ℕ → ℕ × ℕ) (scenario : Scenario) (begins : Is
         omega (arith, le)
 
     seats_in : (seat : Seat Player) → Among seat (births as_nodes scenario) → player_token asks.client (value player_table seat rows) ≤ sum_by (λ (other : Seat Player). player_token asks.client (value player_table other rows)) (births as_nodes scenario)
-    seats_in seat b = sum_among (λ (other : Seat Player). player_token asks.client (value player_table other rows)) (births as_nodes scenario) seat b
+    seats_in seat b = one_of_sum (λ (other : Seat Player). player_token asks.client (value player_table other rows)) (births as_nodes scenario) seat b
 
     -- ---- the answer
 
@@ -255,7 +250,7 @@ module _ (words : ℕ → ℕ → ℕ × ℕ) (scenario : Scenario) (begins : Is
         let n = asked_node rows j asks client a v w in
         let request : Mail = asking client.me w.target w.group w.seq x.0 in
         let token : mail_token asks.client request ≡ 1 = cond-true (eqb client.me asks.client) 1 0 (eq-eqb client.me asks.client me) in
-        let there = sum_among (mail_token asks.client) (rest sys rows w.target) request x.1 in
+        let there = one_of_sum (mail_token asks.client) (rest sys rows w.target) request x.1 in
         let le = with_other w.target (is_born-from sys w.target (nseat w.target) (seat_found (births as_nodes scenario) (nseat w.target) begins.seats_apart (node_born words scenario begins w.target n.0 n.1))) (λ e. not_node w.target e n) in
         let one = rest_is in
         absurd (omega (arith, token, there, le, one, few))
@@ -264,7 +259,7 @@ module _ (words : ℕ → ℕ → ℕ × ℕ) (scenario : Scenario) (begins : Is
         elim (subst (Among answer) first.first (subst (λ who. Among answer (rest sys rows (client_actor who))) me x.there)) [
           | inl same ↦ record { waits = w; answer = x.answer; from_is = ap (λ (m : Mail). m.from) same; body_is = ap (λ (m : Mail). m.body) same }
           | inr b ↦ (
-              let there = sum_among (mail_token asks.client) first.behind answer b in
+              let there = one_of_sum (mail_token asks.client) first.behind answer b in
               let token = answer_one (client_actor client.me) w.group w.seq x.answer (ap client_actor me) in
               let mail = mail_in in
               let one = rest_is in
@@ -275,7 +270,7 @@ module _ (words : ℕ → ℕ → ℕ × ℕ) (scenario : Scenario) (begins : Is
         let node = j.nodes w.target n.0 n.1 in
         let found : replica_of w.group node.node.replicas ≡ Some h.r = sym (replica_is words scenario rows w.group w.target (Node node.node) (node_number words scenario begins w.target n.0 n.1) node.is) ∙ h.there in
         let among = (find_found (λ (x : ReplicaState). same_draw (name_of x) w.group) node.node.replicas h.r found).0 in
-        let here = sum_among (replica_tokens asks.client) node.node.replicas h.r among in
+        let here = one_of_sum (replica_tokens asks.client) node.node.replicas h.r among in
         let held = held_one asks.client w.seq h.r (subst (λ who. IsHeld h.r who w.seq) me h.held) in
         let le = seats_in (nseat w.target) (node_born words scenario begins w.target n.0 n.1) in
         let now = ap (player_token asks.client) node.is in

@@ -42,13 +42,12 @@ use Rattle.sc_calm_answers_law.specs.Deeds.{Executed, HasDone, HasStepped, Reste
 use Rattle.sc_calm_answers_law.specs.TrueGoing.{AskedGroupsStood, GoesOnSince, TrueOrdersGoOn}
 use Rattle.sc_calm_answers_law.specs.Told.{ReplicasTell}
 use Rattle.sc_calm_answers_law.specs.TrueUnder.{asked_of}
-use Rattle.sc_calm_answers_law.proofs.Doers.{lead_works}
+use Rattle.sc_calm_answers_law.proofs.Doers.{lead_works, one_not_none}
 use Rattle.sc_calm_answers_law.proofs.TrueGoing.{has_asked, has_done, has_new}
 use Rattle.sc_calm_answers_law.proofs.TrueQuiet.{stands_there}
 use Rattle.sc_calm_answers_law.proofs.Stepping.{Aside, Fate, Leading, Missed, New, Same, fate}
-
-none_some : {X : Type 0} {x : X} → None ≡ Some x → ⊥
-none_some e = cc
+use Rattle.sc_calm_rows_law.proofs.Beginning.{none_some}
+use Rattle.sc_calm_answers_law.proofs.Opened.{no_asking}
 
 -- one at rest has no work
 pub rests_idle : (r : ReplicaState) → IsAtRest r → works r ≡ []
@@ -56,9 +55,6 @@ rests_idle r k =
     ap (λ l. works_in l ++ (works_in r.calls ++ (works_flying r.leader.flights ++ works_ready r.ready))) k.acts
     ∙ (ap (λ l. works_in l ++ (works_flying r.leader.flights ++ works_ready r.ready)) k.calls
     ∙ (ap (λ l. works_flying l ++ works_ready r.ready) k.flights ∙ ap works_ready k.ready))
-
-one_none : (work : Work) (xs : List Work) → xs ≡ work ∷ [] → xs ≡ [] → ⊥
-one_none work xs e none = cc
 
 born_idle : (ahead who : ℕ) (base : Base) → works (born_replica ahead who base) ≡ []
 born_idle ahead who base = refl
@@ -71,15 +67,12 @@ asked_same tx tx2 one other t t2 e = cc
 no_bound : (tx tx2 asked : Draw) (turn : Turn) → Bound tx ≡ Asking tx2 asked turn → ⊥
 no_bound tx tx2 asked turn e = cc
 
-no_free : (tx2 asked : Draw) (turn : Turn) → Unbound ≡ Asking tx2 asked turn → ⊥
-no_free tx2 asked turn e = cc
-
 -- a part that waits waits for one of these groups
 abbrev WaitsFor : List Draw → Here → Type 0
 WaitsFor names here = (tx asked : Draw) (turn : Turn) → here.bond ≡ Asking tx asked turn → Among asked names
 
 free_waits : (names : List Draw) (work : List Work) (errands : List Errand) → WaitsFor names (record { bond = Unbound; work = work; errands = errands })
-free_waits names work errands tx asked turn e = absurd (no_free tx asked turn e)
+free_waits names work errands tx asked turn e = absurd (no_asking tx asked turn e)
 
 bound_waits : (names : List Draw) (t : Draw) (work : List Work) (errands : List Errand) → WaitsFor names (record { bond = Bound t; work = work; errands = errands })
 bound_waits names t work errands tx asked turn e = absurd (no_bound t tx asked turn e)
@@ -179,7 +172,7 @@ module _ (tells : ReplicasTell) (words : ℕ → ℕ → ℕ × ℕ) (scenario :
       works_now = lead_works all next deal.asked host r weighs.leads.1.0 has ∙ ap (λ (h : Here). h.work) weighs.parties.0.1.0
 
       no_idle : works r ≡ [] → ⊥
-      no_idle none = one_none _ (works r) works_now none
+      no_idle none = one_not_none _ (works r) works_now none
 
       same_not : view_at (births as_nodes scenario) next deal.asked host ≡ view_at (births as_nodes scenario) rows deal.asked host → Has
       same_not e = absurd (no_idle (idle_was host r (sym e ∙ has)))
@@ -195,7 +188,7 @@ module _ (tells : ReplicasTell) (words : ℕ → ℕ → ℕ × ℕ) (scenario :
         idle_there e = absurd (no_idle (idle_was seat.who r (sym e ∙ now_here)))
 
         led : (x made : ReplicaState) → LeadsAlone (births as_nodes scenario) rows deal.asked seat.who x → view_at (births as_nodes scenario) next deal.asked seat.who ≡ Some made → HasStepped x made → Has
-        led x made leads e (Executed flight work among had w none applied) = absurd (one_none work (works x) had (idle_was seat.who x leads.is_there))
+        led x made leads e (Executed flight work among had w none applied) = absurd (one_not_none work (works x) had (idle_was seat.who x leads.is_there))
         led x made leads e (Rested same rest) = record {
           first = x;
           was = ap (view_at all quiet deal.asked) here ∙ (sym (was seat.who) ∙ leads.is_there);

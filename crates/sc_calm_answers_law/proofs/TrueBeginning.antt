@@ -52,15 +52,10 @@ use Rattle.sc_calm_answers_law.specs.TrueBeginning.{TrueOrdersBegin}
 use Rattle.sc_calm_answers_law.specs.Deeds.{HasDone, doer}
 use Rattle.sc_calm_answers_law.specs.New.{IsUnused, opened_by}
 use Rattle.sc_calm_answers_law.specs.TrueUnder.{AreSeen, IsTrueSince}
-use Rattle.sc_calm_answers_law.proofs.Doers.{lead_works}
+use Rattle.sc_calm_answers_law.proofs.Doers.{lead_works, one_not_none}
 use Rattle.sc_calm_answers_law.proofs.Numbers.{next_unused}
 use Rattle.sc_calm_answers_law.proofs.Took.{rests_idle}
-
-none_some : {X : Type 0} {x : X} → None ≡ Some x → ⊥
-none_some e = cc
-
-one_none : (work : Work) (xs : List Work) → xs ≡ work ∷ [] → xs ≡ [] → ⊥
-one_none work xs e none = cc
+use Rattle.sc_calm_rows_law.proofs.Beginning.{none_some}
 
 -- an order leads from nothing to its command, or nowhere
 pub begun_so : (group : Draw) (later : Stage) → IsStepOf group Still later → (later ≡ Still) ⊎ ((chief : ℕ) × (work : Work) × (later ≡ Ordered group chief work))
@@ -98,7 +93,7 @@ no_asking tx asked turn e = cc
 no_bound : (tx : Draw) → Bound tx ≡ Unbound → ⊥
 no_bound tx e = cc
 
-closing_bond : (tx : Draw) (leg : Leg) (host : ℕ) → (closing tx leg host).bond ≡ Bound tx
+pub closing_bond : (tx : Draw) (leg : Leg) (host : ℕ) → (closing tx leg host).bond ≡ Bound tx
 closing_bond tx Mailed host = refl
 closing_bond tx Filed host = refl
 
@@ -156,7 +151,7 @@ module _ (words : ℕ → ℕ → ℕ × ℕ) (scenario : Scenario) (first : Bas
       has_work = lead_works all next group chief r stands.leads.0 has ∙ ap (λ (h : Here). h.work) stands.parties.0.0
 
       same_not : view_at (births as_nodes scenario) next group chief ≡ view_at (births as_nodes scenario) quiet group chief → Done
-      same_not e = absurd (one_none work (works r) has_work (idle group chief r (sym e ∙ has)))
+      same_not e = absurd (one_not_none work (works r) has_work (idle group chief r (sym e ∙ has)))
 
       module _ (here : chief ≡ seat.who) where
         now_here : view_at (births as_nodes scenario) next group seat.who ≡ Some r
@@ -190,13 +185,13 @@ module _ (words : ℕ → ℕ → ℕ × ℕ) (scenario : Scenario) (first : Bas
 
             other : LeavesOrMakes (births as_nodes scenario) quiet seat (Told line) group → Done
             other (inl e) = same_here e
-            other (inr b) = absurd (one_none work (works r) has_work (ap works (some_is r (born_replica slots_ahead seat.who b.base) (sym now_here ∙ b.makes))))
+            other (inr b) = absurd (one_not_none work (works r) has_work (ap works (some_is r (born_replica slots_ahead seat.who b.base) (sym now_here ∙ b.makes))))
 
             -- one that takes the order has its command as its one work
             taken : group_of_order line.order ≡ group → FindsQuiet words (births as_nodes scenario) quiet seat line node x → Done
             taken own (ByAnother why beside not) =
                 let w = tables-order.refused node.draws line why x not in
-                absurd (one_none work (works r) has_work (ap works (now_is_so own) ∙ (w.work ∙ idle (group_of_order line.order) seat.who x rows_of.1.was)))
+                absurd (one_not_none work (works r) has_work (ap works (now_is_so own) ∙ (w.work ∙ idle (group_of_order line.order) seat.who x rows_of.1.was)))
               where
                 now_is_so : group_of_order line.order ≡ group → r ≡ (ordered_row node.draws line (x, [])).0
                 now_is_so e = some_is r (ordered_row node.draws line (x, [])).0 (sym now_here ∙ (ap (λ n. view_at all next n seat.who) (sym e) ∙ rows_of.1.is))
@@ -211,7 +206,7 @@ module _ (words : ℕ → ℕ → ℕ × ℕ) (scenario : Scenario) (first : Bas
                 by : (o : Option OrderRefusal) → untaken node.draws line x ≡ o → Done
                 by (Some why) e =
                     let w = tables-order.refused node.draws line why x e in
-                    absurd (one_none work (works r) has_work (ap works now_is_so ∙ (w.work ∙ idle (group_of_order line.order) seat.who x rows_of.1.was)))
+                    absurd (one_not_none work (works r) has_work (ap works now_is_so ∙ (w.work ∙ idle (group_of_order line.order) seat.who x rows_of.1.was)))
                 by None e =
                     let w = tables-order.taken node.draws line x may e in
                     let is_work : w.0 ≡ work = same_work w.0 work (sym w.3.work ∙ (ap works (sym now_is_so) ∙ has_work)) in (

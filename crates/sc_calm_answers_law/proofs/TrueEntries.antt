@@ -72,6 +72,8 @@ use Rattle.sc_calm_answers_law.proofs.Opened.{IsOpened}
 use Rattle.sc_calm_answers_law.proofs.Parties.{Coordinates}
 use Rattle.sc_calm_answers_law.proofs.Ring.{pred_is}
 use Rattle.sc_calm_answers_law.proofs.Since.{both, coords, flights_at, free_first, led_first, locks_at, next_is, shared_begins, there_of, tx_is}
+use Rattle.std.proofs.lemmas.Option.{same_Some}
+use Rattle.sc_calm_answers_law.proofs.Hints.{no_deeds}
 
 -- ---- a leader that stays
 
@@ -157,16 +159,6 @@ watch_none core watch gone free pred =
 same_answer : (tx tx2 coord coord2 : Draw) (w w2 : Bool) (by by2 : ℕ) → Answers tx coord w by ≡ Answers tx2 coord2 w2 by2 → (tx ≡ tx2) × (w ≡ w2)
 same_answer tx tx2 coord coord2 w w2 by by2 e = (cc, cc)
 
-some_one : (x y : ReplicaState) → Some x ≡ Some y → x ≡ y
-some_one x y e = cc
-
-some_nat : (x y : ℕ) → Some x ≡ Some y → x ≡ y
-some_nat x y e = cc
-
-no_deeds : (entries : List Command) (group made : Group) → AreDeeds [] entries → made ≡ state_after group entries → made ≡ group
-no_deeds [] group made are e = e
-no_deeds (c ∷ cs) group made are e = absurd are
-
 -- ---- a leader
 
 module _ (tells : ReplicasTell) (sound : ValidJournalsAreSound) (logs : ValidEntriesAreLogs) (bounded : ValidScenariosAreBounded) (drawn : NamesAreDrawn) (words : ℕ → ℕ → ℕ × ℕ) (scenario : Scenario) (first : Base) (journal quiet rows : Rows) (name : Draw) (node : ℕ)
@@ -210,10 +202,10 @@ module _ (tells : ReplicasTell) (sound : ValidJournalsAreSound) (logs : ValidEnt
     c = since.done.0
 
     host_is : host ≡ node
-    host_is = some_nat host node (sym stands.leads.1.0 ∙ (ap (scene_at all rows).lead own ∙ (tell.led all rows name node r l.leads).0))
+    host_is = same_Some host node (sym stands.leads.1.0 ∙ (ap (scene_at all rows).lead own ∙ (tell.led all rows name node r l.leads).0))
 
     now_is : d.now ≡ r
-    now_is = some_one d.now r (sym d.is ∙ (ap (λ h. view_at all rows deal.asked h) host_is ∙ (ap (λ n. view_at all rows n node) own ∙ l.leads.is_there)))
+    now_is = same_Some d.now r (sym d.is ∙ (ap (λ h. view_at all rows deal.asked h) host_is ∙ (ap (λ n. view_at all rows n node) own ∙ l.leads.is_there)))
 
     -- it is as it was in the quiet
     pub group_is : r.group ≡ d.first.group

@@ -49,13 +49,7 @@ use Rattle.sc_calm_orders_law.specs.Scenes.{Lone, Turn}
 use Rattle.sc_calm_orders_law.specs.Stages.{Closes, ClosesBoth, Replied, Still, Weighs, heard, heard_lead}
 use Rattle.sc_calm_answers_law.specs.Deeds.{heard_doer}
 use Rattle.sc_calm_answers_law.proofs.TrueReaching.{asks_so, named_by, no_elsewhere, opens_so, runs_at, stays_so, true_flight}
-use Rattle.sc_calm_answers_law.proofs.TruePassing.{passes_so}
-
-recorded_not : (deal other : Deal) (agreed : Bool) (host n : ℕ) → Recorded deal agreed host ≡ Asks other n → ⊥
-recorded_not deal other agreed host n e = cc
-
-recorded_on : (deal other : Deal) (agreed : Bool) (host : ℕ) → Recorded deal agreed host ≡ SentOn other → ⊥
-recorded_on deal other agreed host e = cc
+use Rattle.sc_calm_answers_law.proofs.TruePassing.{passes_so, recorded_not, recorded_on}
 
 same_records : (t tx : Draw) (w w2 a a2 : Bool) (n n2 : ℕ) → Some (Records t w a n) ≡ Some (Records tx w2 a2 n2) → (t ≡ tx) × ((w ≡ w2) × (a ≡ a2))
 same_records t tx w w2 a a2 n n2 e = (cc, (cc, cc))

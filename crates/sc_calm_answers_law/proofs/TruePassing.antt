@@ -48,21 +48,17 @@ use Rattle.sc_node_table.specs.Rows.{mailed}
 use Rattle.sc_calm_answers_law.proofs.Hinting.{aside_off, no_append, question_mail}
 use Rattle.sc_calm_answers_law.proofs.TrueQuiet.{stands_there}
 use Rattle.sc_calm_answers_law.proofs.TrueSending.{leader_sends}
-
-same_body : (tx tx2 c c2 : Draw) (h h2 : Option ℕ) → TxElsewhere tx c h ≡ TxElsewhere tx2 c2 h2 → h ≡ h2
-same_body tx tx2 c c2 h h2 e = cc
+use Rattle.sc_calm_rows_law.proofs.Beginning.{none_some}
+use Rattle.sc_calm_answers_law.proofs.Hints.{same_hint}
 
 asks_not : (deal other : Deal) (to : ℕ) → Asks deal to ≡ SentOn other → ⊥
 asks_not deal other to e = cc
 
-recorded_not : (deal other : Deal) (agreed : Bool) (host n : ℕ) → Recorded deal agreed host ≡ Asks other n → ⊥
+pub recorded_not : (deal other : Deal) (agreed : Bool) (host n : ℕ) → Recorded deal agreed host ≡ Asks other n → ⊥
 recorded_not deal other agreed host n e = cc
 
-recorded_on : (deal other : Deal) (agreed : Bool) (host : ℕ) → Recorded deal agreed host ≡ SentOn other → ⊥
+pub recorded_on : (deal other : Deal) (agreed : Bool) (host : ℕ) → Recorded deal agreed host ≡ SentOn other → ⊥
 recorded_on deal other agreed host e = cc
-
-none_some : {X : Type 0} {x : X} → None ≡ Some x → ⊥
-none_some e = cc
 
 module _ (tells : ReplicasTell) (words : ℕ → ℕ → ℕ × ℕ) (scenario : Scenario) (first : Base) (journal quiet rows : Rows) (seat : Seat Player) (number : ℕ) (stage : Stage) (g : GoesOnSince words scenario first journal quiet rows seat number stage) where
   abbrev all : List (Seat Player)
@@ -121,7 +117,7 @@ module _ (tells : ReplicasTell) (words : ℕ → ℕ → ℕ × ℕ) (scenario :
       passed : (tx2 c2 : Draw) → reached.0.running ≡ false → Among m (record { from = reached.0.me; to = mail0.from; body = TxElsewhere tx2 c2 reached.0.hint } ∷ []) → Told_so
       passed tx2 c2 off a =
           let only : record { from = x.me; to = mail0.from; body = TxElsewhere tx2 c2 x.hint } ≡ m = elim a [ inl e ↦ e | inr none ↦ absurd none ] in
-          let same : hint ≡ x.hint = same_body tx tx2 c c2 hint x.hint (sym body ∙ ap (λ (y : Mail). y.body) (sym only)) in
+          let same : hint ≡ x.hint = same_hint tx tx2 c c2 hint x.hint (sym body ∙ ap (λ (y : Mail). y.body) (sym only)) in
           let up = g.rests.is.quiet.rises deal.asked to x reached.1 off (g.rests.reach.stand deal.asked stood to x reached.1) in
           (x.top.node, same ∙ up.hint_is, (up.there, up.is_there))
 

@@ -15,10 +15,7 @@ use Rattle.sc_calm_answers_law.specs.Settings.{AreReachable}
 use Rattle.sc_calm_scenes_law.specs.Fresh.{IsThere}
 use Rattle.sc_budget_law.specs.AskingQuiet.{replicas_after}
 use Rattle.sc_calm_answers_law.specs.TrueUnder.{AreSeen}
-
-least_in : (members : List ℕ) → 1 ≤ length members → is_member members (least_of members) ≡ true
-least_in [] some = absurd (omega (arith, some))
-least_in (x ∷ members) some = or_left (eqb x x) (is_member members x) (eq-eqb x x refl)
+use Rattle.sc_following_law.proofs.Leads.{least_in}
 
 no_route : (into : Route) → ◌≡◌ {A = Option Route} None (Some into) → ⊥
 no_route into e = cc

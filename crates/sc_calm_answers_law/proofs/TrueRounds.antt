@@ -82,7 +82,7 @@ row_quiet now after node taken sent marks marks_after row had sends who = elim (
 
 -- ---- one command in flight
 
-work_act : (command : Command) (work : Work) → work_by command ≡ Some work → is_act command ≡ true
+pub work_act : (command : Command) (work : Work) → work_by command ≡ Some work → is_act command ≡ true
 work_act Noop work e = cc
 work_act (Call client seq op) work e = cc
 work_act (Join node order) work e = refl

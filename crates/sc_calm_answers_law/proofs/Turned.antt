@@ -39,6 +39,7 @@ use Rattle.sc_calm_rows_law.proofs.WellNodes.{Plays, Found, found_well, replay_w
 use Rattle.sc_calm_groups_law.specs.Led.{Ends}
 use Rattle.sc_calm_groups_law.specs.Logged.{IsLogsState}
 use Rattle.sc_calm_groups_law.specs.Through.{IsWellPlayer, AreWellBorn, Delivers, HasOneLog, IsSentSo}
+use Rattle.sc_calm_answers_law.proofs.Playing.{plays_of}
 
 -- a node of a seat takes this mail of the group, for its replica
 pub record TurnsMail (words : ℕ → ℕ → ℕ × ℕ) (births : List (Seat Player)) (rows : Rows) (seat : Seat Player) (event : Event OrderLine) (base : Base) (number : ℕ) (mail : Mail) (node : NodeState) (r : ReplicaState) : Type 0 where
@@ -69,10 +70,6 @@ pub data IsTurn (at : Sets) (by : Tellers) (words : ℕ → ℕ → ℕ × ℕ) 
   TurnTakes : (number : ℕ) (mail : Mail) (node : NodeState) (r : ReplicaState) → TurnsMail words births rows seat event base number mail node r → IsTurn at by words births rows seat event base
   TurnMakes : (from slot : ℕ) (state : Base) (sets : List (List ℕ)) → TurnsState at by births rows seat event base from slot state sets → IsTurn at by words births rows seat event base
   TurnTold : (line : OrderLine) (node : NodeState) (r : ReplicaState) → TurnsOrder births rows seat event base line node r → IsTurn at by words births rows seat event base
-
-plays_of : (who : ℕ) (player : Player) → IsWellPlayer who player → Plays who player
-plays_of who (Node node) k = (k.0, subst (λ m. Each (IsWellKept m) node.replicas) k.0 k.1)
-plays_of who (Client client) k = tt
 
 module _ (at : Sets) (over : Ends) (by : Tellers) (words : ℕ → ℕ → ℕ × ℕ) (births : List (Seat Player)) (base : Base) (wb : AreWellBorn births) (rows : Rows) (seat : Seat Player) (born : IsSeat births seat) where
   abbrev name : Draw

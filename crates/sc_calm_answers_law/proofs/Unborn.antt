@@ -33,6 +33,7 @@ use Rattle.sc_calm_answers_law.proofs.Affairs.{Affair}
 use Rattle.sc_calm_answers_law.proofs.WorkBirths.{HasBorn, stays_born}
 use Rattle.sc_calm_answers_law.proofs.Places.{Held, Kids}
 use Rattle.sc_calm_answers_law.proofs.Taking.{Hears, mailed_kids}
+use Rattle.sc_calm_answers_law.proofs.Tasks.{first_off}
 
 -- a child is not known yet
 abbrev pub IsUnborn : List Draw → Base → Type 0
@@ -40,10 +41,6 @@ IsUnborn born base = list_any (λ other. same_draw other base.core.id) born ≡ 
 
 none_some : {P : Type 0} {x : Base} → None ≡ Some x → P
 none_some e = absurd (let bad : None ≡ Some _ = e in cc)
-
-first_off : (b c : Bool) → b || c ≡ false → b ≡ false
-first_off true c e = cc
-first_off false c e = refl
 
 -- ---- a child that is borne is not known before
 

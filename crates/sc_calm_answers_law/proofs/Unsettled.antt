@@ -41,9 +41,7 @@ use Rattle.sc_calm_answers_law.proofs.Names.{undecided, unvoted, used_in}
 use Rattle.sc_calm_answers_law.proofs.Parties.{coordinates, decided_same, lead_bond}
 use Rattle.sc_calm_answers_law.proofs.Pending.{goes_to, is_pending, question_at, reply_at}
 use Rattle.sc_calm_answers_law.proofs.TrueQuiet.{stands_there}
-
-some_same : (r x : ReplicaState) → Some r ≡ Some x → r ≡ x
-some_same r x e = cc
+use Rattle.std.proofs.lemmas.Option.{same_Some}
 
 module _ (bounded : ValidScenariosAreBounded) (drawn : NamesAreDrawn) (words : ℕ → ℕ → ℕ × ℕ) (scenario : Scenario) (first : Base) (journal quiet rows : Rows) (seat : Seat Player) (number : ℕ) (mail : Mail) (group : Draw) (node : NodeState) (r : ReplicaState)
     (stage : Stage) (t : TakesSince words scenario first journal quiet rows seat number mail group node r stage) where
@@ -103,7 +101,7 @@ module _ (bounded : ValidScenariosAreBounded) (drawn : NamesAreDrawn) (words : �
     d = truly.done.0
 
     here : d.now ≡ r
-    here = some_same d.now r (sym d.is ∙ (ap (λ n. view_at all rows deal.coord n) chief ∙ (ap (λ n. view_at all rows n seat.who) own ∙ view)))
+    here = same_Some d.now r (sym d.is ∙ (ap (λ n. view_at all rows deal.coord n) chief ∙ (ap (λ n. view_at all rows n seat.who) own ∙ view)))
 
     asking : bond_of d.now.group.core ≡ Asking deal.tx deal.asked deal.turn
     asking = sym (lead_bond all rows deal.coord deal.chief d.now replied.stands.leads.0 d.is) ∙ ap (λ (h : Here). h.bond) replied.stands.parties.0.0

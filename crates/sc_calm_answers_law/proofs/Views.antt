@@ -34,11 +34,9 @@ use Rattle.sc_budget_law.proofs.BetweenSteps.{in_numbers, node_born, node_number
 use Rattle.sc_calm_answers_law.specs.Settings.{AreAtNodes}
 use Rattle.sc_calm_answers_law.proofs.KeptSeen.{from_map}
 use Rattle.sc_calm_answers_law.specs.Viewing.{ViewsAgree}
+use Rattle.sc_calm_answers_law.proofs.Takers.{roles_differ}
 
 -- ---- what a player has
-
-roles_apart : (client : ClientState) (node : NodeState) → ◌≡◌ {A = Player} (Client client) (Node node) → ⊥
-roles_apart client node e = cc
 
 same_replicas : (player : Player) → replicas_of player ≡ node_replicas player
 same_replicas (Node node) = refl
@@ -130,7 +128,7 @@ module _ (scenario : Scenario) (bounded : IsBounded scenario) (rows : Rows) (nam
           ]
         where
           no_both : (s : Seat Player) (asks : Asks) → client_seat (route_of begins.first) asks ≡ nseat who → ⊥
-          no_both s asks e = roles_apart (born_client asks.client asks.ops (route_of begins.first)) (born_node as_nodes.slots who scenario.groups scenario.policy) (ap (λ (x : Seat Player). x.actor) e)
+          no_both s asks e = roles_differ (born_client asks.client asks.ops (route_of begins.first)) (born_node as_nodes.slots who scenario.groups scenario.policy) (ap (λ (x : Seat Player). x.actor) e)
 
 pub views_agree : ViewsAgree
 views_agree = record {

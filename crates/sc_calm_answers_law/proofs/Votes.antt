@@ -65,6 +65,9 @@ use Rattle.sc_sound.specs.Players.{Player}
 use Rattle.sc_cmd.specs.declared.votes.Past.TheVariants as Cast
 use Rattle.sc_cmd.specs.declared.votes.Vote.TheVariants as Says
 use Rattle.sc_calm_orders_law.specs.Stages.{Asks as AsksStage}
+use Rattle.sc_calm_answers_law.proofs.KeptCounting.{only_work, work_flies}
+use Rattle.sc_calm_answers_law.proofs.TrueRounds.{work_act}
+use Rattle.sc_calm_answers_law.proofs.TrueTurns.{first_turn}
 
 -- ---- what a group waits for by its work
 
@@ -125,35 +128,6 @@ stages_expect_work now group work under = parties_fit now group (parties_of unde
 
 -- ---- commands
 
--- what is work is no call and no filler
-act_is : (command : Command) (work : Work) → work_by command ≡ Some work → is_act command ≡ true
-act_is Noop work e = cc
-act_is (Call client seq op) work e = cc
-act_is (Join node order) work e = refl
-act_is (Leave node order) work e = refl
-act_is (Split at child order) work e = refl
-act_is (Begin tx body order) work e = refl
-act_is (Prepared tx offer) work e = refl
-act_is (RecordVote tx vote by) work e = refl
-act_is (GiveUp tx) work e = refl
-act_is (Finish tx outcome) work e = refl
-act_is (Watched tx watch) work e = refl
-act_is (RecordWatch tx vote by) work e = refl
-
-work_flies : (flights : List (Flight Command)) (flight : Flight Command) (work : Work) → Among flight flights → work_by flight.value ≡ Some work → Among work (works_flying flights)
-work_flies [] flight work a e = absurd a
-work_flies (other ∷ flights) flight work a e = elim a [
-  | inl is ↦ among-left work (listed (work_by other.value)) (works_flying flights) (subst (λ o. Among work (listed o)) (sym (ap (λ (f : Flight Command). work_by f.value) is ∙ e)) (inl refl))
-  | inr more ↦ among-right work (listed (work_by other.value)) (works_flying flights) (work_flies flights flight work more e)
-]
-
-only_work : (o : Option Work) (work : Work) → Among work (listed o) → listed o ≡ work ∷ []
-only_work None work a = absurd a
-only_work (Some x) work a = elim a [
-  | inl is ↦ ap (λ w. w ∷ []) is
-  | inr none ↦ absurd none
-]
-
 -- what a command has to find, if it is work
 abbrev ExpectsBy : Option Work → Bond → Type 0
 ExpectsBy None bond = Unit {0}
@@ -161,11 +135,6 @@ ExpectsBy (Some work) bond = WorkExpects work bond
 
 no_work : (work : Work) → ◌≡◌ {A = Option Work} None (Some work) → ⊥
 no_work work e = cc
-
-first_is : (turn : Turn) → is_watch turn ≡ false → turn ≡ First
-first_is First e = refl
-first_is Lone e = absurd (true≢false e)
-first_is (Next part host) e = absurd (true≢false e)
 
 yes_only : (turn : Turn) → is_watch turn ≡ true → IsVote turn false → ⊥
 yes_only First e v = true≢false (sym e)
@@ -279,9 +248,9 @@ module _ (words : ℕ → ℕ → ℕ × ℕ) (births : List (Seat Player)) (row
         (entry (Answers tx watch.coord true watch.by) (bound_by true tx) ((watch.coord, Reply tx true true seat.who watch.by ∷ []) ∷ []) (Watched tx watch) e refl (votes-leave.watched tx watch seat.who r.group t.0 t.1.0)) k
         (stays_so (Watched tx watch) e t.1.1) (λ same. refl)
     by_command (RecordVote tx (Says.No why) by) e w k t =
-        Aborted flight tx by flies h.me_is (entry (Records tx false false by) Unbound [] (RecordVote tx (Says.No why) by) e refl (records-leave.no tx k.0 why by seat.who r.group (k.2 ∙ ap (Asking tx k.0) (first_is k.1 k.3))))
+        Aborted flight tx by flies h.me_is (entry (Records tx false false by) Unbound [] (RecordVote tx (Says.No why) by) e refl (records-leave.no tx k.0 why by seat.who r.group (k.2 ∙ ap (Asking tx k.0) (first_turn k.1 k.3))))
     by_command (RecordVote tx (Says.Yes frozen) by) e w k t =
-        let first : bond_of r.group.core ≡ Asking tx k.0 First = k.2 ∙ ap (Asking tx k.0) (first_is k.1 k.3) in
+        let first : bond_of r.group.core ≡ Asking tx k.0 First = k.2 ∙ ap (Asking tx k.0) (first_turn k.1 k.3) in
         elim t [
           | inl d ↦ Decided flight tx k.0 First by flies h.me_is (entry (Records tx false true by) Unbound (results tx k.0 First by) (RecordVote tx (Says.Yes frozen) by) e refl (records-leave.decides tx k.0 frozen d.0 by seat.who r.group first d.1)) first
           | inr c ↦ Heard flight tx k.0 frozen.succ.group by (least_of frozen.succ.members) flies h.me_is
@@ -309,7 +278,7 @@ module _ (words : ℕ → ℕ → ℕ × ℕ) (births : List (Seat Player)) (row
         let so : IsTrueEntry r.me r.group flight.value = Each-among (λ (x : Flight Command). IsTrueEntry r.me r.group x.value) r.leader.flights flight are_true f.0 in
         let low : next r ≤ flight.slot = Each-among (λ (x : Flight Command). next r ≤ x.slot) r.leader.flights flight kept.0.0.0 f.0 in
         let acts : ActsAlone g.course r = order_is_kept.alone g.at g.course r lead.led (g.led.orderly seat.who r (here_view words births rows seat number mail base node r h runs) runs) in
-        let bound : g.course.bound ≡ next r + 1 = acts slot flight.value (omega (arith, low, at_slot)) (inl (ap (option_map (λ (x : Flight Command). x.value)) e)) (act_is flight.value work.0 work.1) in
+        let bound : g.course.bound ≡ next r + 1 = acts slot flight.value (omega (arith, low, at_slot)) (inl (ap (option_map (λ (x : Flight Command). x.value)) e)) (work_act flight.value work.0 work.1) in
         let place : flight.slot ≡ next r = (let top = known_slot in omega (arith, low, at_slot, bound, top)) in
         let one = works_one words births rows seat number mail base node r h runs under in
         let some : Among work.0 (works r) =

@@ -54,13 +54,8 @@ use Rattle.sc_calm_answers_law.proofs.Tasks.{affair_by, begins_free}
 use Rattle.sc_calm_answers_law.proofs.Ordered.{order_fine}
 use Rattle.sc_calm_answers_law.proofs.WorkFronts.{AreHeld, goes_on, held_work}
 use Rattle.sc_calm_answers_law.proofs.Drawn.{drawn_nowhere, drawn_unknown}
-
-some_is : {X : Type 0} (x y : X) → Some x ≡ Some y → x ≡ y
-some_is x y e = cc
-
-plays_of : (who : ℕ) (player : Player) → IsWellPlayer who player → Plays who player
-plays_of who (Node node) k = (k.0, subst (λ m. Each (IsWellKept m) node.replicas) k.0 k.1)
-plays_of who (Client client) k = tt
+use Rattle.std.proofs.lemmas.Option.{same_Some}
+use Rattle.sc_calm_answers_law.proofs.Playing.{plays_of}
 
 -- who is born as a client stays one
 IsClient : Player → Type 0
@@ -180,7 +175,7 @@ module _ (well : ScenariosAreWellBorn) (words : ℕ → ℕ → ℕ × ℕ) (sce
       begins : (a : Affair) → BeginsFree a → HeldSo a group after.0 → AreGood a after.1 → Begins a
       begins a b h m = record {
         views = λ name x v. elim (cases-draw name group) [
-          | inl i ↦ subst (HeldSo a name) (some_is after.0 x (sym row.is ∙ (ap (λ n. view_at all (with_event quiet seat (Told line)) n seat.who) (sym i) ∙ v))) (subst (λ n. HeldSo a n after.0) (sym i) h)
+          | inl i ↦ subst (HeldSo a name) (same_Some after.0 x (sym row.is ∙ (ap (λ n. view_at all (with_event quiet seat (Told line)) n seat.who) (sym i) ∙ v))) (subst (λ n. HeldSo a n after.0) (sym i) h)
           | inr ne ↦ rest_so a b name x
               (rests name seat.who x (view_of name (Some x) (sym (put_others group name after.0 node.replicas (names_stay.ordered node.draws line r ∙ own) ne)
               ∙ (sym (now_is all quiet seat (Told line) node seated is (ordered_of (Some r) line node) (Some (ToldInput line)) refl (ap (λ (s : NodeState × List Mail). (Node s.0, s.1)) (ap (λ o. ordered_of o line node) here)) name) ∙ v)))).0

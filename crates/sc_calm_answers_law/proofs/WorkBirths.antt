@@ -43,22 +43,8 @@ use Rattle.sc_machine_table.specs.Orders.{refusal_of, with_node, without_node, o
 use Rattle.sc_machine_table.specs.Splits.{left_group, right_members, child_of, has_named}
 use Rattle.sc_machine_table.specs.Transactions.{begun_group, committed, granted, participant_answered, asks_watcher, vote_recorded, watch_answered, watch_recorded, is_coordinating}
 use Rattle.sc_machine_table.specs.Votes.{has_voted}
-
--- a call leaves a group's record
-numbered_core : (o : Option Noted) (group : Group) (client seq : ℕ) (op : Op) → (served_by_note o group client seq op).0.core ≡ group.core
-numbered_core None group client seq op = refl
-numbered_core (Some n) group client seq op =
-    cond_both (nat_lt n.seq seq) _ _ (λ (x : Group × Effect). x.0.core ≡ group.core) (λ _. refl) (λ _. cond_both (eqb n.seq seq) (group, Again n.reply) (group, Stale n.seq) (λ (x : Group × Effect). x.0.core ≡ group.core) (λ _. refl) (λ _. refl))
-
-served_core : (group : Group) (client seq : ℕ) (op : Op) → (served group client seq op).0.core ≡ group.core
-served_core group client seq op = cond_both (holds_key group.core.arc (key_of op)) _ _ (λ (x : Group × Effect). x.0.core ≡ group.core) (λ _. numbered_core (get group.clients client) group client seq op) (λ _. refl)
-
-called_core : (gone : Option Route) (lock : Lock) (group : Group) (client seq : ℕ) (op : Op) → (called gone lock group client seq op).0.core ≡ group.core
-called_core (Some into) lock group client seq op = refl
-called_core None Free group client seq op = served_core group client seq op
-called_core None (Watching tx watch) group client seq op = served_core group client seq op
-called_core None (Coordinating tx body order heard) group client seq op = refl
-called_core None (Promised tx offer) group client seq op = refl
+use Rattle.sc_calm_answers_law.proofs.Cores.{called_core, numbered_core, served_core}
+use Rattle.sc_ring_law.proofs.Notes.{any_keeps, any_new}
 
 -- a group's own part of a step
 module _ (group : Group) where
@@ -230,17 +216,9 @@ any_more_by : {X : Type 0} (b : Bool) (p : X → Bool) (xs ys : List X) → (lis
 any_more_by true p xs ys more e = refl
 any_more_by false p xs ys more e = more e
 
-any_more : {X : Type 0} (p : X → Bool) (xs ys : List X) → list_any p xs ≡ true → list_any p (xs ++ ys) ≡ true
-any_more p [] ys e = absurd (true≢false (sym e))
-any_more p (x ∷ xs) ys e = any_more_by (p x) p xs ys (λ k. any_more p xs ys k) e
-
 any_last_by : {X : Type 0} (b : Bool) (p : X → Bool) (xs : List X) → list_any p xs ≡ true → b || list_any p xs ≡ true
 any_last_by true p xs k = refl
 any_last_by false p xs k = k
-
-any_last : {X : Type 0} (p : X → Bool) (xs : List X) (y : X) → p y ≡ true → list_any p (xs ++ y ∷ []) ≡ true
-any_last p [] y e = or_left (p y) false e
-any_last p (x ∷ xs) y e = any_last_by (p x) p (xs ++ y ∷ []) (any_last p xs y e)
 
 or_nothing : (b : Bool) → b || false ≡ true → b ≡ true
 or_nothing true e = refl
@@ -259,7 +237,7 @@ module _ (group : Group) (command : Command) where
   pub stays_born : (name : Draw) → HasBorn name group.core.born → HasBorn name (applied group command).0.core.born
   stays_born name has = elim (births group command) [
     | inl n ↦ subst (HasBorn name) (sym n.1) has
-    | inr b ↦ subst (HasBorn name) (sym b.3) (any_more (λ other. same_draw other name) group.core.born (b.1 ∷ []) has)
+    | inr b ↦ subst (HasBorn name) (sym b.3) (any_keeps (λ other. same_draw other name) group.core.born (b.1 ∷ []) has)
   ]
 
   kid_is : (kid : Base) → child_by group command ≡ Some kid → (at : ℕ) × (child : Draw) × (kid ≡ child_of group at child) × ((applied group command).0.core.born ≡ group.core.born ++ child ∷ [])
@@ -278,7 +256,7 @@ module _ (group : Group) (command : Command) where
   pub bears_born : (kid : Base) → child_by group command ≡ Some kid → HasBorn kid.core.id (applied group command).0.core.born
   bears_born kid e =
       let k = kid_is kid e in
-      subst (HasBorn kid.core.id) (sym k.3) (any_last (λ other. same_draw other kid.core.id) group.core.born k.1 (same_name k.1 kid.core.id (sym (ap (λ (b : Base). b.core.id) k.2))))
+      subst (HasBorn kid.core.id) (sym k.3) (any_new (λ other. same_draw other kid.core.id) group.core.born k.1 (same_name k.1 kid.core.id (sym (ap (λ (b : Base). b.core.id) k.2))))
 
   -- .. whose members are those that go
   pub kid_members : (kid : Base) → child_by group command ≡ Some kid → kid.core.members ≡ right_members group.core.members

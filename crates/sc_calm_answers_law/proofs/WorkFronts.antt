@@ -46,18 +46,13 @@ use Rattle.sc_calm_answers_law.proofs.Places.{Kids}
 use Rattle.sc_calm_answers_law.proofs.WorkRows.{HeldSo, RowHolds, delivery_holds, delivery_bears, delivery_unborn}
 use Rattle.sc_calm_answers_law.proofs.Unborn.{IsUnborn, kid_unborn}
 use Rattle.sc_calm_answers_law.proofs.Tasks.{affair_by, begins_free}
-
-some_is : {X : Type 0} (x y : X) → Some x ≡ Some y → x ≡ y
-some_is x y e = cc
+use Rattle.std.proofs.lemmas.Option.{same_Some}
+use Rattle.sc_calm_answers_law.proofs.OrderedSending.{each_filter}
 
 -- what holds of an affair in a front
 pub record AreHeld (a : Affair) (words : ℕ → ℕ → ℕ × ℕ) (births : List (Seat Player)) (rows : Rows) : Type 0 where
   pub replicas : (name : Draw) (who : ℕ) (r : ReplicaState) → view_at births rows name who ≡ Some r → HeldSo a name r
   pub mail : (who : ℕ) → is_born (players words births) who ≡ true → AreGood a (rest (players words births) rows who)
-
-each_filter : {X : Type 0} (P : X → Type 0) (test : X → Bool) (xs : List X) → Each P xs → Each P (filter test xs)
-each_filter P test [] e = tt
-each_filter P test (x ∷ xs) e = either_way (Each P) (test x) (x ∷ filter test xs) (filter test xs) (e.0, each_filter P test xs e.1) (each_filter P test xs e.1)
 
 module _ (a : Affair) (words : ℕ → ℕ → ℕ × ℕ) (births : List (Seat Player)) (rows : Rows) (seat : Seat Player) (event : Event OrderLine) (timely : AreInTime (players words births) (with_event rows seat event)) where
   abbrev s : System Player Mail OrderLine
@@ -91,7 +86,7 @@ module _ (words : ℕ → ℕ → ℕ × ℕ) (births : List (Seat Player)) (row
 
   -- so what holds of all mail under way holds of it
   pub takes_one : (P : Mail → Type 0) → Each P (rest (players words births) rows seat.who) → (mail : Mail) → numbered (mails rows) number ≡ Some mail → P mail
-  takes_one P all mail at = subst P (some_is first.mail mail (sym first.sent ∙ at)) (subst (Each P) first.first all).0
+  takes_one P all mail at = subst P (same_Some first.mail mail (sym first.sent ∙ at)) (subst (Each P) first.first all).0
 
   pub taken_mail : (mail : Mail) × (numbered (mails rows) number ≡ Some mail)
   taken_mail = (first.mail, first.sent)

@@ -64,16 +64,9 @@ use Rattle.sc_machine_table.specs.Children.{child_by}
 use Rattle.sc_machine_table.specs.Group.{Group}
 use Rattle.sc_calm_answers_law.proofs.Unborn.{IsUnborn, made_unborn}
 use Rattle.sc_calm_answers_law.proofs.Taking.{Hears, mailed_fine, mailed_kids, made_fine}
-
-none_some : {X : Type 0} {x : X} → None ≡ Some x → ⊥
-none_some e = cc
-
-some_is : {X : Type 0} (x y : X) → Some x ≡ Some y → x ≡ y
-some_is x y e = cc
-
-plays_of : (who : ℕ) (player : Player) → IsWellPlayer who player → Plays who player
-plays_of who (Node node) k = (k.0, subst (λ m. Each (IsWellKept m) node.replicas) k.0 k.1)
-plays_of who (Client client) k = tt
+use Rattle.std.proofs.lemmas.Option.{same_Some}
+use Rattle.sc_calm_answers_law.proofs.Playing.{plays_of}
+use Rattle.sc_calm_rows_law.proofs.Beginning.{none_some}
 
 -- what holds of a replica at a front, but its name and what its leader counted
 abbrev pub HeldSo : Affair → Draw → ReplicaState → Type 0
@@ -193,7 +186,7 @@ module _ (well : ScenariosAreWellBorn) (a : Affair) (begins : BeginsFree a) (wor
             (rows_replicas.taken all rows seat number mail guide.base.core.id node r born is at t.comes comes own_here)
 
         named_body : (n : Draw) (b : Draw → MailBody) → mail.body ≡ b n → group_of_mail (b n) ≡ Some n → mail.body ≡ b guide.base.core.id
-        named_body n b e is_of = e ∙ ap b (some_is n guide.base.core.id (sym is_of ∙ (sym (ap group_of_mail e) ∙ comes)))
+        named_body n b e is_of = e ∙ ap b (same_Some n guide.base.core.id (sym is_of ∙ (sym (ap group_of_mail e) ∙ comes)))
 
         low_prepare : (n : Draw) (ballot : Ballot) (from_slot : ℕ) → mail.body ≡ Prepare n ballot from_slot → r.acceptor.floor < from_slot
         low_prepare n ballot from_slot e =
@@ -229,9 +222,9 @@ module _ (well : ScenariosAreWellBorn) (a : Affair) (begins : BeginsFree a) (wor
         hears (Accepted n ballot slot) e q = tt
         hears (Nack n promised) e q = tt
         hears (Learn n slot command) e q =
-            (subst (λ x. a.Does x command) (some_is n group (sym (ap group_of_mail e) ∙ t.named) ∙ sym own) q, learn_finds n slot command e)
+            (subst (λ x. a.Does x command) (same_Some n group (sym (ap group_of_mail e) ∙ t.named) ∙ sym own) q, learn_finds n slot command e)
         hears (Ask n from_slot) e q = g.sends.asks rows seat number mail from_slot delivers (named_body n (λ x. Ask x from_slot) e refl)
-        hears (Install n slot state sets) e q = subst (λ x. a.Is x state.core) (some_is n group (sym (ap group_of_mail e) ∙ t.named) ∙ sym own) q.1
+        hears (Install n slot state sets) e q = subst (λ x. a.Is x state.core) (same_Some n group (sym (ap group_of_mail e) ∙ t.named) ∙ sym own) q.1
         hears (TxPrepare tx offer) e q = q
         hears (TxVote tx coord part vote) e q = q
         hears (TxOutcome tx part outcome) e q = tt
@@ -265,12 +258,12 @@ module _ (well : ScenariosAreWellBorn) (a : Affair) (begins : BeginsFree a) (wor
             by (inl e) = had name x (sym (put_others group name made.0.0 node.replicas (names_stay.mailed mail.from mail.body r ∙ own) ne) ∙ (sym e ∙ v))
             by (inr (child, among, id, none, made_so)) =
                 let free = begins.young group child (each_is (a.Bears group) made.1 child kids among) in
-                subst (HeldSo a name) (some_is (born_replica slots_ahead seat.who child) x (sym made_so ∙ v)) (refl, tt, tt, tt, begins.free name child.core free)
+                subst (HeldSo a name) (same_Some (born_replica slots_ahead seat.who child) x (sym made_so ∙ v)) (refl, tt, tt, tt, begins.free name child.core free)
 
         takes_it : Done
         takes_it = record {
           views = λ name x v. elim (cases-draw name group) [
-            | inl i ↦ subst (HeldSo a name) (some_is made.0.0 x (sym row.is ∙ (ap (λ n. view_at all (with_event rows seat (Deliver number)) n seat.who) (sym i) ∙ v))) (subst (λ n. HeldSo a n made.0.0) (sym i) (held_so a group made.0.0 fine.0))
+            | inl i ↦ subst (HeldSo a name) (same_Some made.0.0 x (sym row.is ∙ (ap (λ n. view_at all (with_event rows seat (Deliver number)) n seat.who) (sym i) ∙ v))) (subst (λ n. HeldSo a n made.0.0) (sym i) (held_so a group made.0.0 fine.0))
             | inr ne ↦ other_view name ne x
                 (sym (now_is all rows seat (Deliver number) node born is (with_children made.1 put, made.0.1) (Some (Got mail)) (ap (option_map Got) at) (ap (λ (s : NodeState × List Mail). (Node s.0, s.1)) (takes_by (Some r) here)) name) ∙ v)
           ];
@@ -285,14 +278,14 @@ module _ (well : ScenariosAreWellBorn) (a : Affair) (begins : BeginsFree a) (wor
 
       installs : (n : Draw) (slot : ℕ) (state : Base) (sets : List (List ℕ)) → mail.body ≡ Install n slot state sets → replica_of group node.replicas ≡ None → a.Is n state.core → Done
       installs n slot state sets e here s =
-          let same : n ≡ group = some_is n group (sym (ap group_of_mail e) ∙ t.named) in
+          let same : n ≡ group = same_Some n group (sym (ap group_of_mail e) ∙ t.named) in
           let body : mail.body ≡ Install group slot state sets = e ∙ ap (λ x. Install x slot state sets) same in
           let found = subst (NodeFinds (births as_nodes scenario) rows seat number mail group) body (meets.missed mail group node t here) in
           let row = rows_replicas.made all rows seat number mail group slot state sets node born is at t.comes body found.0.whole here in
           let fine = made_fine a group node.me mail.from slot state sets (subst (λ x. a.Is x state.core) same s) in
           record {
             views = λ name x v. elim (cases-draw name group) [
-              | inl i ↦ subst (HeldSo a name) (some_is _ x (sym row.is ∙ (ap (λ k. view_at all (with_event rows seat (Deliver number)) k seat.who) (sym i) ∙ v)))
+              | inl i ↦ subst (HeldSo a name) (same_Some _ x (sym row.is ∙ (ap (λ k. view_at all (with_event rows seat (Deliver number)) k seat.who) (sym i) ∙ v)))
                   (subst (λ k. HeldSo a k (made_by node.me mail.from group slot state sets).0) (sym i) (held_so a group (made_by node.me mail.from group slot state sets).0 fine.0))
               | inr ne ↦ had name x
                   (sym (unknown_apart name group ne node mail.from mail.body t.named).0

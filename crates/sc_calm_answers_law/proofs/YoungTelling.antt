@@ -37,12 +37,8 @@ use Rattle.sc_calm_answers_law.proofs.WorkBirths.{HasBorn}
 use Rattle.sc_calm_answers_law.specs.Borne.{AreBorneSo}
 use Rattle.sc_calm_answers_law.proofs.Logs.{At}
 use Rattle.sc_calm_answers_law.proofs.Parts.{pumps}
-
-none_some : {X : Type 0} {x : X} → None ≡ Some x → ⊥
-none_some e = cc
-
-some_is : {X : Type 0} (x y : X) → Some x ≡ Some y → x ≡ y
-some_is x y e = cc
+use Rattle.std.proofs.lemmas.Option.{same_Some}
+use Rattle.sc_calm_rows_law.proofs.Beginning.{none_some}
 
 -- an order that is told leaves the group
 ordered_same : (drawer : Drawer) (line : OrderLine) (r : ReplicaState) → (ordered_row drawer line (r, [])).0.group ≡ r.group
@@ -74,7 +70,7 @@ module _ (words : ℕ → ℕ → ℕ × ℕ) (all : List (Seat Player)) (quiet 
       | inl i ↦ (
         r,
         before name ∙ (ap (λ n. replica_of n node.replicas) i ∙ here),
-        ap (λ (y : ReplicaState). y.group) (some_is x (ordered_row node.draws line (r, [])).0 (sym v ∙ (ap (λ n. view_at all (with_event quiet seat (Told line)) n seat.who) i ∙ (rows_replicas.ordered all quiet seat line node r seated is here).is)))
+        ap (λ (y : ReplicaState). y.group) (same_Some x (ordered_row node.draws line (r, [])).0 (sym v ∙ (ap (λ n. view_at all (with_event quiet seat (Told line)) n seat.who) i ∙ (rows_replicas.ordered all quiet seat line node r seated is here).is)))
             ∙ ordered_same node.draws line r,
       )
       | inr ne ↦ (
