@@ -27,8 +27,8 @@ use Rattle.sc_calm_answers_law.specs.Strangers.{NoMailForStrangers}
 use Rattle.sc_calm_answers_law.specs.Journal.{IsCalmJournal, IsFront, AreSent}
 use Rattle.sc_calm_answers_law.specs.AskedSince.{RestingFrontsAreKnown, SentNodesMayPump}
 use Rattle.sc_calm_answers_law.proofs.FindingRows.{nines_at}
-use Rattle.sc_calm_answers_law.proofs.KeptSeen.{found_once, nodes_numbered}
 use Rattle.sc_calm_answers_law.proofs.Setting.{front_lawful}
+use Rattle.sc_calm_answers_law.proofs.Frames.{found_once, nodes_numbered}
 
 pub resting_known : FrontsAreFound → FrontsGoneAgree → NoMailForStrangers → ValidJournalsAreSound → ValidEntriesAreLogs → RestingFrontsAreKnown
 resting_known found_law agree_law no_law sound_law logs_law words scenario first journal quiet far calm rests room = record {

@@ -71,9 +71,9 @@ use Rattle.sc_calm_answers_law.specs.Requested.{setting_of, RequestsBegin, Reque
 use Rattle.sc_calm_answers_law.specs.AskedSince.{RestingFrontsAreKnown, SentNodesMayPump, IsAskedSince, RequestsBeginAsked, RequestsStayAsked, AskedRowsGoOn, AskedRowsFindCalm, RequestsKeepGroups, RequestsRestAgain}
 use Rattle.sc_calm_answers_law.proofs.Fronts.{journal_group, journal_few, quiet_marks, untold_in_order}
 use Rattle.sc_calm_answers_law.proofs.BetweenRequests.{front_timely}
-use Rattle.sc_calm_answers_law.proofs.KeptSeen.{nodes_numbered}
 use Rattle.sc_calm_answers_law.proofs.OrderedKnown.{named_there}
 use Rattle.sc_calm_answers_law.proofs.Setting as quiet_of
+use Rattle.sc_calm_answers_law.proofs.Frames.{nodes_numbered}
 
 -- ---- no order's work stands at a replica that serves calls alone
 

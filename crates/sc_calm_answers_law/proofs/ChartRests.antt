@@ -19,7 +19,7 @@ use Rattle.sc_node_table.specs.Slots.{numbers_from, slots_ahead}
 use Rattle.sc_orderly_law.specs.Timely.{AreInTime}
 use Rattle.sc_orderly_law.proofs.InTime.{by_time}
 use Rattle.sc_orderly_law.proofs.Seats.{seat_found}
-use Rattle.sc_paxos_law.proofs.Among.{Among-either}
+use Rattle.sc_paxos_law.proofs.Among.{Among-either, from_map}
 use Rattle.sc_paxos_words.proofs.ListLemmas.{Each-among, Each-append, Each-from, Each-passes, Each-weaker}
 use Rattle.sc_scenario.specs.Valid.{ValidScenariosAreBounded}
 use Rattle.sc_scenario.specs.declared.scenarios.Asks.{Asks}
@@ -44,7 +44,6 @@ use Rattle.sc_calm_answers_law.specs.Resting.{RestsAt}
 use Rattle.sc_calm_answers_law.specs.Viewing.{ViewsAgree}
 use Rattle.sc_calm_answers_law.proofs.Delivering.{in_all, led_there, gone_leads}
 use Rattle.sc_calm_answers_law.proofs.Elsewhere.{any_found}
-use Rattle.sc_calm_answers_law.proofs.KeptSeen.{from_map}
 use Rattle.sc_calm_answers_law.proofs.Nodes.{node_replays}
 use Rattle.sc_calm_answers_law.proofs.Placing.{place_of}
 

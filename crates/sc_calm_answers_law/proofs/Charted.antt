@@ -46,11 +46,11 @@ use Rattle.sc_calm_answers_law.specs.Lines.{calm_deliveries_of, AreCharted, Calm
 use Rattle.sc_calm_answers_law.specs.Short.{CalmJournalsAreShort}
 use Rattle.sc_calm_answers_law.proofs.Answered.{answered_calmly}
 use Rattle.sc_calm_answers_law.proofs.Covered.{births_covered}
-use Rattle.sc_calm_answers_law.proofs.KeptSeen.{split_among}
 use Rattle.sc_calm_answers_law.proofs.Lines.{orders_same, rooms_for, within_deliveries, plain_by, plain_budget}
 use Rattle.sc_calm_answers_law.proofs.SegmentParts.{IsFramed, SegmentLaws}
 use Rattle.sc_calm_answers_law.proofs.SegmentRows.{RowLaws, with_other}
 use Rattle.sc_calm_answers_law.proofs.SegmentRows as rows_of
+use Rattle.sc_calm_answers_law.proofs.Following.{split_among}
 
 -- ---- no mail is under way for the desk
 

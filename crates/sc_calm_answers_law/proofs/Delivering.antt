@@ -71,7 +71,8 @@ use Rattle.sc_calm_answers_law.specs.KeptAsking.{StagesAsk}
 use Rattle.sc_calm_answers_law.specs.Viewing.{ViewsAgree}
 use Rattle.sc_calm_answers_law.specs.KeptFinding.{IsKnownMail, IsKnownDelivery, OrderRowsFindCalm}
 use Rattle.sc_calm_answers_law.proofs.KeptCounting.{may_count}
-use Rattle.sc_calm_answers_law.proofs.Questions.{IsQuestionOf, question_stage, IsSentOnIn, elsewhere_stage, errand_there}
+use Rattle.sc_calm_answers_law.proofs.Questions.{IsQuestionOf, question_stage, IsSentOnIn, elsewhere_stage}
+use Rattle.sc_calm_answers_law.proofs.Hinting.{errand_there}
 
 -- ---- where a group has a replica
 

@@ -33,7 +33,8 @@ use Rattle.sc_calm_scenes_law.proofs.Newest.{lead_runs}
 use Rattle.sc_calm_answers_law.specs.KeptAsking.{AllLeadAlone, StagesAsk}
 use Rattle.sc_calm_answers_law.specs.Following.{OrderChartsFollow}
 use Rattle.sc_calm_answers_law.proofs.Delivering.{among_all, named_so, runs_there}
-use Rattle.sc_calm_answers_law.proofs.Questions.{elsewhere_stage, errand_there}
+use Rattle.sc_calm_answers_law.proofs.Questions.{elsewhere_stage}
+use Rattle.sc_calm_answers_law.proofs.Hinting.{errand_there}
 
 -- ---- mail that is under way is left
 

@@ -16,7 +16,7 @@ use Rattle.sc_actor.specs.Replay.{value}
 use Rattle.sc_node_table.specs.Node.{is_node, replica_of}
 use Rattle.sc_node_table.specs.Replica.{ReplicaState, name_of}
 use Rattle.sc_node_table.specs.Slots.{numbers_from}
-use Rattle.sc_paxos_law.proofs.Among.{Among-flat_map, from_flat_map}
+use Rattle.sc_paxos_law.proofs.Among.{Among-flat_map, from_flat_map, from_map}
 use Rattle.sc_paxos_words.proofs.ListLemmas.{Among-filter, Each-among, find_found}
 use Rattle.sc_scenario.specs.declared.scenarios.Scenario.{Scenario}
 use Rattle.sc_scenario.specs.Valid.{IsValid, ValidScenariosAreBounded}
@@ -32,12 +32,6 @@ use Rattle.sc_calm_answers_law.specs.Starts.{AreNamedOnce, LawfulReplicasAreName
 use Rattle.sc_calm_answers_law.specs.Settings.{nodes_replicas, frames_after, AreAtNodes, QuietJournalsHaveFrames}
 
 -- ---- lists
-
--- what a mapped list has comes of one of its things
-pub from_map : {X Y : Type 0} (f : X → Y) (xs : List X) (y : Y) → Among y (map f xs) → (x : X) × Among x xs × (f x ≡ y)
-from_map f [] y a = absurd a
-from_map f (x ∷ xs) y (inl e) = (x, inl refl, e)
-from_map f (x ∷ xs) y (inr more) = (let r = from_map f xs y more in (r.0, inr r.1, r.2))
 
 -- what passes stands in the list
 passes : (rs : List ReplicaState) (r : ReplicaState) → Among r (filter (λ (x : ReplicaState). x.running) rs) → Among r rs × (r.running ≡ true)

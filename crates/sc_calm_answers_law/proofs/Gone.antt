@@ -40,17 +40,10 @@ use Rattle.sc_machine_table.specs.Splits.{has_named, left_group}
 use Rattle.sc_machine_table.specs.Transactions.{begun_group, aborted, committed, heard_group, granted, participant_answered, asks_watcher, vote_recorded, released, watch_answered, watch_recorded, is_coordinating}
 use Rattle.sc_machine_table.specs.Votes.{has_voted, vote_of, watch_vote_of, voted_on}
 use Rattle.sc_machine_table.specs.Logs.{state_after}
-use Rattle.sc_calm_answers_law.proofs.Cores.{cond_core, cond_either, numbered_core, served_core}
+use Rattle.sc_calm_answers_law.proofs.Cores.{cond_core, cond_either, numbered_core, served_core, called_core}
 use Rattle.sc_hist_law.proofs.Logs.{ordered_either}
 
 -- ---- the core of the group stays
-
-pub called_core : (gone : Option Route) (lock : Lock) (group : Group) (client seq : ℕ) (op : Op) → (called gone lock group client seq op).0.core ≡ group.core
-called_core (Some into) lock group client seq op = refl
-called_core None Free group client seq op = served_core group client seq op
-called_core None (Watching tx watch) group client seq op = served_core group client seq op
-called_core None (Coordinating tx body order heard) group client seq op = refl
-called_core None (Promised tx offer) group client seq op = refl
 
 -- gone with one record, so with the other
 abbrev StaysGone : Core → Core → Type 0

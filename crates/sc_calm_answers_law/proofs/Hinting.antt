@@ -32,16 +32,12 @@ use Rattle.sc_calm_scenes_law.specs.Found.{BesideFinds}
 use Rattle.sc_calm_scenes_law.proofs.Found.{IsQuestion}
 use Rattle.std.proofs.lemmas.Option.{same_Some}
 use Rattle.sc_calm_answers_law.proofs.TrueSending.{IsOther, IsTo, only_each}
+use Rattle.sc_paxos_law.proofs.Among.{Among-either}
 
 -- ---- lists
 
-pub among_split : {X : Type 0} (x : X) (xs ys : List X) → Among x (xs ++ ys) → Among x xs ⊎ Among x ys
-among_split x [] ys a = inr a
-among_split x (y ∷ xs) ys (inl e) = inl (inl e)
-among_split x (y ∷ xs) ys (inr a) = elim (among_split x xs ys a) [ inl l ↦ inl (inr l) | inr r ↦ inr r ]
-
 pub skip_middle : {X : Type 0} (x m : X) (xs ys : List X) → Among x (xs ++ ys) → Among x (xs ++ m ∷ ys)
-skip_middle x m xs ys a = elim (among_split x xs ys a) [ inl l ↦ among-left x xs (m ∷ ys) l | inr r ↦ among-right x xs (m ∷ ys) (inr r) ]
+skip_middle x m xs ys a = elim (Among-either x xs ys a) [ inl l ↦ among-left x xs (m ∷ ys) l | inr r ↦ among-right x xs (m ∷ ys) (inr r) ]
 
 pub no_append : {X : Type 0} (xs ys : List X) → xs ++ ys ≡ [] → (xs ≡ []) × (ys ≡ [])
 no_append [] ys e = (refl, e)

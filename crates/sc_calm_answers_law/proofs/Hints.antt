@@ -33,18 +33,16 @@ use Rattle.sc_calm_answers_law.specs.TrueGoing.{GoesOnSince}
 use Rattle.sc_calm_answers_law.specs.Told.{ReplicasTell}
 use Rattle.sc_calm_answers_law.proofs.TrueAsking.{Nothing, Sending, Sends, errand_was, errands_are, leader_row, one}
 use Rattle.sc_calm_answers_law.proofs.Doers.{lead_works, one_not_none}
-use Rattle.sc_calm_answers_law.proofs.Hinting.{among_split}
 use Rattle.sc_calm_answers_law.proofs.Pending.{question_at}
 use Rattle.sc_calm_answers_law.proofs.TrueQuiet.{link_least}
 use Rattle.sc_calm_answers_law.proofs.TrueSending.{AsksOn, Enters, IsSending, Mute}
 use Rattle.sc_calm_answers_law.proofs.Since.{led_first}
+use Rattle.std.proofs.lemmas.Option.{same_Some}
+use Rattle.sc_paxos_law.proofs.Among.{Among-either}
 
 pub no_deeds : (entries : List Command) (group made : Group) → AreDeeds [] entries → made ≡ state_after group entries → made ≡ group
 no_deeds [] group made are e = e
 no_deeds (c ∷ cs) group made are e = absurd are
-
-pub some_same : (a b : ReplicaState) → Some a ≡ Some b → a ≡ b
-some_same a b e = cc
 
 pub not_both : (tx coord : Draw) (hint : Option ℕ) (named : Draw) (ballot : _) (slot : ℕ) → TxElsewhere tx coord hint ≡ Accepted named ballot slot → ⊥
 not_both tx coord hint named ballot slot e = cc
@@ -92,7 +90,7 @@ module _ (tells : ReplicasTell) (words : ℕ → ℕ → ℕ × ℕ) (scenario :
     pub sent_question : Among (Question deal.tx deal.coord (is_watch deal.turn) deal.chief to) (errands_for deal.asked (row_of player_table seat rows (Deliver number)).sent)
     sent_question =
         let there : Among question (errands_for deal.asked (left_after next)) = subst (Among question) (sym (ap (λ (h : Here). h.errands) stands.parties.0.1.0)) (inl refl) in
-        elim (among_split question (errands_for deal.asked ((one words scenario first journal quiet rows seat number stage g).takes.before ++ (one words scenario first journal quiet rows seat number stage g).takes.behind)) (errands_for deal.asked (row_of player_table seat rows (Deliver number)).sent) (subst (Among question) (errands_are words scenario first journal quiet rows seat number stage g deal.asked) there)) [
+        elim (Among-either question (errands_for deal.asked ((one words scenario first journal quiet rows seat number stage g).takes.before ++ (one words scenario first journal quiet rows seat number stage g).takes.behind)) (errands_for deal.asked (row_of player_table seat rows (Deliver number)).sent) (subst (Among question) (errands_are words scenario first journal quiet rows seat number stage g deal.asked) there)) [
           | inl old ↦ (
               let a = question_at (scene_at all rows) stage g.untouched.stands deal.asked deal.tx deal.coord (is_watch deal.turn) deal.chief to (errand_was words scenario first journal quiet rows seat number stage g deal.asked question old) in
               absurd (new a.deal a.to a.is))

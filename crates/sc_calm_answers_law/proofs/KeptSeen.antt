@@ -17,7 +17,7 @@ use Rattle.sc_actor.specs.Replay.{value}
 use Rattle.sc_node_table.specs.Node.{is_node, replica_of}
 use Rattle.sc_node_table.specs.Replica.{ReplicaState, name_of}
 use Rattle.sc_node_table.specs.Slots.{numbers_from}
-use Rattle.sc_paxos_law.proofs.Among.{Among-left}
+use Rattle.sc_paxos_law.proofs.Among.{Among-left, from_map}
 use Rattle.sc_paxos_words.proofs.ListLemmas.{Each-among, find_found}
 use Rattle.sc_scenario.specs.declared.scenarios.Scenario.{Scenario}
 use Rattle.sc_scenario.specs.Valid.{IsValid, ValidScenariosAreBounded}
@@ -30,21 +30,8 @@ use Rattle.sc_budget_law.proofs.Lists.{map_among}
 use Rattle.sc_calm_answers_law.specs.Starts.{AreNamedOnce, LawfulReplicasAreNamedOnce}
 use Rattle.sc_calm_answers_law.specs.Settings.{AreAtNodes}
 use Rattle.sc_budget_law.proofs.Knowing.{among_last}
-
--- what a mapped list has comes of one of its things
-pub from_map : {X Y : Type 0} (f : X → Y) (xs : List X) (y : Y) → Among y (map f xs) → (x : X) × Among x xs × (f x ≡ y)
-from_map f [] y a = absurd a
-from_map f (x ∷ xs) y (inl e) = (x, inl refl, e)
-from_map f (x ∷ xs) y (inr more) = (let r = from_map f xs y more in (r.0, inr r.1, r.2))
-
--- one of some that are named once is found by its name
-pub found_once : (rs : List ReplicaState) (r : ReplicaState) → AreNamedOnce rs → Among r rs → replica_of (name_of r) rs ≡ Some r
-found_once [] r once a = absurd a
-found_once (x ∷ rs) r once (inl e) = ap (λ b. cond b (Some x) (replica_of (name_of r) rs)) (same_name (name_of x) (name_of r) (ap name_of e)) ∙ ap Some e
-found_once (x ∷ rs) r once (inr more) = elim (cases_Bool (same_draw (name_of x) (name_of r))) [
-  | inl same ↦ absurd (Each-among (λ (other : ReplicaState). name_of other ≡ name_of x → ⊥) rs r once.0 more (sym (draw_is (name_of x) (name_of r) same)))
-  | inr other ↦ ap (λ b. cond b (Some x) (replica_of (name_of r) rs)) other ∙ found_once rs r once.1 more
-]
+use Rattle.sc_calm_answers_law.proofs.Following.{split_among}
+use Rattle.sc_calm_answers_law.proofs.Frames.{found_once, nodes_numbered}
 
 module _ (named : LawfulReplicasAreNamedOnce) (words : ℕ → ℕ → ℕ × ℕ) (scenario : Scenario) (first : Base) (rows : List (Row Mail OrderLine)) (nodes_are : (me : ℕ) → 1 ≤ me → me ≤ scenario.nodes → is_node me ≡ true) (valid : IsValid scenario) (lawful : Lawful as_nodes words scenario rows) (quiet : IsQuietJournal words scenario first rows) (homes : AreAtNodes scenario rows) where
   abbrev at : Draw → ℕ → Option ReplicaState
@@ -67,15 +54,6 @@ module _ (named : LawfulReplicasAreNamedOnce) (words : ℕ → ℕ → ℕ × �
       let once = named words scenario rows me n.0 valid lawful low high n.1 in
       let replicas : replicas_of (player me) ≡ n.0.replicas = ap replicas_of n.1 in
       ap (λ b. cond b (replica_of (name_of r) (replicas_of (player me))) None) (nodes_are me low high) ∙ (ap (replica_of (name_of r)) replicas ∙ found_once n.0.replicas r once (subst (Among r) replicas a))
-
--- the nodes of a scenario have numbers of nodes
-pub nodes_numbered : ValidScenariosAreBounded → (scenario : Scenario) → IsValid scenario → (me : ℕ) → 1 ≤ me → me ≤ scenario.nodes → is_node me ≡ true
-nodes_numbered all_bounded scenario valid me low high = (let most = (all_bounded scenario valid).nodes.1 in and_from (leb 1 me) (leb me most_nodes) (le-leb 1 me low) (le-leb me most_nodes (omega (arith, high, most))))
-
-pub split_among : {X : Type 0} (xs ys : List X) (x : X) → Among x (xs ++ ys) → Among x xs ⊎ Among x ys
-split_among [] ys x a = inr a
-split_among (z ∷ xs) ys x (inl e) = inl (inl e)
-split_among (z ∷ xs) ys x (inr a) = elim (split_among xs ys x a) [ inl l ↦ inl (inr l) | inr r ↦ inr r ]
 
 module _ (all_bounded : ValidScenariosAreBounded) (named : LawfulReplicasAreNamedOnce) (words : ℕ → ℕ → ℕ × ℕ) (scenario : Scenario) (first : Base) (others : List Base) (rows : List (Row Mail OrderLine)) (valid : IsValid scenario) (groups : scenario.groups ≡ first ∷ others)
     (lawful : Lawful as_nodes words scenario rows) (quiet : IsQuietJournal words scenario first rows) (homes : AreAtNodes scenario rows) where

@@ -45,7 +45,8 @@ use Rattle.sc_ring_law.specs.Invariant.{Groups, IsCoordinating, Facts}
 use Rattle.sc_ring_law.specs.Stories.{Story, Stories, put, retold, unsigned, offer_for, new_story, vote_by, with_vote, with_watch_vote, with_decision, with_asked, stories_after}
 use Rattle.sc_ring_law.proofs.Cover.{from_at}
 use Rattle.sc_ring_law.proofs.Ends.{own_story, same_lock}
-use Rattle.sc_calm_answers_law.proofs.LinkEnds.{Good, called_core, IsLinkedSo, IsToldSo, good_come, more_good, kept_links, finished_ends}
+use Rattle.sc_calm_answers_law.proofs.LinkEnds.{Good, IsLinkedSo, IsToldSo, good_come, more_good, kept_links, finished_ends}
+use Rattle.sc_calm_answers_law.proofs.Cores.{called_core}
 
 -- ---- what is said of nodes
 

@@ -19,6 +19,7 @@ use Rattle.sc_calm_orders_law.proofs.Lists.{among-left, among-right}
 use Rattle.sc_calm_answers_law.proofs.WorkBirths.{HasBorn, stays_born, bears_born, new_born}
 use Rattle.sc_calm_answers_law.proofs.Logs.{kids_of}
 use Rattle.sc_paxos_law.proofs.Among.{Among-either}
+use Rattle.sc_machine_table.proofs.LogLemmas.{state_push}
 
 -- it forgets none
 pub log_stays : (name : Draw) (group : Group) (log : List Command) → HasBorn name group.core.born → HasBorn name (state_after group log).core.born
@@ -68,10 +69,6 @@ take_more zero [] = inl refl
 take_more zero (c ∷ log) = inr (c, refl)
 take_more (suc k) [] = inl refl
 take_more (suc k) (c ∷ log) = elim (take_more k log) [ inl e ↦ inl (ap (λ l. c ∷ l) e) | inr e ↦ inr (e.0, ap (λ l. c ∷ l) e.1) ]
-
-pub after_more : (group : Group) (log : List Command) (command : Command) → state_after group (log ++ command ∷ []) ≡ (applied (state_after group log) command).0
-after_more group [] command = refl
-after_more group (c ∷ log) command = after_more (applied group c).0 log command
 
 -- the child of the last entry is one of the log's
 pub last_child : (group : Group) (log : List Command) (command : Command) (kid : Base) → child_by (state_after group log) command ≡ Some kid → Among kid (children_of group (log ++ command ∷ []))

@@ -23,7 +23,8 @@ use Rattle.sc_budget_law.proofs.BetweenViews.{Journal}
 use Rattle.sc_budget_law.proofs.Lists.{some_is}
 use Rattle.sc_calm_answers_law.proofs.Calls.{knows}
 use Rattle.sc_calm_answers_law.proofs.RowServes.{AllStay, OneChanges, RowLeaves, row_leaves}
-use Rattle.sc_calm_answers_law.proofs.Serving.{Rests, taken_once}
+use Rattle.sc_calm_answers_law.proofs.Serving.{Rests}
+use Rattle.sc_budget_law.proofs.BetweenDoes.{taken_once}
 
 -- A replica after some rows, by what it was before them: what it accepted is below what the leader has offered.
 pub record HasServed (scenario : Scenario) (rows : Journal) (frame : Frame) (node : ℕ) (first r : ReplicaState) : Type 0 where

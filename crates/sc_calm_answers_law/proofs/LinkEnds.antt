@@ -33,20 +33,13 @@ use Rattle.sc_machine_table.specs.Finishes.{can_gain, gained_group, lost_group, 
 use Rattle.sc_machine_table.specs.Plans.{can_cut}
 use Rattle.sc_ring_law.specs.Allowed.{Sources, IsAllowed}
 use Rattle.sc_ring_law.specs.Stories.{Story, Stories}
-use Rattle.sc_calm_answers_law.proofs.Cores.{numbered_core, served_core}
+use Rattle.sc_calm_answers_law.proofs.Cores.{numbered_core, served_core, called_core}
 
 -- some nodes, of each of which something holds with a group's name
 abbrev pub Good : (Draw → ℕ → Type 0) → Draw → List ℕ → Type 0
 Good P name nodes = (1 ≤ length nodes) × ((node : ℕ) → is_member nodes node ≡ true → P name node)
 
 -- ---- a call changes no record
-
-pub called_core : (gone : Option Route) (lock : Lock) (group : Group) (client seq : ℕ) (op : Op) → (called gone lock group client seq op).0.core ≡ group.core
-called_core (Some into) lock group client seq op = refl
-called_core None Free group client seq op = served_core group client seq op
-called_core None (Watching tx watch) group client seq op = served_core group client seq op
-called_core None (Coordinating tx body order heard) group client seq op = refl
-called_core None (Promised tx offer) group client seq op = refl
 
 -- ---- sets of nodes
 

@@ -28,7 +28,8 @@ use Rattle.sc_machine_table.specs.Transactions.{begun_group, vote_recorded, is_c
 use Rattle.sc_machine_table.specs.Votes.{has_voted, no_of, offer_no, watch_no, vote_of, watch_vote_of, voted_on}
 use Rattle.sc_machine_table.specs.Finishes.{welcomed_group, participant_after, party_freed, settled_in, finished}
 use Rattle.sc_ring_law.proofs.Finds.{some_none}
-use Rattle.sc_calm_answers_law.proofs.LinkEnds.{called_core, united_has}
+use Rattle.sc_calm_answers_law.proofs.LinkEnds.{united_has}
+use Rattle.sc_calm_answers_law.proofs.Cores.{called_core}
 
 -- ---- a participant stays bound until the end of its transaction
 

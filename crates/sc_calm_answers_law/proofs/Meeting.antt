@@ -51,11 +51,7 @@ use Rattle.sc_calm_answers_law.specs.Meeting.{MeetsMail, IsPlain, NeedsBesides, 
 use Rattle.sc_calm_answers_law.proofs.Elsewhere.{IsApart, owes_same, owes_most, stands_here, elsewhere_apart, apart_off, none_of}
 use Rattle.sc_calm_answers_law.proofs.FindingRows.{next_with, still_named, IsLeft, left_by, nines_at, stays_behind}
 use Rattle.std.proofs.lemmas.Option.{same_Some}
-
--- a player that is born well, as what is said of it later
-pub plays_of : (who : ℕ) (player : Player) → IsWellPlayer who player → Plays who player
-plays_of who (Node node) k = (k.0, subst (λ m. Each (IsWellKept m) node.replicas) k.0 k.1)
-plays_of who (Client client) k = tt
+use Rattle.sc_calm_answers_law.proofs.Playing.{plays_of}
 
 module _ (at : Sets) (over : Ends) (by : Tellers) (words : ℕ → ℕ → ℕ × ℕ) (births : List (Seat Player)) (front rows : Rows) (seat : Seat Player) (number : ℕ) (mail : Mail) (node : NodeState) (base : Base) (course : Course)
     (m : MeetsMail at over by words births front rows seat number mail node base course) (apart : are_apart births ≡ true) (born : AreWellBorn births) (comes : may_come mail.from mail.body ≡ true)

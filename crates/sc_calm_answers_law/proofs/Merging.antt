@@ -32,7 +32,7 @@ use Rattle.sc_machine_table.specs.Splits.{has_named}
 use Rattle.sc_machine_table.specs.Transactions.{aborted, asks_watcher, begun_group, is_coordinating, watch_recorded}
 use Rattle.sc_machine_table.specs.Votes.{has_voted, vote_of, voted_on, watch_vote_of}
 use Rattle.sc_calm_entries_law.proofs.Members.{StandsAs, join-stands, leave-stands, split-stands, vote-waits, watch-stands}
-use Rattle.sc_calm_answers_law.proofs.Gone.{called_core}
+use Rattle.sc_calm_answers_law.proofs.Cores.{called_core}
 
 -- a command merges a group that has promised its transaction into another
 pub record IsMergedBy (group : Group) (command : Command) (into : Route) : Type 0 where

@@ -28,7 +28,9 @@ use Rattle.sc_budget_law.specs.AskingQuiet.{replicas_after}
 use Rattle.sc_budget_law.proofs.BetweenSteps.{in_numbers}
 use Rattle.sc_calm_answers_law.specs.Viewing.{ViewsAgree}
 use Rattle.sc_calm_answers_law.proofs.Nodes.{node_replays}
-use Rattle.sc_calm_answers_law.proofs.KeptSeen.{from_map, found_once, split_among, nodes_numbered}
+use Rattle.sc_calm_answers_law.proofs.Following.{split_among}
+use Rattle.sc_paxos_law.proofs.Among.{from_map}
+use Rattle.sc_calm_answers_law.proofs.Frames.{found_once, nodes_numbered}
 
 -- ---- a client stays a client
 

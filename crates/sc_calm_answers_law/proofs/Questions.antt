@@ -10,6 +10,7 @@ use Rattle.sc_calm_orders_law.proofs.Begun.{first, second}
 use Rattle.sc_calm_orders_law.proofs.Errands.{errand-own}
 use Rattle.sc_calm_orders_law.proofs.Lists.{tokens, tagged, found, among-left, among-right}
 use Rattle.sc_calm_orders_law.proofs.Moves.{no-errand, closing-errand}
+use Rattle.sc_calm_answers_law.proofs.Hinting.{errand_there}
 
 abbrev errands_of : Here → List Errand
 errands_of h = h.errands
@@ -111,9 +112,3 @@ module _ (name tx : Draw) (to : ℕ) where
   elsewhere_stage now stage at among = elsewhere_in stage (found errands_of now.at name (Elsewhere tx to) among (parties_of stage) at.parties refl)
 
 -- ---- mail that is left
-
--- the errand of a mail that stands among some stands among the errands of these
-pub errand_there : (name : Draw) (errand : Errand) (mail : Mail) (mails : List Mail) → Among mail mails → errand_by mail.from mail.to mail.body ≡ Some (name, errand) → Among errand (errands_for name mails)
-errand_there name errand mail [] a e = absurd a
-errand_there name errand mail (m ∷ mails) (inl same) e = among-left errand _ (errands_for name mails) (subst (λ o. Among errand (errand_for name o)) (sym (ap (λ (x : Mail). errand_by x.from x.to x.body) same ∙ e)) (subst (Among errand) (sym (errand-own name errand)) (inl refl)))
-errand_there name errand mail (m ∷ mails) (inr a) e = among-right errand (errand_for name (errand_by m.from m.to m.body)) (errands_for name mails) (errand_there name errand mail mails a e)

@@ -58,8 +58,9 @@ use Rattle.sc_calm_answers_law.proofs.Leads.{IsWorkAt, OfOrder, OfOutcome, OfQue
 use Rattle.sc_calm_answers_law.proofs.Opened.{ByOffer, ByWatch, IsBoundBy, IsOpened, opening_refused}
 use Rattle.sc_calm_answers_law.proofs.Parties.{Coordinates, lead_bond, promised}
 use Rattle.sc_calm_answers_law.proofs.Ring.{meet_so, pred_is}
-use Rattle.sc_calm_answers_law.proofs.TrueTurns.{not_itself, lone_split, not_alone, has_offer, some_one, some_nat, same_asking, same_record, same_offer, first_turn, no_first, no_next, no_lone, same_next, same_body}
+use Rattle.sc_calm_answers_law.proofs.TrueTurns.{not_itself, lone_split, not_alone, has_offer, some_nat, same_asking, same_record, same_offer, first_turn, no_first, no_next, no_lone, same_next, same_body}
 use Rattle.sc_calm_answers_law.proofs.Since.{base_of, both, coords, flights_at, free_first, frozen_is, heard_vote, led_first, locks_at, one_vote, there_of, tx_is}
+use Rattle.std.proofs.lemmas.Option.{same_Some}
 
 -- ---- a coordinator
 
@@ -129,7 +130,7 @@ module _ (tells : ReplicasTell) (sound : ValidJournalsAreSound) (logs : ValidEnt
     chief_is = some_nat deal.chief node (sym stands.leads.0 ∙ (ap (scene_at all rows).lead own ∙ (tell.led all rows name node r l.leads).0))
 
     now_is : c.now ≡ r
-    now_is = some_one c.now r (sym c.is ∙ (ap (λ h. view_at all rows deal.coord h) chief_is ∙ (ap (λ n. view_at all rows n node) own ∙ l.leads.is_there)))
+    now_is = same_Some c.now r (sym c.is ∙ (ap (λ h. view_at all rows deal.coord h) chief_is ∙ (ap (λ n. view_at all rows n node) own ∙ l.leads.is_there)))
 
     coord_bond : ((scene_at (births as_nodes scenario) rows).at deal.coord).bond ≡ Asking deal.tx deal.asked deal.turn
     coord_bond = ap (λ (h : Here). h.bond) stands.parties.0.0

@@ -57,9 +57,10 @@ use Rattle.sc_calm_mail_law.proofs.Lasting.{replicas_last}
 use Rattle.sc_calm_answers_law.specs.RiseHomes.{top_in, IsSeen, AsksSeen, RefusesSeen, AreSeen}
 use Rattle.sc_calm_answers_law.proofs.Lists.{pledged_rises}
 use Rattle.sc_calm_answers_law.proofs.Said.{IsRefusal, AreSaid}
-use Rattle.sc_calm_answers_law.proofs.SaidNodes.{found_named, MayRefuse, input_said}
+use Rattle.sc_calm_answers_law.proofs.SaidNodes.{MayRefuse, input_said}
 use Rattle.sc_calm_answers_law.proofs.SaidRows.{Refuses}
 use Rattle.std.proofs.lemmas.Option.{same_Some}
+use Rattle.sc_calm_rows_law.proofs.Turning.{found_name}
 
 -- a refusal that an event delivers to a replica of the group names no later ballot than that saw
 abbrev pub RefusesOld : List (Seat Player) → Rows → Seat Player → Event OrderLine → Base → Type 0
@@ -347,7 +348,7 @@ module _ (words : ℕ → ℕ → ℕ × ℕ) (at : Sets) (over : Ends) (by : Te
     may_refuse : (node : NodeState) (mail : Mail) → value player_table seat rows ≡ Node node → input_of (mails rows) event ≡ Some (Got mail) → MayRefuse May node mail.from mail.body
     may_refuse node mail is got = λ group r g here n named.
         let d = delivered event mail refl got in
-        let same : group ≡ name = sym (found_named group node.replicas r here) ∙ named in
+        let same : group ≡ name = sym (found_name group node.replicas r here) ∙ named in
         let view : view_at (births as_nodes scenario) rows base.core.id seat.who ≡ Some r = view_was all rows seat Go name born (Node node) is ∙ (ap (λ g_. replica_of g_ node.replicas) (sym same) ∙ here) in
         let promise : now.promise seat.who ≡ r.acceptor.promised = ap (promise_in base) view in
         (refused_by d.0 mail r d.1 d.2 view (g ∙ ap Some same) mail.body refl n, subst (IsSeen all rows base) promise (home.promised seat.who))

@@ -23,14 +23,7 @@ use Rattle.sc_sound.specs.Players.{Player, player_table}
 use Rattle.sc_calm_mail_law.proofs.Clients.{IsRequestOf, clients_ask}
 use Rattle.sc_calm_answers_law.proofs.Said.{IsSaid, AreSaid}
 use Rattle.sc_calm_answers_law.proofs.SaidRows.{Refuses, mailed_keeps, order_keeps, made_keeps}
-
--- a replica of a group is of its name
-pub found_named : (group : Draw) (replicas : List ReplicaState) (r : ReplicaState) → replica_of group replicas ≡ Some r → name_of r ≡ group
-found_named group [] r e = cc
-found_named group (x ∷ replicas) r e = elim (cases_Bool (same_draw (name_of x) group)) [
-  | inl t ↦ (let some : Some x ≡ Some r = sym (cond-true (same_draw (name_of x) group) (Some x) (replica_of group replicas) t) ∙ e in let same : x ≡ r = cc in ap name_of (sym same) ∙ draw_is (name_of x) group t)
-  | inr f ↦ found_named group replicas r (sym (cond-false (same_draw (name_of x) group) (Some x) (replica_of group replicas) f) ∙ e)
-]
+use Rattle.sc_calm_rows_law.proofs.Turning.{found_name}
 
 module _ (may : Draw → ℕ → Ballot → Type 0) where
   unknown_said : (from : ℕ) (body : MailBody) (node : NodeState) → AreSaid may (unknown from body node).1

@@ -58,7 +58,7 @@ use Rattle.sc_calm_answers_law.proofs.SegmentParts as parts_of
 use Rattle.sc_calm_answers_law.proofs.SegmentParts.{IsFramed, SegmentLaws, told_line}
 use Rattle.sc_calm_answers_law.proofs.Segments.{IsSegment, IsOrdered, delivered, front_whole}
 use Rattle.sc_calm_answers_law.proofs.SettingCounting.{way_low}
-use Rattle.sc_calm_answers_law.proofs.KeptSeen.{split_among}
+use Rattle.sc_calm_answers_law.proofs.Following.{split_among}
 
 -- a player that rests waits for nothing
 waits_none : (player : Player) → IsResting player → WaitsForNone player

@@ -31,6 +31,7 @@ use Rattle.sc_budget_law.proofs.ReplicaRows.{DidRefuse, DidQueue, DidCount, foll
 use Rattle.sc_calm_answers_law.proofs.Calls.{knows, Leaves, leaves_itself, leaves_bare, request_kept, vote_goes}
 use Rattle.sc_calm_answers_law.proofs.RequestsTaking.{takes_it, accept_takes, learn_leaves}
 use Rattle.sc_calm_answers_law.proofs.Following.{split_among}
+use Rattle.sc_budget_law.proofs.BetweenDoes.{taken_once}
 
 -- ---- how many slots are taken
 
@@ -44,10 +45,6 @@ taken_low r a b p q = elim (cases_lt b a) [
       absurd (omega (arith, here, there, yes, no_)))
   | inr low ↦ omega (arith, low)
 ]
-
--- it is one number
-pub taken_once : (r : ReplicaState) (a b : ℕ) → AreTaken r a → AreTaken r b → a ≡ b
-taken_once r a b p q = (let one = taken_low r a b p q in let two = taken_low r b a q p in omega (arith, one, two))
 
 -- ---- what a row leaves
 

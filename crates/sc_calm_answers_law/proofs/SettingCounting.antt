@@ -19,7 +19,7 @@ use Rattle.sc_actor.specs.Walk.{is_quiet}
 use Rattle.sc_node_table.specs.Node.{replica_of}
 use Rattle.sc_node_table.specs.Replica.{ReplicaState, name_of}
 use Rattle.sc_node_table.specs.Slots.{numbers_from}
-use Rattle.sc_paxos_law.proofs.Among.{Among-left}
+use Rattle.sc_paxos_law.proofs.Among.{Among-left, from_map}
 use Rattle.sc_paxos_words.proofs.ListLemmas.{Among-filter, Each-among, Each-from, Each-passes}
 use Rattle.sc_scenario.specs.declared.scenarios.Scenario.{Scenario}
 use Rattle.sc_scenario.specs.Valid.{IsValid, ValidScenariosAreBounded}
@@ -43,7 +43,7 @@ use Rattle.sc_calm_answers_law.specs.RequestsFinding.{CountsAs}
 use Rattle.sc_calm_answers_law.specs.Starts.{LawfulReplicasAreNamedOnce}
 use Rattle.sc_calm_answers_law.specs.SettingCounting.{GoneAgree, QuietChartsCount}
 use Rattle.sc_calm_answers_law.specs.Settings.{AreAtNodes, AreReachable}
-use Rattle.sc_calm_answers_law.proofs.Frames.{from_map, nodes_numbered, seen, view}
+use Rattle.sc_calm_answers_law.proofs.Frames.{nodes_numbered, seen, view}
 use Rattle.sc_calm_answers_law.proofs.Following.{split_among}
 use Rattle.sc_budget_law.proofs.Knowing.{among_last}
 use Rattle.sc_calm_answers_law.proofs.KnownGoing.{once_among, went_none}

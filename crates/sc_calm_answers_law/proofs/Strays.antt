@@ -36,7 +36,7 @@ use Rattle.sc_calm_rows_law.proofs.WellNodes.{Plays, replay_well}
 use Rattle.sc_calm_groups_law.proofs.BornWell.{scenarios_well_born}
 use Rattle.sc_group_law.proofs.RowSteps.{number_among}
 use Rattle.sc_calm_answers_law.specs.Finding.{StrayMailFinds, MailIsForItsNode}
-use Rattle.sc_calm_answers_law.proofs.Meeting.{plays_of}
+use Rattle.sc_calm_answers_law.proofs.Playing.{plays_of}
 
 -- what came of an order goes to the desk
 told_zero : (who : ℕ) (player : Player) (mail : Mail) (order : ℕ) (result : ToldResult) → mail.body ≡ ToldMail order result → IsPlayers who player mail → mail.to ≡ 0

@@ -32,8 +32,9 @@ use Rattle.sc_calm_scenes_law.proofs.Left.{TakesOne, errands-append, left_row, t
 use Rattle.sc_calm_scenes_law.proofs.Taking.{all_sent}
 use Rattle.sc_calm_scenes_law.proofs.Turning.{calm_is}
 use Rattle.sc_calm_answers_law.specs.TrueGoing.{GoesOnSince}
-use Rattle.sc_calm_answers_law.proofs.Hinting.{among_split, no_append, skip_middle}
+use Rattle.sc_calm_answers_law.proofs.Hinting.{no_append, skip_middle}
 use Rattle.sc_calm_answers_law.proofs.TrueSending.{IsSending, leader_sends}
+use Rattle.sc_paxos_law.proofs.Among.{Among-either}
 
 module _ (words : ℕ → ℕ → ℕ × ℕ) (scenario : Scenario) (first : Base) (journal quiet rows : Rows) (seat : Seat Player) (number : ℕ) (stage : Rattle.sc_calm_orders_law.specs.Stages.Stage) (g : GoesOnSince words scenario first journal quiet rows seat number stage) where
   abbrev all : List (Seat Player)
@@ -50,7 +51,7 @@ module _ (words : ℕ → ℕ → ℕ × ℕ) (scenario : Scenario) (first : Bas
 
   -- what is under way after it was so before, or is sent
   pub mail_was : (m : Mail) → Among m (left_after (with_event rows seat (Deliver number))) → Among m (left_after rows) ⊎ Among m sent_now
-  mail_was m a = elim (among_split m (one.takes.before ++ one.takes.behind) sent_now (subst (Among m) after_is a)) [
+  mail_was m a = elim (Among-either m (one.takes.before ++ one.takes.behind) sent_now (subst (Among m) after_is a)) [
     | inl old ↦ inl (subst (Among m) (sym one.takes.had_is) (skip_middle m one.mail one.takes.before one.takes.behind old))
     | inr new ↦ inr new
   ]
@@ -67,7 +68,7 @@ module _ (words : ℕ → ℕ → ℕ × ℕ) (scenario : Scenario) (first : Bas
   pub errand_was : (name : Draw) (e : Errand) → Among e (errands_for name (one.takes.before ++ one.takes.behind)) → Among e (errands_for name (left_after rows))
   errand_was name e a =
       let mine = errand_for name (errand_by one.mail.from one.mail.to one.mail.body) in
-      subst (Among e) (sym (errands_were name)) (elim (among_split e (errands_for name one.takes.before) (errands_for name one.takes.behind) (subst (Among e) (errands-append name one.takes.before one.takes.behind) a)) [
+      subst (Among e) (sym (errands_were name)) (elim (Among-either e (errands_for name one.takes.before) (errands_for name one.takes.behind) (subst (Among e) (errands-append name one.takes.before one.takes.behind) a)) [
         | inl l ↦ Rattle.sc_calm_orders_law.proofs.Lists.among-left e (errands_for name one.takes.before) (mine ++ errands_for name one.takes.behind) l
         | inr r ↦ Rattle.sc_calm_orders_law.proofs.Lists.among-right e (errands_for name one.takes.before) (mine ++ errands_for name one.takes.behind) (Rattle.sc_calm_orders_law.proofs.Lists.among-right e mine (errands_for name one.takes.behind) r)
       ])

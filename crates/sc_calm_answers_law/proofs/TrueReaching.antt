@@ -35,16 +35,18 @@ use Rattle.sc_calm_answers_law.specs.Told.{ReplicasTell}
 use Rattle.sc_calm_answers_law.specs.TrueUnder.{IsTrueSince}
 use Rattle.sc_calm_answers_law.proofs.TrueAsking.{Nothing, Sending, Sends, errands_are, gone_is, leader_row, mail_was, one}
 use Rattle.sc_calm_answers_law.proofs.Doers.{lead_works}
-use Rattle.sc_calm_answers_law.proofs.Hinting.{among_split, elsewhere_mail, errand_there, hears_least, one_right, opens_least, own_errand}
+use Rattle.sc_calm_answers_law.proofs.Hinting.{elsewhere_mail, errand_there, hears_least, one_right, opens_least, own_errand}
 use Rattle.sc_calm_answers_law.proofs.Leads.{is_work_of}
 use Rattle.sc_calm_answers_law.proofs.Pending.{elsewhere_at}
 use Rattle.sc_calm_answers_law.proofs.TrueSending.{AsksOn, Enters, IsSending, Mute}
 use Rattle.sc_calm_answers_law.proofs.Since.{free_first}
-use Rattle.sc_calm_answers_law.proofs.Hints.{at_seat, front, goes_to, least_at, no_deeds, not_both, some_same, the_work}
+use Rattle.sc_calm_answers_law.proofs.Hints.{at_seat, front, goes_to, least_at, no_deeds, not_both, the_work}
 use Rattle.sc_calm_answers_law.proofs.Since.{coords}
 use Rattle.sc_calm_answers_law.proofs.Parties.{Coordinates}
 use Rattle.sc_calm_answers_law.proofs.Opened.{IsOpened}
 use Rattle.sc_actor.specs.Mail.{mails, numbered}
+use Rattle.std.proofs.lemmas.Option.{same_Some}
+use Rattle.sc_paxos_law.proofs.Among.{Among-either}
 
 module _ (tells : ReplicasTell) (words : ℕ → ℕ → ℕ × ℕ) (scenario : Scenario) (first : Base) (journal quiet rows : Rows) (seat : Seat Player) (number : ℕ) (stage : Stage) (g : GoesOnSince words scenario first journal quiet rows seat number stage)
     (trues : (name : Draw) (node : ℕ) (r : ReplicaState) → view_at (births as_nodes scenario) rows name node ≡ Some r → r.running ≡ true → Each (λ (flight : Flight Command). IsTrueEntry r.me r.group flight.value) r.leader.flights) where
@@ -101,7 +103,7 @@ module _ (tells : ReplicasTell) (words : ℕ → ℕ → ℕ × ℕ) (scenario :
       let free = ap (λ (x : Group). x.core.lock) same ∙ free_first tells words scenario first journal quiet rows (row_of player_table seat rows (Deliver number) ∷ g.goes.front.more) (front tells words scenario first journal quiet rows seat number stage g) g.calm g.rests g.seen (doer group deal.chief []) d in
       let its_work : works r ≡ Opens deal.tx ∷ [] = lead_works all rows group deal.chief r at_rows.leads.0 d.is ∙ ap (λ (h : Here). h.work) at_rows.parties.0.0 in
       let e : HasDone all quiet next (doer deal.coord deal.chief (opened deal.tx deal.turn)) = since.done.0 in
-      let firsts : e.first ≡ d.first = some_same e.first d.first (sym e.was ∙ (ap (λ n. view_at all quiet n deal.chief) own ∙ d.was)) in
+      let firsts : e.first ≡ d.first = same_Some e.first d.first (sym e.was ∙ (ap (λ n. view_at all quiet n deal.chief) own ∙ d.was)) in
       let made = coords tells words scenario first journal quiet next g.goes.front.more g.goes.front.is g.calm g.rests g.seen deal stands.leads.0 (ap (λ (h : Here). h.bond) stands.parties.0.0) e in
       let asked : deal.asked ≡ e.first.group.core.succ.group = asked_one e.first.group deal.tx deal.asked deal.turn e.now.group turn made in
       let least = least_at tells words scenario first journal quiet rows seat number stage g (doer deal.coord deal.chief (opened deal.tx deal.turn)) e in

@@ -18,6 +18,7 @@ use Rattle.sc_calm_orders_law.specs.Scenes.{Asking, First, Lone, Next, Records, 
 use Rattle.sc_calm_answers_law.specs.Told.{IsAllowedBy}
 use Rattle.sc_calm_answers_law.proofs.Fits.{none_of}
 use Rattle.sc_calm_answers_law.proofs.Opened.{opening_refused}
+use Rattle.std.proofs.lemmas.Option.{same_Some}
 
 -- ---- names and turns
 
@@ -41,9 +42,6 @@ has_offer core now (At.Split at child) e = absurd cc
 has_offer core now At.Merge e = refl
 has_offer core now (At.Repart at) e = refl
 has_offer core now (At.Migrate node) e = refl
-
-pub some_one : (x y : ReplicaState) → Some x ≡ Some y → x ≡ y
-some_one x y e = cc
 
 pub some_nat : (x y : ℕ) → Some x ≡ Some y → x ≡ y
 some_nat x y e = cc

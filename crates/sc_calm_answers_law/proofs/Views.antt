@@ -14,7 +14,7 @@ use Rattle.sc_actor.specs.Replay.{value, acted, replay, input_of}
 use Rattle.sc_client_table.specs.Client.{Client as ClientState, born_client}
 use Rattle.sc_client_table.specs.Table.{table}
 use Rattle.sc_orderly_law.proofs.Seats.{seat_found}
-use Rattle.sc_paxos_law.proofs.Among.{Among-either}
+use Rattle.sc_paxos_law.proofs.Among.{Among-either, from_map}
 use Rattle.sc_paxos_words.proofs.ListLemmas.{find_found}
 use Rattle.sc_node_table.specs.Node.{NodeState, replica_of, born_node}
 use Rattle.sc_node_table.specs.Replica.{ReplicaState}
@@ -32,7 +32,6 @@ use Rattle.sc_budget_law.specs.BetweenJournal.{replicas_of as node_replicas}
 use Rattle.sc_budget_law.proofs.BetweenStage.{IsStage, stage}
 use Rattle.sc_budget_law.proofs.BetweenSteps.{in_numbers, node_born, node_number}
 use Rattle.sc_calm_answers_law.specs.Settings.{AreAtNodes}
-use Rattle.sc_calm_answers_law.proofs.KeptSeen.{from_map}
 use Rattle.sc_calm_answers_law.specs.Viewing.{ViewsAgree}
 use Rattle.sc_calm_answers_law.proofs.Takers.{roles_differ}
 

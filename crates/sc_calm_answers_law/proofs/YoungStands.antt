@@ -31,7 +31,8 @@ use Rattle.sc_calm_logs_law.proofs.Journals.{found}
 use Rattle.sc_calm_answers_law.specs.States.{ReplicasRunLogs}
 use Rattle.sc_calm_answers_law.specs.Journal.{IsCalmJournal, IsFront}
 use Rattle.sc_calm_answers_law.proofs.WorkBirths.{HasBorn, stays_born, kid_members, new_born}
-use Rattle.sc_calm_answers_law.proofs.Lineage.{log_gains, take_more, after_more, last_child}
+use Rattle.sc_calm_answers_law.proofs.Lineage.{log_gains, take_more, last_child}
+use Rattle.sc_machine_table.proofs.LogLemmas.{state_push}
 
 -- the laws of journals that are used
 pub record OfJournals : Type 0 where
@@ -90,7 +91,7 @@ module _ (laws : OfJournals) (words : ℕ → ℕ → ℕ × ℕ) (scenario : Sc
     state_step : (name : Draw) (k : ℕ) → HasBorn name (State k).core.born → HasBorn name (State (suc k)).core.born
     state_step name k has = elim (take_more k log) [
       | inl e ↦ subst (λ l. HasBorn name (state_after (group_of base) l).core.born) (sym e) has
-      | inr (command, e) ↦ subst (λ l. HasBorn name (state_after (group_of base) l).core.born) (sym e) (subst (λ (g : Group). HasBorn name g.core.born) (sym (after_more (group_of base) (take k log) command)) (stays_born (State k) command name has))
+      | inr (command, e) ↦ subst (λ l. HasBorn name (state_after (group_of base) l).core.born) (sym e) (subst (λ (g : Group). HasBorn name g.core.born) (sym (state_push (group_of base) (take k log) command)) (stays_born (State k) command name has))
     ]
 
     steps_stay : (name : Draw) (more k later : ℕ) → later ≡ more + k → HasBorn name (State k).core.born → HasBorn name (State later).core.born
@@ -106,7 +107,7 @@ module _ (laws : OfJournals) (words : ℕ → ℕ → ℕ × ℕ) (scenario : Sc
     pub borne_by : (name : Draw) (k : ℕ) → HasBorn name (State (suc k)).core.born → HasBorn name (State k).core.born ⊎ ((kid : Base) × Among kid (groups_at as_nodes scenario.groups journal) × (kid.core.id ≡ name) × (kid.core.members ≡ right_members (State k).core.members))
     borne_by name k has = elim (take_more k log) [
       | inl e ↦ inl (subst (λ l. HasBorn name (state_after (group_of base) l).core.born) e has)
-      | inr (command, e) ↦ by command e (new_born (State k) command name (subst (λ (g : Group). HasBorn name g.core.born) (after_more (group_of base) (take k log) command) (subst (λ l. HasBorn name (state_after (group_of base) l).core.born) e has)))
+      | inr (command, e) ↦ by command e (new_born (State k) command name (subst (λ (g : Group). HasBorn name g.core.born) (state_push (group_of base) (take k log) command) (subst (λ l. HasBorn name (state_after (group_of base) l).core.born) e has)))
     ]
       where
         by : (command : Command) → take (suc k) log ≡ take k log ++ command ∷ [] → HasBorn name (State k).core.born ⊎ ((kid : Base) × (child_by (State k) command ≡ Some kid) × (kid.core.id ≡ name))
