@@ -1,8 +1,7 @@
 -- While clients ask alone since a quiet front that rests: it begins so, each row keeps it, and the journal rests again once it is quiet.
-use Rattle.std.proofs.Common.{◌≡◌, ℕ, ◌+◌, ◌≤◌, cond, Bool, true, false, List, [], ◌∷◌, ◌++◌, Option, Some, None, ◌⊎◌, inl, inr, refl, sym, ◌∙◌, ap, subst, arith, append-nil, append_assoc}
-use Rattle.std.specs.List.{sum_by}
+use Rattle.std.proofs.Common.{◌≡◌, ℕ, ◌+◌, ◌≤◌, cond, true, false, List, [], ◌∷◌, ◌++◌, Option, Some, None, inl, inr, refl, sym, ◌∙◌, ap, subst, arith, append-nil, append_assoc}
 use Rattle.std.proofs.lemmas.Bool.{cases_Bool, both_ways}
-use Rattle.std.proofs.lemmas.List.{sum_by-append}
+use Rattle.std.proofs.lemmas.List.Sums.{sum_by-append}
 use Rattle.std.proofs.lemmas.Option.{none-some}
 use Rattle.sc_base.specs.Among.{Among, Each}
 use Rattle.sc_base.specs.declared.names.Ballot.{Ballot}
@@ -23,6 +22,7 @@ use Rattle.sc_actor.specs.declared.rows.Event.{Event}
 use Rattle.sc_actor.specs.declared.rows.Row.{Row}
 use Rattle.sc_orderly_law.specs.Orderly.{IsInOrder, is_told, orders}
 use Rattle.sc_orderly_law.specs.Timely.{AreInTime}
+use Rattle.sc_orderly_law.proofs.InTime.{last_in_time}
 use Rattle.sc_paxos_words.specs.declared.flights.Flight.{Flight}
 use Rattle.sc_node_table.specs.Node.{replica_of}
 use Rattle.sc_node_table.specs.Replica.{ReplicaState, listed}
@@ -43,17 +43,16 @@ use Rattle.sc_calm_scenes_law.specs.Quiet.{GoesToActor}
 use Rattle.sc_calm_charts_law.specs.Charting.{names_at, all_replicas}
 use Rattle.sc_calm_charts_law.specs.Ends.{GoInTurn}
 use Rattle.sc_budget_law.specs.Asking.{IsAskingNode}
-use Rattle.sc_budget_law.specs.AskingLines.{NobodyWaits}
 use Rattle.sc_budget_law.specs.AskingQuiet.{replicas_after, QuietJournalsAsk}
 use Rattle.sc_budget_law.specs.BetweenJournal.{replicas_of}
-use Rattle.sc_budget_law.specs.CalmNode.{Setting, IsSetting, HasGoneTo, KnowsBetter}
+use Rattle.sc_budget_law.specs.CalmNode.{Setting, IsSetting, KnowsBetter}
 use Rattle.sc_budget_law.specs.Frames.{Frame}
 use Rattle.sc_budget_law.specs.PlainClient.{IsBegun}
 use Rattle.sc_budget_law.specs.PlainMail.{Requests, IsPlainCommand}
-use Rattle.sc_budget_law.specs.PlainNode.{IsPlainFlight, IsPlainReplica, IsSettled, IsPlainAt}
+use Rattle.sc_budget_law.specs.PlainNode.{IsPlainFlight, IsSettled, IsPlainAt}
 use Rattle.sc_calm_answers_law.specs.Led.{over_at}
 use Rattle.sc_calm_answers_law.specs.Tellers.{tellers_at}
-use Rattle.sc_calm_answers_law.specs.SentJournals.{IsSentThrough, IsSentStep, NextRowsAreSent}
+use Rattle.sc_calm_answers_law.specs.SentJournals.{IsSentStep, NextRowsAreSent}
 use Rattle.sc_calm_answers_law.specs.Cuts.{QuietGroupsHaveCuts}
 use Rattle.sc_calm_answers_law.specs.Round.{StandingGroupsAreRound}
 use Rattle.sc_calm_answers_law.specs.Settings.{QuietJournalsHaveFrames, QuietSettingsAreLinked}
@@ -67,10 +66,10 @@ use Rattle.sc_calm_answers_law.specs.KnownTurns.{NoneGoes, FrontsStayInTurn}
 use Rattle.sc_calm_answers_law.specs.Strangers.{NoMailForStrangers}
 use Rattle.sc_calm_answers_law.specs.Journal.{IsCalmJournal, IsFront, AreSent}
 use Rattle.sc_calm_answers_law.specs.Resting.{RestsAt}
-use Rattle.sc_calm_answers_law.specs.OverJournals.{RestsBesides, RequestsLeaveResting}
-use Rattle.sc_calm_answers_law.specs.Requested.{setting_of, IsKnownFront, IsRequested, RequestsBegin, RequestsStay, RequestsFindCalm, RequestsLeaveYoung}
-use Rattle.sc_calm_answers_law.specs.AskedSince.{RestingFrontsAreKnown, SentNodesMayPump, IsAskedSince, RequestsBeginAsked, RequestsStayAsked, AskedRowsFindCalm, RequestsKeepGroups, RequestsRestAgain}
-use Rattle.sc_calm_answers_law.proofs.AskedFronts.{journal_group, journal_few, quiet_marks}
+use Rattle.sc_calm_answers_law.specs.OverJournals.{RequestsLeaveResting}
+use Rattle.sc_calm_answers_law.specs.Requested.{setting_of, RequestsBegin, RequestsStay, RequestsFindCalm, RequestsLeaveYoung}
+use Rattle.sc_calm_answers_law.specs.AskedSince.{RestingFrontsAreKnown, SentNodesMayPump, IsAskedSince, RequestsBeginAsked, RequestsStayAsked, AskedRowsGoOn, AskedRowsFindCalm, RequestsKeepGroups, RequestsRestAgain}
+use Rattle.sc_calm_answers_law.proofs.Fronts.{journal_group, journal_few, quiet_marks, untold_in_order}
 use Rattle.sc_calm_answers_law.proofs.BetweenRequests.{front_timely}
 use Rattle.sc_calm_answers_law.proofs.KeptSeen.{nodes_numbered}
 use Rattle.sc_calm_answers_law.proofs.OrderedKnown.{named_there}
@@ -287,6 +286,17 @@ module _ (all_bounded : ValidScenariosAreBounded) (found_law : FrontsAreFound) (
 pub stay_asked : ValidScenariosAreBounded → FrontsAreFound → SlotsAreLeft → RequestsStay → RequestsLeaveYoung → NextRowsAreSent → NextRowsRise → RequestsKeepBallots → RequestsStayAsked
 stay_asked = stays
 
+-- so does each row of the journal that tells no order
+pub rows_asked : RequestsStayAsked → AskedRowsGoOn
+rows_asked stay_law words scenario first others far sends journal quiet after row calm groups asked front untold =
+    let s : System Player Mail OrderLine = players words (births as_nodes scenario) in
+    let then : IsFront journal ((quiet ++ after) ++ row ∷ []) = subst (IsFront journal) (sym (append_assoc quiet after (row ∷ []))) front in
+    let c = (last_in_time s (quiet ++ after) row (front_timely words scenario journal ((quiet ++ after) ++ row ∷ []) calm then)).0 in
+    let told : is_told c.event ≡ false = ap (λ (x : Row Mail OrderLine). is_told x.event) (sym c.row_is) ∙ untold in
+    subst (λ (x : Row Mail OrderLine). IsAskedSince words scenario first far sends journal quiet (after ++ x ∷ [])) (sym c.row_is)
+    (stay_law words scenario first others far sends journal quiet after c.seat c.event calm groups asked (subst (λ (x : Row Mail OrderLine). IsFront journal ((quiet ++ after) ++ x ∷ [])) c.row_is then) c.born
+    (untold_in_order s (quiet ++ after) c.seat.who c.event told c.calm))
+
 pub asked_find : SentNodesMayPump → RequestsFindCalm → AskedRowsFindCalm
 asked_find pump_law find_law words scenario first others far sends journal quiet after seat event calm groups asked seated in_order own near =
     find_law words scenario first others far sends journal quiet after seat event calm groups asked.rests asked.known asked.requested asked.front seated in_order own (pump_law words scenario journal (quiet ++ after) calm asked.front asked.sent) near
@@ -357,6 +367,7 @@ pub keep_groups : ValidScenariosAreBounded → QuietJournalsHaveFrames → Chart
 keep_groups all_bounded frames_law hints_law ask_law cuts_law round_law linked_law found_law last_law words scenario first others far sends journal quiet after calm groups asked name =
     same_groups all_bounded frames_law hints_law ask_law cuts_law round_law linked_law found_law words scenario first others far sends journal quiet after calm groups asked last_law name
 
-pub rest_again : ValidScenariosAreBounded → QuietJournalsHaveFrames → ChartHintsRise → QuietJournalsAsk → QuietGroupsHaveCuts → StandingGroupsAreRound → QuietSettingsAreLinked → FrontsAreFound → NoMailForStrangers → StillFrontsAreFree → FrontsStayInTurn → RoundsAreSeen → RequestsLeaveResting → RequestsRestAgain
+pub rest_again : ValidScenariosAreBounded → QuietJournalsHaveFrames → ChartHintsRise → QuietJournalsAsk → QuietGroupsHaveCuts → StandingGroupsAreRound → QuietSettingsAreLinked → FrontsAreFound
+    → NoMailForStrangers → StillFrontsAreFree → FrontsStayInTurn → RoundsAreSeen → RequestsLeaveResting → RequestsRestAgain
 rest_again all_bounded frames_law hints_law ask_law cuts_law round_law linked_law found_law no_law free_law turn_law seen_law leave_law words scenario first others far sends journal quiet after calm groups asked still errands =
     rests_again all_bounded frames_law hints_law ask_law cuts_law round_law linked_law found_law words scenario first others far sends journal quiet after calm groups asked no_law free_law turn_law seen_law leave_law still errands

@@ -7,20 +7,18 @@ use Rattle.sc_base.specs.Same.{same_draw}
 use Rattle.sc_base.specs.declared.names.Draw.{Draw}
 use Rattle.sc_base.specs.declared.ops.Op.{Op}
 use Rattle.sc_cmd.specs.declared.cores.Base.{Base}
-use Rattle.sc_cmd.specs.declared.links.Route.{Route}
 use Rattle.sc_cmd.specs.declared.orders.OrderLine.{OrderLine}
 use Rattle.sc_mail.specs.declared.bodies.Mail.{Mail}
 use Rattle.sc_mail.specs.declared.bodies.MailBody.{MailBody}
 use Rattle.sc_mail.specs.declared.bodies.MailBody.TheVariants.{Request, Answer, Prepare, Promise, Accept, Accepted, Nack, Learn, Ask, Install, TxPrepare, TxVote, TxOutcome, TxElsewhere, TxWatch, TxWatched, Told}
-use Rattle.sc_base.specs.Roster.{is_member}
 use Rattle.sc_actor.specs.declared.actors.Seat.{Seat}
 use Rattle.sc_actor.specs.declared.rows.Event.{Event}
 use Rattle.sc_actor.specs.declared.rows.Row.{Row}
 use Rattle.sc_actor.specs.System.{System, row_of}
-use Rattle.sc_orderly_law.specs.Orderly.{IsInOrder, IsOrderly, IsTidy, is_born, rest}
+use Rattle.sc_orderly_law.specs.Orderly.{IsInOrder, IsOrderly, IsTidy, rest}
 use Rattle.sc_orderly_law.specs.Timely.{AreInTime}
 use Rattle.sc_orderly_law.proofs.InTime.{in_time_tidy}
-use Rattle.sc_node_table.specs.Replica.{ReplicaState, next, last_slot, listed}
+use Rattle.sc_node_table.specs.Replica.{ReplicaState, last_slot, listed}
 use Rattle.sc_node_table.specs.Slots.{slots_ahead}
 use Rattle.sc_scenario.specs.declared.scenarios.Scenario.{Scenario}
 use Rattle.sc_scenario.specs.Valid.{ValidScenariosAreBounded}
@@ -28,27 +26,24 @@ use Rattle.sc_sound.specs.GroupsOf.{groups_at}
 use Rattle.sc_sound.specs.Players.{Player, player_table, births, as_nodes}
 use Rattle.sc_calm_law.specs.Charts.{Chart, players}
 use Rattle.sc_calm_law.specs.Keeping.{FindsCalm}
-use Rattle.sc_calm_law.specs.Quiet.{StandsQuiet}
 use Rattle.sc_calm_law.specs.Totals.{Rows}
 use Rattle.sc_following_law.specs.Following.{Mark, Asks, Votes, Tells, mark_of, marks_of, named_mark}
-use Rattle.sc_calm_rows_law.specs.Groups.{view_at, marks_at}
-use Rattle.sc_calm_rows_law.specs.Turns.{IsSeat, with_event}
+use Rattle.sc_calm_rows_law.specs.Turns.{IsSeat}
 use Rattle.sc_calm_mail_law.specs.Few.{SlotsAreLeft}
 use Rattle.sc_calm_mail_law.specs.Lasting.{ReplicasLast}
 use Rattle.sc_calm_answers_law.specs.SentJournals.{IsQuietWhileYoung}
 use Rattle.sc_calm_charts_law.specs.Charting.{far_at, chart_at}
 use Rattle.sc_calm_charts_law.specs.Fronts.{quiet_front}
-use Rattle.sc_calm_scenes_law.specs.Fresh.{IsThere, IsNowhere}
+use Rattle.sc_calm_scenes_law.specs.Fresh.{IsNowhere}
 use Rattle.sc_budget_law.specs.Asking.{IsAsking, AreFarFromLast, RequestsGoOn}
 use Rattle.sc_budget_law.specs.AskingLines.{AreRequests, NobodyWaits}
-use Rattle.sc_budget_law.specs.AskingQuiet.{replicas_after, setting_at, AreFramesOf, QuietJournalsAsk}
-use Rattle.sc_budget_law.specs.AtRest.{frame_at_rest}
+use Rattle.sc_budget_law.specs.AskingQuiet.{replicas_after, setting_at, QuietJournalsAsk}
 use Rattle.sc_budget_law.specs.BetweenJournal.{replica_at, next_in}
 use Rattle.sc_budget_law.specs.CalmAsking.{IsLinkedSetting}
-use Rattle.sc_budget_law.specs.CalmNode.{Setting, IsSetting, IsHome, HasGoneTo, IsAsideBody, IsCalmMail}
+use Rattle.sc_budget_law.specs.CalmNode.{Setting, IsSetting, IsAsideBody, IsCalmMail}
 use Rattle.sc_budget_law.specs.Frames.{Frame}
 use Rattle.sc_budget_law.specs.PlainClient.{IsBegun}
-use Rattle.sc_budget_law.specs.PlainMail.{IsPlainBody, IsPlainMail}
+use Rattle.sc_budget_law.specs.PlainMail.{IsPlainBody}
 use Rattle.sc_calm_answers_law.specs.RequestsFinding.{CountsAs}
 use Rattle.sc_calm_answers_law.specs.Rows.{NodesMayPump, AreNear, MayBegin, RequestRowsFindCalm}
 use Rattle.sc_calm_answers_law.specs.Starts.{QuietJournalsKnowOne, LawfulQuietJournalsCountOnce}

@@ -141,8 +141,8 @@ module _ (all_bounded : ValidScenariosAreBounded) (found_law : FrontsAreFound) (
   node_rests seat a node is =
       let f = found_law words scenario journal rows calm rests.front in
       Each-from IsAtRest node.replicas (λ r here. (
-        let p = place_of all_bounded once_law agree_law words scenario rows calm.valid f.lawful f.homes r (in_all all rows (name_of r) all seat r a (subst (λ (x : Player). Among r (chart_replicas x)) (sym is) here)) in
-        rests.is.quiet.at_rest (name_of r) p.0 r (views (name_of r) p.0 ∙ p.1)))
+      let p = place_of all_bounded once_law agree_law words scenario rows calm.valid f.lawful f.homes r (in_all all rows (name_of r) all seat r a (subst (λ (x : Player). Among r (chart_replicas x)) (sym is) here)) in
+      rests.is.quiet.at_rest (name_of r) p.0 r (views (name_of r) p.0 ∙ p.1)))
 
   waits_none : (b : Bool) (client : ClientState) → IsAnswered b (route_of first) client → client.waiting ≡ None
   waits_none false client is = ap (λ (c : ClientState). c.waiting) is

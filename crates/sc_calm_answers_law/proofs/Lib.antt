@@ -21,6 +21,7 @@ pub mod BornAsBegun
 pub mod Borne
 mod Calls
 mod ChartRests
+mod Charted
 pub mod Children
 pub mod Chosen
 pub mod Clients
@@ -54,6 +55,7 @@ pub mod FoundRows
 mod Frames
 pub mod Freeing
 pub mod FrontBegins
+pub mod Fronts
 pub mod Given
 pub mod Goers
 pub mod GoersBegin

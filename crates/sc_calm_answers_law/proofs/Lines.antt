@@ -56,7 +56,7 @@ room_for less more le (line.Told who order) room = tt
 room_for less more le (line.Storm number most) room = tt
 
 -- calm lines that give no order are plain, and have room for as much
-plain_by : (less more : ℕ) → less ≤ more → (lines : List SchedLine) → count_by gives_order lines ≡ 0 → Each (AllowsCalmly more) lines → Each (AllowsDeliveries less) lines
+pub plain_by : (less more : ℕ) → less ≤ more → (lines : List SchedLine) → count_by gives_order lines ≡ 0 → Each (AllowsCalmly more) lines → Each (AllowsDeliveries less) lines
 plain_by less more le [] none calm = tt
 plain_by less more le (Go client ∷ lines) none calm = (tt, plain_by less more le lines none calm.1)
 plain_by less more le (Settle most ∷ lines) none calm = (let room = calm.0 in omega (arith, le, room), plain_by less more le lines none calm.1)
@@ -69,12 +69,12 @@ plain_by less more le (Tick who ∷ lines) none calm = absurd calm.0
 plain_by less more le (Crash node ∷ lines) none calm = absurd calm.0
 plain_by less more le (Storm number most ∷ lines) none calm = absurd calm.0
 
-rooms_for : (less more : ℕ) → less ≤ more → (lines : List (Line OrderLine)) → Each (HasRoom more) lines → Each (HasRoom less) lines
+pub rooms_for : (less more : ℕ) → less ≤ more → (lines : List (Line OrderLine)) → Each (HasRoom more) lines → Each (HasRoom less) lines
 rooms_for less more le [] rooms = tt
 rooms_for less more le (one ∷ lines) rooms = (room_for less more le one rooms.0, rooms_for less more le lines rooms.1)
 
 -- where no order is given the budget is at least that of a plain scenario
-plain_budget : (scenario : Scenario) → orders_of scenario ≡ 0 → budget_of scenario ≤ calm_budget_of scenario
+pub plain_budget : (scenario : Scenario) → orders_of scenario ≡ 0 → budget_of scenario ≤ calm_budget_of scenario
 plain_budget scenario none =
     let groups : ℕ = length scenario.groups in
     let requests : ℕ = requests_of scenario in
@@ -86,7 +86,7 @@ plain_budget scenario none =
     omega (arith, less, same, shorter, plain)
 
 -- what is owed at birth, and what all orders raise, is no more than all deliveries
-within_deliveries : (still most orders budget : ℕ) → most ≡ orders + 1 → still + (242 + 4 * most) ≤ budget → still + orders * (242 + 4 * most) ≤ budget + orders * (242 + 4 * (orders + 1))
+pub within_deliveries : (still most orders budget : ℕ) → most ≡ orders + 1 → still + (242 + 4 * most) ≤ budget → still + orders * (242 + 4 * most) ≤ budget + orders * (242 + 4 * (orders + 1))
 within_deliveries still most orders budget is within =
     let same : orders * (242 + 4 * most) ≡ orders * (242 + 4 * (orders + 1)) = ap (λ n. orders * (242 + 4 * n)) is in
     omega (arith, same, within)

@@ -32,7 +32,8 @@ use Rattle.sc_calm_mail_law.specs.Few.{SlotsAreLeft}
 use Rattle.sc_calm_logs_law.specs.Logged.{IsGroupOf, ViewsAreReplicas, SlotsHaveRosters}
 use Rattle.sc_calm_answers_law.specs.States.{ReplicasRunLogs}
 use Rattle.sc_calm_scenes_law.specs.Fresh.{IsThere, IsNowhere, AreUntouched, IsToldInQuiet, FreshGroupsStay}
-use Rattle.sc_calm_scenes_law.specs.Found.{FindsOrder}
+use Rattle.sc_calm_scenes_law.specs.Found.{FindsOrder, FoundOrdersStep}
+use Rattle.sc_calm_scenes_law.specs.Kept.{StageAfter}
 use Rattle.sc_calm_answers_law.specs.Guided.{IsNamedGuide, IsReachedSo, NewestStay}
 use Rattle.sc_calm_answers_law.specs.FoundRows.{IsOrdersRow, OrdersRowsFind}
 use Rattle.sc_calm_answers_law.specs.SentJournals.{IsQuietWhileYoung, IsSentStep, NextRowsAreSent, SentReplicas}
@@ -55,6 +56,9 @@ use Rattle.sc_calm_answers_law.specs.Viewing.{ViewsAgree}
 use Rattle.sc_calm_answers_law.specs.Borne.{ChildrenAreBorne}
 use Rattle.sc_calm_answers_law.specs.Young.{YoungGroupsStay}
 use Rattle.sc_calm_answers_law.specs.TrueBeginning.{TrueOrdersBegin}
+use Rattle.sc_calm_answers_law.specs.Goers.{GoersBegin}
+use Rattle.sc_calm_answers_law.specs.Near.{NamesStayFew}
+use Rattle.sc_calm_answers_law.specs.NoneWaits.{NoneWaits}
 use Rattle.sc_calm_answers_law.specs.TrueHinted.{IsHinted, HintedOrdersBegin}
 use Rattle.sc_calm_answers_law.specs.Settled.{SettledOrdersBegin}
 use Rattle.sc_calm_answers_law.specs.TrueUnder.{AreSeen}
@@ -66,7 +70,7 @@ use Rattle.sc_calm_answers_law.proofs.Clients.{gone_still, told_stays}
 use Rattle.sc_calm_answers_law.proofs.OrderedSending.{known_told}
 
 module _ (all_bounded : ValidScenariosAreBounded) (few_law : SlotsAreLeft) (logs_law : ReplicasRunLogs) (views_law : ViewsAreReplicas) (rosters_law : SlotsHaveRosters) (next_law : NextRowsAreSent) (newest_law : NewestStay) (found_law : FrontsAreFound) (no_law : NoMailForStrangers)
-    (agree_law : ViewsAgree) (plain_law : SentReplicas) (finds_law : OrdersRowsFind) (fresh_law : FreshGroupsStay) (young_law : YoungGroupsStay) (true_law : TrueOrdersBegin) (settled_law : SettledOrdersBegin) (hinted_law : HintedOrdersBegin) (work_law : OrdersBeginWork) (borne_law : ChildrenAreBorne) (rise_law : NextRowsRise) (rounds_law : OrdersKeepRounds) (stands_law : WorkStandsAlone) (calm_law : ToldOrdersFindCalm) (errands_law : OrderedErrandsGoHome) (actors_law : HomewardGoesToActors)
+    (agree_law : ViewsAgree) (plain_law : SentReplicas) (finds_law : OrdersRowsFind) (fresh_law : FreshGroupsStay) (young_law : YoungGroupsStay) (true_law : TrueOrdersBegin) (settled_law : SettledOrdersBegin) (hinted_law : HintedOrdersBegin) (work_law : OrdersBeginWork) (borne_law : ChildrenAreBorne) (rise_law : NextRowsRise) (rounds_law : OrdersKeepRounds) (stands_law : WorkStandsAlone) (calm_law : ToldOrdersFindCalm) (errands_law : OrderedErrandsGoHome) (actors_law : HomewardGoesToActors) (goers_law : GoersBegin) (waits_law : NoneWaits) (names_law : NamesStayFew) (step_law : FoundOrdersStep)
     (words : ℕ → ℕ → ℕ × ℕ) (scenario : Scenario) (first : Base) (journal quiet : Rows) (seat : Seat Player) (line : OrderLine) (calm : IsCalmJournal words scenario journal) (rests : RestsAt words scenario first journal quiet) (home : Each (GoesHome scenario) (mails quiet))
     (seated : IsSeat (births as_nodes scenario) seat) (front : IsFront journal (with_event quiet seat (Told line))) (timely : AreInTime (players words (births as_nodes scenario)) (with_event quiet seat (Told line))) where
   abbrev all : List (Seat Player)
@@ -202,6 +206,7 @@ module _ (all_bounded : ValidScenariosAreBounded) (few_law : SlotsAreLeft) (logs
         rising = rising_after;
         round = round_after;
         true_since = true_so;
+        goes = goers_law words scenario first journal quiet seat line begun.0 calm rests seen told_so front begun.1.stands;
         settled = settled_law words scenario first journal quiet seat line begun.0 calm rests seen told_so front sent_after strangers begun.1.stands true_so;
         hinted = hinted_after;
         line = line;
@@ -212,14 +217,21 @@ module _ (all_bounded : ValidScenariosAreBounded) (few_law : SlotsAreLeft) (logs
         clients = λ other client is was. (told_stays all quiet seat other seated is line client was, gone_still quiet row other.who refl);
         known = known_told words scenario journal quiet seat line begun.0 seated timely rests.calm named begun.1;
         home = errands_law words scenario journal quiet quiet row begun.0 calm rests.front front begun.1.stands hinted_after home;
+        waits = waits_law.begins words scenario first journal quiet seat line calm rests seated front sent_after;
+        names = names_law.goes_on words scenario first journal quiet quiet seat (Told line) work.0 calm rests front (borne_law.begins words scenario journal quiet seat line work.0 seated timely work.1) (names_law.begins all quiet work.0);
       }
+
+  -- .. at a stage that follows
+  steps_on : StageAfter all quiet seat (Told line) Still
+  steps_on = step_law words all quiet seat (Told line) seated timely finds Still rests.still
 
   finds_calm : (far sent : ℕ) → FindsCalm (chart_at far sent s quiet) all quiet seat (Told line)
   finds_calm far sent = calm_law words scenario first journal quiet far sent seat line calm rests (found_law words scenario journal quiet calm rests.front).homes seated
 
 pub orders_begin : ValidScenariosAreBounded → SlotsAreLeft → ReplicasRunLogs → ViewsAreReplicas → SlotsHaveRosters → NextRowsAreSent → NewestStay → FrontsAreFound → NoMailForStrangers → ViewsAgree → SentReplicas → OrdersRowsFind → FreshGroupsStay → YoungGroupsStay → TrueOrdersBegin → SettledOrdersBegin → HintedOrdersBegin → OrdersBeginWork → ChildrenAreBorne → NextRowsRise → OrdersKeepRounds → WorkStandsAlone
-    → ToldOrdersFindCalm → OrderedErrandsGoHome → HomewardGoesToActors → OrdersBeginOrdered
-orders_begin all_bounded few_law logs_law views_law rosters_law next_law newest_law found_law no_law agree_law plain_law finds_law fresh_law young_law true_law settled_law hinted_law work_law borne_law rise_law rounds_law stands_law calm_law errands_law actors_law words scenario first journal quiet seat line calm rests home seated front timely = (
-  begins all_bounded few_law logs_law views_law rosters_law next_law newest_law found_law no_law agree_law plain_law finds_law fresh_law young_law true_law settled_law hinted_law work_law borne_law rise_law rounds_law stands_law calm_law errands_law actors_law words scenario first journal quiet seat line calm rests home seated front timely,
-  finds_calm all_bounded few_law logs_law views_law rosters_law next_law newest_law found_law no_law agree_law plain_law finds_law fresh_law young_law true_law settled_law hinted_law work_law borne_law rise_law rounds_law stands_law calm_law errands_law actors_law words scenario first journal quiet seat line calm rests home seated front timely,
+    → ToldOrdersFindCalm → OrderedErrandsGoHome → HomewardGoesToActors → GoersBegin → NoneWaits → NamesStayFew → FoundOrdersStep → OrdersBeginOrdered
+orders_begin all_bounded few_law logs_law views_law rosters_law next_law newest_law found_law no_law agree_law plain_law finds_law fresh_law young_law true_law settled_law hinted_law work_law borne_law rise_law rounds_law stands_law calm_law errands_law actors_law goers_law waits_law names_law step_law words scenario first journal quiet seat line calm rests home seated front timely = (
+  begins all_bounded few_law logs_law views_law rosters_law next_law newest_law found_law no_law agree_law plain_law finds_law fresh_law young_law true_law settled_law hinted_law work_law borne_law rise_law rounds_law stands_law calm_law errands_law actors_law goers_law waits_law names_law step_law words scenario first journal quiet seat line calm rests home seated front timely,
+  steps_on all_bounded few_law logs_law views_law rosters_law next_law newest_law found_law no_law agree_law plain_law finds_law fresh_law young_law true_law settled_law hinted_law work_law borne_law rise_law rounds_law stands_law calm_law errands_law actors_law goers_law waits_law names_law step_law words scenario first journal quiet seat line calm rests home seated front timely,
+  finds_calm all_bounded few_law logs_law views_law rosters_law next_law newest_law found_law no_law agree_law plain_law finds_law fresh_law young_law true_law settled_law hinted_law work_law borne_law rise_law rounds_law stands_law calm_law errands_law actors_law goers_law waits_law names_law step_law words scenario first journal quiet seat line calm rests home seated front timely,
 )

@@ -42,7 +42,7 @@ use Rattle.sc_calm_logs_law.specs.Logged.{ViewsAreReplicas, SlotsHaveRosters}
 use Rattle.sc_calm_answers_law.specs.States.{ReplicasRunLogs}
 use Rattle.sc_calm_scenes_law.specs.Fresh.{IsThere, IsNowhere, AreUntouched, IsDelivered, FreshGroupsStay}
 use Rattle.sc_calm_scenes_law.specs.Found.{FindsOrder}
-use Rattle.sc_calm_scenes_law.specs.Kept.{GoesBy}
+use Rattle.sc_calm_scenes_law.specs.Kept.{GoesBy, StageAfter}
 use Rattle.sc_calm_scenes_law.specs.Scenes.{scene_at}
 use Rattle.sc_calm_scenes_law.specs.Taken.{IsTaking}
 use Rattle.sc_calm_entries_law.specs.Paid.{IsEntry}
@@ -78,6 +78,9 @@ use Rattle.sc_calm_answers_law.specs.Unsettled.{MailComesUnsettled, TakesSince}
 use Rattle.sc_client_table.specs.Client.{Client as ClientState}
 use Rattle.sc_calm_answers_law.specs.TrueHinted.{IsHinted, CoordinatorsAreHinted, HintedOrdersGoOn}
 use Rattle.sc_calm_answers_law.specs.Settled.{AreSettled, CoordinatorsAreSettled, SettledOrdersGoOn}
+use Rattle.sc_calm_answers_law.specs.Goers.{GoersGoOn, IsGoingSince}
+use Rattle.sc_calm_answers_law.specs.Near.{NamesStayFew}
+use Rattle.sc_calm_answers_law.specs.NoneWaits.{NoneWaits}
 use Rattle.sc_calm_answers_law.specs.TrueGoing.{AskedGroupsStood, GoesOnSince, TrueOrdersGoOn}
 use Rattle.sc_calm_answers_law.specs.Works.{IsGuidedRow, DeliveriesKeepWork, WorkStandsAlone}
 use Rattle.sc_calm_answers_law.specs.OrderedEntries.{FlightsAreEntries}
@@ -137,7 +140,7 @@ no_request (Told order result) none = tt
 
 module _ (all_bounded : ValidScenariosAreBounded) (few_law : SlotsAreLeft) (logs_law : ReplicasRunLogs) (views_law : ViewsAreReplicas) (rosters_law : SlotsHaveRosters) (last_law : ReplicasLast) (next_law : NextRowsAreSent) (newest_law : NewestStay) (found_law : FrontsAreFound) (no_law : NoMailForStrangers)
     (agree_law : ViewsAgree) (alone_law : WellLedLeadAlone) (plain_law : SentReplicas) (meets_law : OrdersRowsMeet) (finds_law : OrdersRowsFind) (rise_law : NextRowsRise) (rounds_law : OrdersKeepRounds) (nowhere_law : ChildrenWereNowhere) (borne_law : ChildrenAreBorne) (fresh_law : FreshGroupsStay) (young_law : YoungGroupsStay) (unsettled_law : MailComesUnsettled) (asked_law : AskedGroupsStood) (true_law : TrueOrdersGoOn)
-    (work_law : DeliveriesKeepWork) (stands_law : WorkStandsAlone) (calm_law : OrderRowsFindCalm) (settled_law : SettledOrdersGoOn) (settled_at : CoordinatorsAreSettled) (hinted_law : HintedOrdersGoOn) (hinted_at : CoordinatorsAreHinted) (entries_law : EntriesAreTrue) (flights_law : FlightsAreEntries) (come_law : MailMayCome) (once_law : LawfulReplicasAreNamedOnce) (takers_law : TakersAreNodes) (errands_law : OrderedErrandsGoHome) (words : ℕ → ℕ → ℕ × ℕ) (scenario : Scenario) (first : Base) (journal quiet rows : Rows) (seat : Seat Player) (number : ℕ) (calm : IsCalmJournal words scenario journal)
+    (work_law : DeliveriesKeepWork) (stands_law : WorkStandsAlone) (calm_law : OrderRowsFindCalm) (settled_law : SettledOrdersGoOn) (settled_at : CoordinatorsAreSettled) (hinted_law : HintedOrdersGoOn) (hinted_at : CoordinatorsAreHinted) (entries_law : EntriesAreTrue) (flights_law : FlightsAreEntries) (come_law : MailMayCome) (once_law : LawfulReplicasAreNamedOnce) (takers_law : TakersAreNodes) (errands_law : OrderedErrandsGoHome) (goers_law : GoersGoOn) (waits_law : NoneWaits) (names_law : NamesStayFew) (words : ℕ → ℕ → ℕ × ℕ) (scenario : Scenario) (first : Base) (journal quiet rows : Rows) (seat : Seat Player) (number : ℕ) (calm : IsCalmJournal words scenario journal)
     (o : IsOrderedSince words scenario first journal quiet rows) (on : GoesOnBy words scenario journal rows seat number) where
   abbrev all : List (Seat Player)
   all = births as_nodes scenario
@@ -326,6 +329,11 @@ module _ (all_bounded : ValidScenariosAreBounded) (few_law : SlotsAreLeft) (logs
   hinted_after =
       hinted_law words scenario first journal quiet rows seat number under.stage next_stage.0 goes_since (λ name node r e runs. entries_law words scenario first journal quiet rows name node r under.stage (leads_since name node r e runs)) next_stage.1.stands next_stage.2 true_after o.hinted
 
+  going_after : IsGoingSince scenario journal quiet then next_stage.0
+  going_after =
+      goers_law words scenario first journal quiet rows seat number under.stage next_stage.0 goes_since under.sent steps under.reached
+      (λ base among nowhere. young_after base among (at_row.never_there last_law no_law words scenario first journal quiet rows o.behind seat number calm o.rows_are under on base.core.id nowhere)) leads_since next_stage.1.stands next_stage.2 o.goes
+
   keeps : IsOrderedSince words scenario first journal quiet then
   unfolding under_after
   keeps = record {
@@ -336,6 +344,7 @@ module _ (all_bounded : ValidScenariosAreBounded) (few_law : SlotsAreLeft) (logs
     rising = rising_after;
     round = round_after;
     true_since = true_after;
+    goes = going_after;
     settled = settled_after;
     hinted = hinted_after;
     line = o.line;
@@ -346,7 +355,13 @@ module _ (all_bounded : ValidScenariosAreBounded) (few_law : SlotsAreLeft) (logs
     clients = λ other client is was. (let h = o.clients other client is was in (other_stays all rows seat other on.seated is (Deliver number) client (nodes client) h.0, gone_still rows row other.who refl ∙ h.1));
     known = known_after words scenario journal quiet rows seat number next_stage.0 on.seated on.timely unanswered named_quiet next_stage.1 o.known;
     home = errands_law words scenario journal quiet rows row next_stage.0 calm under.rests.front on.front next_stage.1.stands hinted_after o.home;
+    waits = waits_law.goes_on words scenario journal rows seat number calm on sent_after o.waits;
+    names = names_law.goes_on words scenario first journal quiet rows seat (Deliver number) o.task calm under.rests on.front (borne_law.keeps words scenario first journal quiet rows o.line o.task seat number working o.borne) o.names;
   }
+
+  -- .. at a stage that follows
+  steps_on : StageAfter all rows seat (Deliver number) under.stage
+  steps_on = (next_stage.0, next_stage.1.stands, next_stage.2)
 
   -- ---- what it finds
 
@@ -388,8 +403,9 @@ module _ (all_bounded : ValidScenariosAreBounded) (few_law : SlotsAreLeft) (logs
       (record { alone = alone; homes = (found_law words scenario journal quiet calm under.rests.front).homes; front = front; rise = rise; nodes = nodes; mail = mail_so })
 
 pub deliveries_keep : ValidScenariosAreBounded → SlotsAreLeft → ReplicasRunLogs → ViewsAreReplicas → SlotsHaveRosters → ReplicasLast → NextRowsAreSent → NewestStay → FrontsAreFound → NoMailForStrangers → ViewsAgree → WellLedLeadAlone → SentReplicas → OrdersRowsMeet → OrdersRowsFind → NextRowsRise → OrdersKeepRounds → ChildrenWereNowhere → ChildrenAreBorne → FreshGroupsStay → YoungGroupsStay
-    → MailComesUnsettled → AskedGroupsStood → TrueOrdersGoOn → DeliveriesKeepWork → WorkStandsAlone → OrderRowsFindCalm → SettledOrdersGoOn → CoordinatorsAreSettled → HintedOrdersGoOn → CoordinatorsAreHinted → EntriesAreTrue → FlightsAreEntries → MailMayCome → LawfulReplicasAreNamedOnce → TakersAreNodes → OrderedErrandsGoHome → DeliveriesKeepOrdered
-deliveries_keep all_bounded few_law logs_law views_law rosters_law last_law next_law newest_law found_law no_law agree_law alone_law plain_law meets_law finds_law rise_law rounds_law nowhere_law borne_law fresh_law young_law unsettled_law asked_law true_law work_law stands_law calm_law settled_law settled_at hinted_law hinted_at entries_law flights_law come_law once_law takers_law errands_law words scenario first journal quiet rows seat number calm o on = (
-  keeps all_bounded few_law logs_law views_law rosters_law last_law next_law newest_law found_law no_law agree_law alone_law plain_law meets_law finds_law rise_law rounds_law nowhere_law borne_law fresh_law young_law unsettled_law asked_law true_law work_law stands_law calm_law settled_law settled_at hinted_law hinted_at entries_law flights_law come_law once_law takers_law errands_law words scenario first journal quiet rows seat number calm o on,
-  found all_bounded few_law logs_law views_law rosters_law last_law next_law newest_law found_law no_law agree_law alone_law plain_law meets_law finds_law rise_law rounds_law nowhere_law borne_law fresh_law young_law unsettled_law asked_law true_law work_law stands_law calm_law settled_law settled_at hinted_law hinted_at entries_law flights_law come_law once_law takers_law errands_law words scenario first journal quiet rows seat number calm o on,
+    → MailComesUnsettled → AskedGroupsStood → TrueOrdersGoOn → DeliveriesKeepWork → WorkStandsAlone → OrderRowsFindCalm → SettledOrdersGoOn → CoordinatorsAreSettled → HintedOrdersGoOn → CoordinatorsAreHinted → EntriesAreTrue → FlightsAreEntries → MailMayCome → LawfulReplicasAreNamedOnce → TakersAreNodes → OrderedErrandsGoHome → GoersGoOn → NoneWaits → NamesStayFew → DeliveriesKeepOrdered
+deliveries_keep all_bounded few_law logs_law views_law rosters_law last_law next_law newest_law found_law no_law agree_law alone_law plain_law meets_law finds_law rise_law rounds_law nowhere_law borne_law fresh_law young_law unsettled_law asked_law true_law work_law stands_law calm_law settled_law settled_at hinted_law hinted_at entries_law flights_law come_law once_law takers_law errands_law goers_law waits_law names_law words scenario first journal quiet rows seat number calm o on = (
+  keeps all_bounded few_law logs_law views_law rosters_law last_law next_law newest_law found_law no_law agree_law alone_law plain_law meets_law finds_law rise_law rounds_law nowhere_law borne_law fresh_law young_law unsettled_law asked_law true_law work_law stands_law calm_law settled_law settled_at hinted_law hinted_at entries_law flights_law come_law once_law takers_law errands_law goers_law waits_law names_law words scenario first journal quiet rows seat number calm o on,
+  steps_on all_bounded few_law logs_law views_law rosters_law last_law next_law newest_law found_law no_law agree_law alone_law plain_law meets_law finds_law rise_law rounds_law nowhere_law borne_law fresh_law young_law unsettled_law asked_law true_law work_law stands_law calm_law settled_law settled_at hinted_law hinted_at entries_law flights_law come_law once_law takers_law errands_law goers_law waits_law names_law words scenario first journal quiet rows seat number calm o on,
+  found all_bounded few_law logs_law views_law rosters_law last_law next_law newest_law found_law no_law agree_law alone_law plain_law meets_law finds_law rise_law rounds_law nowhere_law borne_law fresh_law young_law unsettled_law asked_law true_law work_law stands_law calm_law settled_law settled_at hinted_law hinted_at entries_law flights_law come_law once_law takers_law errands_law goers_law waits_law names_law words scenario first journal quiet rows seat number calm o on,
 )

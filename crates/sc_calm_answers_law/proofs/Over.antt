@@ -7,6 +7,7 @@ use Rattle.sc_cmd.specs.declared.cores.Base.{Base}
 use Rattle.sc_cmd.specs.declared.orders.OrderLine.{OrderLine}
 use Rattle.sc_mail.specs.declared.bodies.Mail.{Mail}
 use Rattle.sc_actor.specs.declared.actors.Seat.{Seat}
+use Rattle.sc_actor.specs.Mail.{mails}
 use Rattle.sc_actor.specs.System.{System, has_gone}
 use Rattle.sc_actor.specs.Walk.{is_quiet}
 use Rattle.sc_orderly_law.specs.Orderly.{is_born, orders, rest}
@@ -30,6 +31,8 @@ use Rattle.sc_calm_orders_law.proofs.Lists.{among-right}
 use Rattle.sc_calm_rows_law.specs.Turns.{IsSeat}
 use Rattle.sc_sound.specs.Players.{Player, player_table, births, as_nodes, node_seat, client_seat, client_seats, route_of}
 use Rattle.sc_following_law.specs.Following.{marks_of}
+use Rattle.sc_calm_charts_law.specs.Charting.{all_replicas, names_at}
+use Rattle.sc_calm_charts_law.specs.Ends.{GoInTurn}
 use Rattle.sc_calm_law.specs.Charts.{players}
 use Rattle.sc_calm_law.specs.Totals.{Rows}
 use Rattle.sc_calm_orders_law.specs.Parts.{works_in}
@@ -47,18 +50,21 @@ use Rattle.sc_calm_answers_law.specs.Guided.{QuietLeadersHaveNothing}
 use Rattle.sc_calm_answers_law.specs.RiseRounds.{OrdersKeepRounds, RoundsAreSeen}
 use Rattle.sc_calm_answers_law.specs.KnownFronts.{IsQuietFront, FrontsAreFound}
 use Rattle.sc_calm_answers_law.specs.Strangers.{NoMailForStrangers}
-use Rattle.sc_calm_answers_law.specs.Journal.{IsCalmJournal, IsFront, IsNamedGroup}
+use Rattle.sc_calm_answers_law.specs.Goers.{GoersGoInTurn, IsGoingSince}
+use Rattle.sc_calm_answers_law.specs.NoneWaits.{NoneWaits}
+use Rattle.sc_calm_answers_law.specs.Reached.{FirstGroupsAreReached}
+use Rattle.sc_calm_answers_law.specs.Journal.{AreSent, IsCalmJournal, IsFront, IsNamedGroup}
 use Rattle.sc_calm_answers_law.specs.Resting.{RestsAt}
 use Rattle.sc_calm_answers_law.specs.JournalUnder.{IsUnder}
 use Rattle.sc_calm_answers_law.proofs.BetweenRequests.{front_timely, front_short}
 use Rattle.sc_calm_answers_law.specs.OverEnding.{QuietFrontsRest}
+use Rattle.sc_calm_answers_law.specs.Homeward.{HomewardGoesToActors}
 use Rattle.sc_calm_answers_law.specs.Ordered.{IsOrderedSince}
 use Rattle.sc_calm_answers_law.proofs.OrderedKnown.{named_there}
-use Rattle.sc_calm_answers_law.specs.Over.{IsOverBesides, OrdersLeaveResting}
+use Rattle.sc_calm_answers_law.specs.Over.{OrdersLeaveResting}
 
-module _ (all_bounded : ValidScenariosAreBounded) (few_law : SlotsAreLeft) (born_law : ScenariosAreKeptBorn) (rosters_law : SlotsHaveRosters) (over_law : QuietScenesAreOver) (nothing_law : QuietLeadersHaveNothing) (rounds_law : OrdersKeepRounds) (seen_law : RoundsAreSeen) (found_law : FrontsAreFound) (no_law : NoMailForStrangers) (rest_law : QuietFrontsRest)
-    (words : ℕ → ℕ → ℕ × ℕ) (scenario : Scenario) (first : Base) (others : List Base) (journal quiet rows : Rows) (groups : scenario.groups ≡ first ∷ others) (calm : IsCalmJournal words scenario journal) (o : IsOrderedSince words scenario first journal quiet rows) (still : is_quiet (players words (births as_nodes scenario)) rows ≡ true)
-    (besides : IsOverBesides words scenario first rows) where
+module _ (all_bounded : ValidScenariosAreBounded) (few_law : SlotsAreLeft) (born_law : ScenariosAreKeptBorn) (rosters_law : SlotsHaveRosters) (over_law : QuietScenesAreOver) (nothing_law : QuietLeadersHaveNothing) (rounds_law : OrdersKeepRounds) (seen_law : RoundsAreSeen) (found_law : FrontsAreFound) (no_law : NoMailForStrangers) (rest_law : QuietFrontsRest) (actors_law : HomewardGoesToActors) (turn_law : GoersGoInTurn) (waits_law : NoneWaits) (reached_law : FirstGroupsAreReached)
+    (words : ℕ → ℕ → ℕ × ℕ) (scenario : Scenario) (first : Base) (others : List Base) (journal quiet rows : Rows) (groups : scenario.groups ≡ first ∷ others) (calm : IsCalmJournal words scenario journal) (o : IsOrderedSince words scenario first journal quiet rows) (still : is_quiet (players words (births as_nodes scenario)) rows ≡ true) where
   abbrev all : List (Seat Player)
   all = births as_nodes scenario
 
@@ -77,6 +83,10 @@ module _ (all_bounded : ValidScenariosAreBounded) (few_law : SlotsAreLeft) (born
   group : (base : Base) → Among base (groups_at as_nodes scenario.groups journal) → IsGroupOf as_nodes words scenario journal base
   group base among = record { open_slots = refl; valid = calm.valid; lawful = calm.lawful; stands = among }
 
+  -- no act waits where nothing is in flight
+  none_waits : (name : Draw) (node : ℕ) (r : ReplicaState) → view_at all rows name node ≡ Some r → r.running ≡ true → r.leader.flights ≡ [] → r.acts ≡ []
+  none_waits = waits_law.over words scenario journal rows calm under.front under.sent still o.waits
+
   -- nothing is left at a leader
   nothing : (name : Draw) (node : ℕ) (r : ReplicaState) → view_at all rows name node ≡ Some r → r.running ≡ true → HasNothing r
   nothing name node r e runs =
@@ -87,10 +97,10 @@ module _ (all_bounded : ValidScenariosAreBounded) (few_law : SlotsAreLeft) (born
       let low = left.0 in
       nothing_law (logged_sets as_nodes g.0 journal) (over_at as_nodes g.0 journal) (tellers_at as_nodes scenario g.0 journal) words all rows g.0 t.course node r (born_law scenario) (rosters_law.rosters as_nodes words scenario journal g.0 (group g.0 g.1)) timely still
       (no_law.strangers words scenario journal rows calm under.front under.sent g.0.core.id) t.led here runs (omega (arith, low))
-      (λ none. (ap works_in (besides.waits name node r e runs none), ap works_in (o.work.replicas name node r e).calls))
+      (λ none. (ap works_in (none_waits name node r e runs none), ap works_in (o.work.replicas name node r e).calls))
 
   over : IsAt Still (scene_at all rows)
-  over = (over_law.over words all rows timely still besides.errands nothing (under.stage, under.untouched.stands)).0
+  over = (over_law.over words all rows timely still (actors_law words scenario (mails rows) o.home) nothing (under.stage, under.untouched.stands)).0
 
   -- no mail is under way
   none_quiet : (name : Draw) (who : ℕ) → marks_at s quiet name who ≡ []
@@ -130,20 +140,26 @@ module _ (all_bounded : ValidScenariosAreBounded) (few_law : SlotsAreLeft) (born
   q : IsQuietFront words scenario journal rows
   q = record { calm = calm; begins = under.front; quiet = still; sent = under.sent }
 
+  -- groups went one after another
+  in_turn : (turn : Draw → ℕ) × GoInTurn (names_at (births as_nodes scenario) rows) (all_replicas (births as_nodes scenario) rows) turn
+  in_turn = subst (λ (xs : Rows). (turn : Draw → ℕ) × GoInTurn (names_at (births as_nodes scenario) xs) (all_replicas (births as_nodes scenario) xs) turn) (sym o.rows_are)
+      (turn_law words scenario first journal quiet o.behind under.stage calm under.rests (subst (IsFront journal) o.rows_are under.front) (subst (AreSent words scenario journal) o.rows_are under.sent)
+      (subst (λ xs. is_quiet (players words (births as_nodes scenario)) xs ≡ true) o.rows_are still) (subst (λ xs. IsGoingSince scenario journal quiet xs under.stage) o.rows_are o.goes))
+
   rests : RestsAt words scenario first journal rows
   unfolding q
   rests = rest_law words scenario first journal rows q (record {
     still = over;
-    done = λ name node r e runs. (let n = nothing name node r e runs in (besides.waits name node r e runs n.flights, (o.work.replicas name node r e).calls));
+    done = λ name node r e runs. (let n = nothing name node r e runs in (none_waits name node r e runs n.flights, (o.work.replicas name node r e).calls));
     rounds = few_rounds;
     rising = o.rising;
     clients = under.rests.is.clients;
     answered = under.rests.is.quiet.answered;
     players = players_so;
-    reached = besides.reached;
-    turn = besides.turn;
-    turns = besides.turns;
+    reached = reached_law.first words scenario journal rows first others calm under.front groups;
+    turn = in_turn.0;
+    turns = in_turn.1;
   })
 
-pub orders_leave : ValidScenariosAreBounded → SlotsAreLeft → ScenariosAreKeptBorn → SlotsHaveRosters → QuietScenesAreOver → QuietLeadersHaveNothing → OrdersKeepRounds → RoundsAreSeen → FrontsAreFound → NoMailForStrangers → QuietFrontsRest → OrdersLeaveResting
+pub orders_leave : ValidScenariosAreBounded → SlotsAreLeft → ScenariosAreKeptBorn → SlotsHaveRosters → QuietScenesAreOver → QuietLeadersHaveNothing → OrdersKeepRounds → RoundsAreSeen → FrontsAreFound → NoMailForStrangers → QuietFrontsRest → HomewardGoesToActors → GoersGoInTurn → NoneWaits → FirstGroupsAreReached → OrdersLeaveResting
 orders_leave = rests

@@ -1,6 +1,5 @@
 -- The segments of a calm journal: quiet fronts that rest, requests behind them, and orders.
 use Rattle.std.proofs.Common.{◌≡◌, ℕ, ◌+◌, ◌≤◌, Bool, true, false, true≢false, List, [], ◌∷◌, ◌++◌, length, ◌⊎◌, inl, inr, refl, sym, ◌∙◌, ap, subst, arith, append_assoc, append-nil}
-use Rattle.std.proofs.lemmas.List.{length_push}
 use Rattle.sc_base.specs.Among.{Each}
 use Rattle.sc_base.specs.declared.names.Draw.{Draw}
 use Rattle.sc_cmd.specs.declared.cores.Base.{Base}
@@ -13,8 +12,8 @@ use Rattle.sc_actor.specs.declared.rows.Row.{Row}
 use Rattle.sc_actor.specs.Mail.{mails}
 use Rattle.sc_actor.specs.System.{System, row_of}
 use Rattle.sc_actor.specs.Walk.{is_quiet}
-use Rattle.sc_orderly_law.specs.Orderly.{IsInOrder, IsCalmEvent, IsCalmRow, is_told, orders}
-use Rattle.sc_orderly_law.specs.Timely.{AreInTime, ComesInTime}
+use Rattle.sc_orderly_law.specs.Orderly.{IsInOrder, is_told, orders}
+use Rattle.sc_orderly_law.specs.Timely.{AreInTime}
 use Rattle.sc_orderly_law.proofs.InTime.{last_in_time}
 use Rattle.sc_orderly_law.proofs.Paying.{count_push}
 use Rattle.sc_scenario.specs.declared.scenarios.Scenario.{Scenario}
@@ -29,26 +28,15 @@ use Rattle.sc_budget_law.specs.AskingQuiet.{DoHintsRise, replicas_after}
 use Rattle.sc_calm_rows_law.specs.Turns.{IsSeat, with_event}
 use Rattle.sc_calm_charts_law.specs.Charting.{chart_at, names_at}
 use Rattle.sc_calm_charts_law.specs.Fronts.{quiet_front}
-use Rattle.sc_calm_answers_law.specs.Rows.{AreNear}
 use Rattle.sc_calm_answers_law.specs.Journal.{IsCalmJournal, IsFront, GoesOnBy}
 use Rattle.sc_calm_answers_law.specs.Resting.{RestsAt}
 use Rattle.sc_calm_answers_law.specs.FrontBegins.{JournalsBeginResting}
 use Rattle.sc_calm_answers_law.specs.Homeward.{GoesHome, RequestsSendNoErrands, HomewardGoesToActors}
-use Rattle.sc_calm_answers_law.specs.AskedSince.{IsAskedSince, RequestsBeginAsked, RequestsStayAsked, RequestsKeepGroups, RequestsRestAgain}
+use Rattle.sc_calm_answers_law.specs.AskedSince.{IsAskedSince, RequestsBeginAsked, AskedRowsGoOn, AskedRowsFindCalm, RequestsKeepGroups, RequestsRestAgain}
 use Rattle.sc_calm_answers_law.specs.Ordered.{IsOrderedSince, OrdersBeginOrdered, DeliveriesKeepOrdered}
-use Rattle.sc_calm_answers_law.specs.Over.{OrdersRestAgain}
-use Rattle.sc_calm_answers_law.specs.Naming.{HasOneMore, ClientsAreNear, NamesAreFew}
+use Rattle.sc_calm_answers_law.specs.Over.{OrdersLeaveResting}
+use Rattle.sc_calm_answers_law.specs.Near.{HasFewNames, ClientsAreNear, NamesStayFew}
 use Rattle.sc_calm_answers_law.proofs.Segments.{Parts, IsSegment, front_whole, segments}
-
--- what a row of a player in order is
-pub in_order : (words : ℕ → ℕ → ℕ × ℕ) (seats : List (Seat Player)) (rows : Rows) (who : ℕ) (event : Event OrderLine) → is_told event ≡ false → IsCalmEvent (players words seats) rows who event → IsInOrder (players words seats) rows who event
-in_order words seats rows who (Deliver number) untold calm = calm
-in_order words seats rows who Go untold calm = calm
-in_order words seats rows who (Told line) untold calm = absurd (true≢false untold)
-in_order words seats rows who Tick untold calm = absurd calm
-in_order words seats rows who Crash untold calm = absurd calm
-in_order words seats rows who (Drop mail) untold calm = absurd calm
-in_order words seats rows who (Again mail) untold calm = absurd calm
 
 -- an order that is told
 pub told_line : (event : Event OrderLine) → is_told event ≡ true → (line : OrderLine) × (event ≡ Told line)
@@ -64,16 +52,17 @@ told_line (Again mail) told = absurd (true≢false (sym told))
 pub record SegmentLaws : Type 0 where
   pub begin_law : JournalsBeginResting
   pub ask_law : RequestsBeginAsked
-  pub stay_law : RequestsStayAsked
+  pub stay_law : AskedRowsGoOn
+  pub find_law : AskedRowsFindCalm
   pub groups_law : RequestsKeepGroups
   pub again_law : RequestsRestAgain
   pub silent_law : RequestsSendNoErrands
   pub actors_law : HomewardGoesToActors
   pub near_law : ClientsAreNear
-  pub names_law : NamesAreFew
+  pub names_law : NamesStayFew
   pub told_law : OrdersBeginOrdered
   pub keep_law : DeliveriesKeepOrdered
-  pub over_law : OrdersRestAgain
+  pub over_law : OrdersLeaveResting
 
 -- a calm journal that tells few orders, by how long ways may be, and how often clients may be sent on
 pub record IsFramed (words : ℕ → ℕ → ℕ × ℕ) (scenario : Scenario) (first : Base) (others : List Base) (far sends : ℕ) (journal : Rows) : Type 0 where
@@ -92,7 +81,7 @@ module _ (laws : SegmentLaws) (words : ℕ → ℕ → ℕ × ℕ) (scenario : S
   pub record RestsSo (quiet : Rows) : Type 0 where
     pub rests : RestsAt words scenario first journal quiet
     pub home : Each (GoesHome scenario) (mails quiet)
-    pub named : length (names_at all quiet) ≤ length scenario.groups + orders quiet
+    pub named : HasFewNames scenario quiet
 
   -- clients asked alone since
   pub record AsksSo (quiet rows : Rows) : Type 0 where
@@ -115,41 +104,26 @@ module _ (laws : SegmentLaws) (words : ℕ → ℕ → ℕ × ℕ) (scenario : S
   }
 
   -- requests go on by a row
-  module _ (quiet rows : Rows) (row : Row Mail OrderLine) (front : IsFront journal (quiet ++ (rows ++ row ∷ []))) (timely : AreInTime s (quiet ++ (rows ++ row ∷ []))) (last : quiet_front s (quiet ++ rows) ≡ quiet) (r : RestsSo quiet) (a : AsksSo quiet rows) where
-    shift : (quiet ++ rows) ++ row ∷ [] ≡ quiet ++ (rows ++ row ∷ [])
-    shift = append_assoc quiet rows (row ∷ [])
+  asks_row : (quiet rows : Rows) (row : Row Mail OrderLine) → IsFront journal (quiet ++ (rows ++ row ∷ [])) → RestsSo quiet → AsksSo quiet rows → is_told row.event ≡ false → AsksSo quiet (rows ++ row ∷ [])
+  asks_row quiet rows row front r a untold =
+      let shift = append_assoc quiet rows (row ∷ []) in
+      let later = laws.stay_law words scenario first others far sends journal quiet rows row frame.calm frame.groups a.asked front untold in
+      record {
+        asked = later;
+        home = laws.silent_law words scenario first others far sends journal quiet rows row frame.calm frame.groups r.rests a.asked.known a.asked.requested later.requested a.home;
+        named = ap (names_at all) (sym shift)
+            ∙ laws.names_law.asked words scenario first journal quiet (quiet ++ rows) row frame.calm r.rests
+            (λ name there. (laws.groups_law words scenario first others far sends journal quiet (rows ++ row ∷ []) frame.calm frame.groups later name).0 (subst (λ l. IsThere all l name) shift there)) a.named;
+      }
 
-    timely_row : AreInTime s ((quiet ++ rows) ++ row ∷ [])
-    timely_row = subst (AreInTime s) (sym shift) timely
-
-    front_row : IsFront journal ((quiet ++ rows) ++ row ∷ [])
-    front_row = subst (IsFront journal) (sym shift) front
-
-    near : AreNear scenario (chart_at far sends s (quiet ++ rows)) first (quiet ++ rows)
-    near =
-        let known = r.named in
-        let many = (frame.few quiet r.rests.front).1 in
-        laws.near_law words scenario first others far sends journal quiet rows frame.calm frame.groups a.asked last (omega (arith, known, many))
-
-    pub asks_row : (c : IsCalmRow s (quiet ++ rows) row) → is_told c.event ≡ false → AsksSo quiet (rows ++ row ∷ [])
-    asks_row c untold =
-        let is : row_of player_table c.seat (quiet ++ rows) c.event ≡ row = sym c.row_is in
-        let went =
-        laws.stay_law words scenario first others far sends journal quiet rows c.seat c.event frame.calm frame.groups a.asked (subst (λ x. IsFront journal ((quiet ++ rows) ++ x ∷ [])) c.row_is front_row) c.born
-        (subst (λ x. AreInTime s ((quiet ++ rows) ++ x ∷ [])) c.row_is timely_row) (in_order words all (quiet ++ rows) c.seat.who c.event untold c.calm) last near in
-        let later : IsAskedSince words scenario first far sends journal quiet (rows ++ row ∷ []) = subst (λ x. IsAskedSince words scenario first far sends journal quiet (rows ++ x ∷ [])) is went.1 in
-        record {
-          asked = later;
-          home = laws.silent_law words scenario first others far sends journal quiet rows row frame.calm frame.groups r.rests a.asked.known a.asked.requested later.requested a.home;
-          named = ap (names_at all) (sym shift)
-              ∙ laws.names_law.stays words scenario first journal quiet (quiet ++ rows) row frame.calm r.rests
-              (λ name there. (laws.groups_law words scenario first others far sends journal quiet (rows ++ row ∷ []) frame.calm frame.groups later name).0 (subst (λ l. IsThere all l name) shift there)) a.named;
-        }
-
-    pub asks_find : (seat : Seat Player) (event : Event OrderLine) → row ≡ row_of player_table seat (quiet ++ rows) event → IsSeat all seat → IsInOrder s (quiet ++ rows) seat.who event → FindsCalm (chart_at far sends s (quiet ++ rows)) all (quiet ++ rows) seat event
-    asks_find seat event is seated order =
-        (laws.stay_law words scenario first others far sends journal quiet rows seat event frame.calm frame.groups a.asked (subst (λ x. IsFront journal ((quiet ++ rows) ++ x ∷ [])) is front_row) seated
-        (subst (λ x. AreInTime s ((quiet ++ rows) ++ x ∷ [])) is timely_row) order last near).0
+  -- .. which finds what keeps the journal calm
+  pub asks_find : (quiet rows : Rows) → quiet_front s (quiet ++ rows) ≡ quiet → RestsSo quiet → AsksSo quiet rows → (seat : Seat Player) (event : Event OrderLine) → IsSeat all seat → IsInOrder s (quiet ++ rows) seat.who event
+      → FindsCalm (chart_at far sends s (quiet ++ rows)) all (quiet ++ rows) seat event
+  asks_find quiet rows last r a seat event seated order =
+      let known = r.named in
+      let many = (frame.few quiet r.rests.front).1 in
+      let near = laws.near_law words scenario first others far sends journal quiet rows frame.calm frame.groups r.rests a.asked.known a.asked.requested last (omega (arith, known, many)) in
+      laws.find_law words scenario first others far sends journal quiet rows seat event frame.calm frame.groups a.asked seated order last near
 
   abbrev event_of : Row Mail OrderLine → Event OrderLine
   event_of row = row.event
@@ -190,16 +164,14 @@ module _ (laws : SegmentLaws) (words : ℕ → ℕ → ℕ × ℕ) (scenario : S
   pub parts : Parts s (IsFront journal) RestsSo AsksSo OrdersSo
   parts = record {
     fronts = front_before;
-    begins = record { rests = laws.begin_law words scenario first others journal frame.groups frame.calm; home = tt; named = (let low = laws.names_law.begins words scenario journal frame.calm in omega (arith, low)) };
-    goes = λ quiet row front timely r untold. (
-        let last : quiet_front s (quiet ++ []) ≡ quiet = ap (quiet_front s) (append-nil quiet) ∙ front_whole s quiet r.rests.calm in
-        goes_asks quiet [] row front timely last r (asks_none quiet (front_before quiet row front) r) untold);
-    asks = goes_asks;
+    begins = record { rests = laws.begin_law words scenario first others journal frame.groups frame.calm; home = tt; named = laws.names_law.born words scenario journal frame.calm };
+    goes = λ quiet row front timely r untold. asks_row quiet [] row front r (asks_none quiet (front_before quiet row front) r) untold;
+    asks = λ quiet rows row front timely r a untold. asks_row quiet rows row front r a untold;
     told = λ quiet row front timely r told. (
         let c = (last_in_time s quiet row timely).0 in
         let t = told_line c.event (ap is_told (sym (ap event_of c.row_is)) ∙ told) in
         told_row quiet row front timely r c.seat t.0 (c.row_is ∙ ap (row_of player_table c.seat quiet) t.1) c.born);
-    orders = λ quiet rows row number front timely last r o is. (
+    orders = λ quiet rows row number front timely r o is. (
         let shift = append_assoc quiet rows (row ∷ []) in
         let timely_row = subst (AreInTime s) (sym shift) timely in
         let c = (last_in_time s (quiet ++ rows) row timely_row).0 in
@@ -214,15 +186,10 @@ module _ (laws : SegmentLaws) (words : ℕ → ℕ → ℕ × ℕ) (scenario : S
     over = λ quiet rows front timely r o still. record {
       rests = laws.over_law words scenario first others journal quiet (quiet ++ rows) frame.groups frame.calm o still;
       home = o.home;
-      named = (let one = one_more quiet (quiet ++ rows) o.task.name o.names in let low = r.named in let told = o.one_order in omega (arith, one, low, told));
+      named = laws.names_law.over scenario quiet (quiet ++ rows) o.task o.names o.one_order r.named;
     };
   }
     where
-      goes_asks : (quiet rows : Rows) (row : Row Mail OrderLine) → IsFront journal (quiet ++ (rows ++ row ∷ [])) → AreInTime s (quiet ++ (rows ++ row ∷ [])) → quiet_front s (quiet ++ rows) ≡ quiet → RestsSo quiet → AsksSo quiet rows → is_told row.event ≡ false → AsksSo quiet (rows ++ row ∷ [])
-      goes_asks quiet rows row front timely last r a untold =
-          let c = (last_in_time s (quiet ++ rows) row (timely_row quiet rows row front timely last r a)).0 in
-          asks_row quiet rows row front timely last r a c (ap is_told (sym (ap event_of c.row_is)) ∙ untold)
-
       orders_more : (quiet rows : Rows) → orders quiet ≤ orders (quiet ++ rows)
       orders_more quiet [] = (let same = ap orders (append-nil quiet) in omega (arith, same))
       orders_more quiet (row ∷ rows) =
@@ -230,10 +197,6 @@ module _ (laws : SegmentLaws) (words : ℕ → ℕ → ℕ × ℕ) (scenario : S
           let more = orders_more (quiet ++ row ∷ []) rows in
           let same = ap orders (append_assoc quiet (row ∷ []) rows) in
           omega (arith, one, more, same)
-
-      one_more : (quiet rows : Rows) (name : Draw) → HasOneMore all quiet rows name → length (names_at all rows) ≤ length (names_at all quiet) + 1
-      one_more quiet rows name (inl same) = (let size = ap length same in omega (arith, size))
-      one_more quiet rows name (inr more) = (let size = ap length more in let push = length_push (names_at all quiet) name in omega (arith, size, push))
 
   -- each front falls into such segments
   pub segment_at : (rows : Rows) → IsFront journal rows → AreInTime s rows → IsSegment s RestsSo AsksSo OrdersSo rows

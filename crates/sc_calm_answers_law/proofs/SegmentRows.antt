@@ -70,7 +70,7 @@ waits_none (Node node) is = tt
 waits_none (Client client) is = is
 
 -- mail that is under way is what its receiver has not taken
-with_other : (test other : Mail → Bool) (sent : List Mail) (counts : List ℕ) (mail : Mail) → Among mail (mail_with test sent counts) → (test mail ≡ true) × (other mail ≡ true → Among mail (mail_with other sent counts))
+pub with_other : (test other : Mail → Bool) (sent : List Mail) (counts : List ℕ) (mail : Mail) → Among mail (mail_with test sent counts) → (test mail ≡ true) × (other mail ≡ true → Among mail (mail_with other sent counts))
 with_other test other [] counts mail a = absurd a
 with_other test other (m ∷ sent) [] mail a = absurd a
 with_other test other (m ∷ sent) (c ∷ counts) mail a = elim (split_among (cond (test m) (replicate c m) []) (mail_with test sent counts) mail a) [
@@ -217,11 +217,10 @@ module _ (segment : SegmentLaws) (laws : RowLaws) (words : ℕ → ℕ → ℕ �
 
     -- ---- what it finds
 
-    asked_finds : (h : HasAsked) (seat : Seat Player) (event : Event OrderLine) → IsSeat all seat → row ≡ row_of player_table seat rows event → IsInOrder s rows seat.who event → FindsCalm (chart rows) all rows seat event
-    asked_finds h seat event seated is order =
-        subst (λ l. quiet_front s l ≡ quiet_front s rows → IsFront journal (l ++ row ∷ []) → AreInTime s (l ++ row ∷ []) → row ≡ row_of player_table seat l event → IsInOrder s l seat.who event → FindsCalm (chart l) all l seat event) (sym h.rows_are)
-        (λ last f t e o. parts_of.asks_find segment words scenario first others far sends journal frame (quiet_front s rows) h.behind row (subst (IsFront journal) (append_assoc (quiet_front s rows) h.behind (row ∷ [])) f) (subst (AreInTime s) (append_assoc (quiet_front s rows) h.behind (row ∷ [])) t) last seg.rests h.asks seat event e seated o)
-        refl front timely is order
+    asked_finds : (h : HasAsked) (seat : Seat Player) (event : Event OrderLine) → IsSeat all seat → IsInOrder s rows seat.who event → FindsCalm (chart rows) all rows seat event
+    asked_finds h seat event seated order =
+        subst (λ l. quiet_front s l ≡ quiet_front s rows → IsInOrder s l seat.who event → FindsCalm (chart l) all l seat event) (sym h.rows_are)
+        (λ last o. parts_of.asks_find segment words scenario first others far sends journal frame (quiet_front s rows) h.behind last seg.rests h.asks seat event seated o) refl order
 
     calm_event : (seat : Seat Player) (event : Event OrderLine) → row ≡ row_of player_table seat rows event → IsCalmEvent s rows seat.who event
     calm_event seat event is = calm_is words all rows seat event (subst (IsCalmRow s rows) is comes.0)
@@ -236,11 +235,11 @@ module _ (segment : SegmentLaws) (laws : RowLaws) (words : ℕ → ℕ → ℕ �
     finds : (seat : Seat Player) (event : Event OrderLine) → IsSeat all seat → row ≡ row_of player_table seat rows event → FindsCalm (chart rows) all rows seat event
     finds seat (Told line) seated is = parts_of.told_finds segment words scenario first others far sends journal frame rows row front timely (told_rests line (ap event_of is)) seat line is seated
     finds seat (Deliver number) seated is = elim cases [
-      | inl asked ↦ asked_finds asked seat (Deliver number) seated is (calm_event seat (Deliver number) is)
+      | inl asked ↦ asked_finds asked seat (Deliver number) seated (calm_event seat (Deliver number) is)
       | inr order ↦ order_finds order seat number seated is
     ]
     finds seat Go seated is = elim cases [
-      | inl asked ↦ asked_finds asked seat Go seated is (calm_event seat Go is)
+      | inl asked ↦ asked_finds asked seat Go seated (calm_event seat Go is)
       | inr order ↦ (let d = only_delivers order (ap is_told (ap event_of is)) in let bad : Go ≡ Deliver d.0 = sym (ap event_of is) ∙ d.1 in cc)
     ]
     finds seat Tick seated is = tt
@@ -254,7 +253,7 @@ module _ (segment : SegmentLaws) (laws : RowLaws) (words : ℕ → ℕ → ℕ �
     asked_same h untold mail a tx coord hint body =
         let shift = append_assoc (quiet_front s rows) h.behind (row ∷ []) in
         let whole : rows ++ row ∷ [] ≡ quiet_front s rows ++ (h.behind ++ row ∷ []) = ap (λ l. l ++ row ∷ []) h.rows_are ∙ shift in
-        let later = (parts_of.parts segment words scenario first others far sends journal frame).asks (quiet_front s rows) h.behind row (subst (IsFront journal) whole front) (subst (AreInTime s) whole timely) (sym (ap (quiet_front s) h.rows_are)) seg.rests h.asks untold in
+        let later = (parts_of.parts segment words scenario first others far sends journal frame).asks (quiet_front s rows) h.behind row (subst (IsFront journal) whole front) (subst (AreInTime s) whole timely) seg.rests h.asks untold in
         let w = with_other (λ m. is_born s (s.receiver m)) (λ m. eqb (s.receiver m) mail.to) (mails (rows ++ row ∷ [])) (copies (rows ++ row ∷ [])) mail a in
         let left = later.asked.requested.asking.left mail.to w.0 in
         let there = subst (λ l. Among mail (rest s l mail.to)) whole (w.1 (eq-eqb mail.to mail.to refl)) in

@@ -58,9 +58,9 @@ module _ (s : System Player Mail OrderLine) where
     pub fronts : (rows : Rows) (row : Row Mail OrderLine) → Fits (rows ++ row ∷ []) → Fits rows
     pub begins : Rests []
     pub goes : (quiet : Rows) (row : Row Mail OrderLine) → Fits (quiet ++ row ∷ []) → AreInTime s (quiet ++ row ∷ []) → Rests quiet → is_told row.event ≡ false → Asks quiet (row ∷ [])
-    pub asks : (quiet rows : Rows) (row : Row Mail OrderLine) → Fits (quiet ++ (rows ++ row ∷ [])) → AreInTime s (quiet ++ (rows ++ row ∷ [])) → quiet_front s (quiet ++ rows) ≡ quiet → Rests quiet → Asks quiet rows → is_told row.event ≡ false → Asks quiet (rows ++ row ∷ [])
+    pub asks : (quiet rows : Rows) (row : Row Mail OrderLine) → Fits (quiet ++ (rows ++ row ∷ [])) → AreInTime s (quiet ++ (rows ++ row ∷ [])) → Rests quiet → Asks quiet rows → is_told row.event ≡ false → Asks quiet (rows ++ row ∷ [])
     pub told : (quiet : Rows) (row : Row Mail OrderLine) → Fits (quiet ++ row ∷ []) → AreInTime s (quiet ++ row ∷ []) → Rests quiet → is_told row.event ≡ true → Orders quiet (row ∷ [])
-    pub orders : (quiet rows : Rows) (row : Row Mail OrderLine) (number : ℕ) → Fits (quiet ++ (rows ++ row ∷ [])) → AreInTime s (quiet ++ (rows ++ row ∷ [])) → quiet_front s (quiet ++ rows) ≡ quiet → Rests quiet → Orders quiet rows → row.event ≡ Deliver number → Orders quiet (rows ++ row ∷ [])
+    pub orders : (quiet rows : Rows) (row : Row Mail OrderLine) (number : ℕ) → Fits (quiet ++ (rows ++ row ∷ [])) → AreInTime s (quiet ++ (rows ++ row ∷ [])) → Rests quiet → Orders quiet rows → row.event ≡ Deliver number → Orders quiet (rows ++ row ∷ [])
     pub answered : (quiet rows : Rows) → Fits (quiet ++ rows) → AreInTime s (quiet ++ rows) → Rests quiet → Asks quiet rows → is_quiet s (quiet ++ rows) ≡ true → Rests (quiet ++ rows)
     pub over : (quiet rows : Rows) → Fits (quiet ++ rows) → AreInTime s (quiet ++ rows) → Rests quiet → Orders quiet rows → is_quiet s (quiet ++ rows) ≡ true → Rests (quiet ++ rows)
 
@@ -166,7 +166,7 @@ module _ (s : System Player Mail OrderLine) where
             let asks = parts.goes quiet row (subst (λ r. Fits (r ++ row ∷ [])) there fits) (subst (λ r. AreInTime s (r ++ row ∷ [])) there timely) rests untold in
             goes_on quiet behind e front rests (inl (subst (λ b. Asks quiet (b ++ row ∷ [])) (sym none) asks))
         untold_row quiet behind e front rests untold (inr (inl asks)) =
-            goes_on quiet behind e front rests (inl (parts.asks quiet behind row (subst Fits (ap (λ r. r ++ row ∷ []) e ∙ append_assoc quiet behind (row ∷ [])) fits) (subst (AreInTime s) (ap (λ r. r ++ row ∷ []) e ∙ append_assoc quiet behind (row ∷ [])) timely) (subst (λ r. quiet_front s r ≡ quiet) e front) rests asks untold))
+            goes_on quiet behind e front rests (inl (parts.asks quiet behind row (subst Fits (ap (λ r. r ++ row ∷ []) e ∙ append_assoc quiet behind (row ∷ [])) fits) (subst (AreInTime s) (ap (λ r. r ++ row ∷ []) e ∙ append_assoc quiet behind (row ∷ [])) timely) rests asks untold))
         untold_row quiet behind e front rests untold (inr (inr order)) =
             let d = delivered quiet behind e front order untold in
             goes_on quiet behind e front rests (inr (record {
@@ -174,7 +174,7 @@ module _ (s : System Player Mail OrderLine) where
               more = order.more ++ row ∷ [];
               behind_are = ap (λ b. b ++ row ∷ []) order.behind_are;
               tells = order.tells;
-              holds = parts.orders quiet behind row d.0 (subst Fits (ap (λ r. r ++ row ∷ []) e ∙ append_assoc quiet behind (row ∷ [])) fits) (subst (AreInTime s) (ap (λ r. r ++ row ∷ []) e ∙ append_assoc quiet behind (row ∷ [])) timely) (subst (λ r. quiet_front s r ≡ quiet) e front) rests order.holds d.1;
+              holds = parts.orders quiet behind row d.0 (subst Fits (ap (λ r. r ++ row ∷ []) e ∙ append_assoc quiet behind (row ∷ [])) fits) (subst (AreInTime s) (ap (λ r. r ++ row ∷ []) e ∙ append_assoc quiet behind (row ∷ [])) timely) rests order.holds d.1;
             }))
 
         next : IsSegment rows → IsSegment after

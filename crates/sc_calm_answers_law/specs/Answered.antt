@@ -1,5 +1,5 @@
 -- That every request of a calm scenario at its budget is answered.
-use Rattle.std.specs.Prelude.{◌≡◌, ℕ, ◌≤◌, true, false, List, ◌∷◌}
+use Rattle.std.specs.Prelude.{◌≡◌, ℕ, ◌+◌, ◌≤◌, true, false, List, ◌∷◌, length}
 use Rattle.sc_cmd.specs.declared.cores.Base.{Base}
 use Rattle.sc_cmd.specs.declared.orders.OrderLine.{OrderLine}
 use Rattle.sc_mail.specs.declared.bodies.Mail.{Mail}
@@ -7,10 +7,14 @@ use Rattle.sc_actor.specs.declared.rows.Row.{Row}
 use Rattle.sc_actor.specs.Walk.{is_quiet, unsettled}
 use Rattle.sc_scenario.specs.Valid.{IsValid}
 use Rattle.sc_scenario.specs.declared.scenarios.Scenario.{Scenario}
-use Rattle.sc_sound.specs.Players.{system_of, schedule, as_nodes, Lawful, Whole}
+use Rattle.sc_sound.specs.Players.{births, system_of, schedule, as_nodes, Lawful, Whole}
+use Rattle.sc_calm_law.specs.Charts.{Chart, players}
+use Rattle.sc_calm_law.specs.Totals.{Rows}
+use Rattle.sc_calm_charts_law.specs.Charting.{chart_at}
 use Rattle.sc_budget_law.specs.AskingQuiet.{IsQuietJournal}
 use Rattle.sc_budget_law.specs.Budget.{AreAnswered}
 use Rattle.sc_budget_law.specs.Calm.{orders_of, IsCalmAtBudget}
+use Rattle.sc_calm_answers_law.specs.Lines.{AreCharted}
 
 -- In each lawful journal of a valid calm scenario at its budget no line is cut off with mail pending.
 abbrev pub CalmLinesSettle : Type 0
@@ -28,3 +32,16 @@ CalmJournalsRest =
 abbrev pub CalmRequestsAreAnswered : Type 0
 CalmRequestsAreAnswered =
     (words : ℕ → ℕ → ℕ × ℕ) (scenario : Scenario) (journal : List (Row Mail OrderLine)) → IsValid scenario → IsCalmAtBudget scenario → Lawful as_nodes words scenario journal → Whole as_nodes words scenario journal → AreAnswered scenario journal
+
+-- The charts of a calm scenario: no way by hints is longer than one more than there are orders, and no client is sent on more often than there are groups and orders.
+abbrev pub charts_of : (ℕ → ℕ → ℕ × ℕ) → Scenario → Rows → Chart
+charts_of words scenario = chart_at (orders_of scenario + 1) (length scenario.groups + orders_of scenario) (players words (births as_nodes scenario))
+
+-- By these each row of a valid calm scenario that gives an order finds what keeps its journal calm, and quiet journals rest.
+abbrev pub CalmJournalsAreCharted : Type 0
+CalmJournalsAreCharted = (words : ℕ → ℕ → ℕ × ℕ) (scenario : Scenario) → IsValid scenario → IsCalmAtBudget scenario → 1 ≤ orders_of scenario → AreCharted words scenario (charts_of words scenario)
+
+-- So calm journals go on calmly, by the charts of their scenario, and rest in quiet.
+pub record CalmJournalsGoOn : Type 0 where
+  pub charted : CalmJournalsAreCharted
+  pub rests : CalmJournalsRest

@@ -1,15 +1,17 @@
 -- All that holds while clients ask alone since a quiet front of a calm journal: it begins so, each row keeps it, and the journal rests again once it is quiet.
-use Rattle.std.specs.Prelude.{◌≡◌, ℕ, ◌+◌, ◌≤◌, true, List, [], ◌∷◌, ◌++◌}
+use Rattle.std.specs.Prelude.{◌≡◌, ℕ, ◌+◌, ◌≤◌, true, false, List, [], ◌∷◌, ◌++◌}
 use Rattle.sc_base.specs.Among.{Among, Each}
 use Rattle.sc_base.specs.declared.names.Draw.{Draw}
 use Rattle.sc_cmd.specs.declared.cores.Base.{Base}
 use Rattle.sc_cmd.specs.declared.orders.OrderLine.{OrderLine}
+use Rattle.sc_mail.specs.declared.bodies.Mail.{Mail}
 use Rattle.sc_actor.specs.Mail.{mails}
 use Rattle.sc_actor.specs.System.{row_of}
 use Rattle.sc_actor.specs.Walk.{is_quiet}
 use Rattle.sc_actor.specs.declared.actors.Seat.{Seat}
 use Rattle.sc_actor.specs.declared.rows.Event.{Event}
-use Rattle.sc_orderly_law.specs.Orderly.{IsInOrder, orders}
+use Rattle.sc_actor.specs.declared.rows.Row.{Row}
+use Rattle.sc_orderly_law.specs.Orderly.{IsInOrder, is_told, orders}
 use Rattle.sc_scenario.specs.declared.scenarios.Scenario.{Scenario}
 use Rattle.sc_sound.specs.GroupsOf.{groups_at}
 use Rattle.sc_sound.specs.Players.{Player, player_table, births, as_nodes}
@@ -63,7 +65,13 @@ RequestsStayAsked =
     → IsAskedSince words scenario first far sends journal quiet after → IsFront journal (with_event (quiet ++ after) seat event) → IsSeat (births as_nodes scenario) seat
     → IsInOrder (players words (births as_nodes scenario)) (quiet ++ after) seat.who event → IsAskedSince words scenario first far sends journal quiet (after ++ row_of player_table seat (quiet ++ after) event ∷ [])
 
--- .. and finds what keeps the journal calm, where no client is sent on more often than any.
+-- .. and so does each row of the journal that tells no order ..
+abbrev pub AskedRowsGoOn : Type 0
+AskedRowsGoOn =
+    (words : ℕ → ℕ → ℕ × ℕ) (scenario : Scenario) (first : Base) (others : List Base) (far sends : ℕ) (journal quiet after : Rows) (row : Row Mail OrderLine) → IsCalmJournal words scenario journal → scenario.groups ≡ first ∷ others
+    → IsAskedSince words scenario first far sends journal quiet after → IsFront journal (quiet ++ (after ++ row ∷ [])) → is_told row.event ≡ false → IsAskedSince words scenario first far sends journal quiet (after ++ row ∷ [])
+
+-- .. and whatever comes next finds what keeps the journal calm, where no client is sent on more often than any.
 abbrev pub AskedRowsFindCalm : Type 0
 AskedRowsFindCalm =
     (words : ℕ → ℕ → ℕ × ℕ) (scenario : Scenario) (first : Base) (others : List Base) (far sends : ℕ) (journal quiet after : Rows) (seat : Seat Player) (event : Event OrderLine) → IsCalmJournal words scenario journal → scenario.groups ≡ first ∷ others

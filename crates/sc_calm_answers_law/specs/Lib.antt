@@ -79,7 +79,6 @@ pub mod Tasks
 pub mod Taught
 pub mod Tellers
 pub mod There
-pub mod Tmp
 pub mod Tokens
 pub mod Told
 pub mod TrueBeginning

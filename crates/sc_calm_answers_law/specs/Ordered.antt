@@ -23,6 +23,8 @@ use Rattle.sc_calm_law.specs.Keeping.{FindsCalm}
 use Rattle.sc_calm_law.specs.Totals.{Rows}
 use Rattle.sc_calm_rows_law.specs.Turns.{IsSeat, with_event}
 use Rattle.sc_calm_charts_law.specs.Charting.{chart_at}
+use Rattle.sc_calm_orders_law.specs.Stages.{Still}
+use Rattle.sc_calm_scenes_law.specs.Kept.{StageAfter}
 use Rattle.sc_calm_charts_law.specs.Fronts.{quiet_front}
 use Rattle.sc_budget_law.specs.AskingQuiet.{replicas_after, DoHintsRise}
 use Rattle.sc_calm_logs_law.specs.Logged.{logged_sets}
@@ -36,6 +38,9 @@ use Rattle.sc_calm_answers_law.specs.JournalUnder.{IsUnder}
 use Rattle.sc_calm_answers_law.specs.TrueHinted.{IsHinted}
 use Rattle.sc_calm_answers_law.specs.Settled.{AreSettled}
 use Rattle.sc_calm_answers_law.specs.TrueUnder.{IsTrueSince}
+use Rattle.sc_calm_answers_law.specs.Goers.{IsGoingSince}
+use Rattle.sc_calm_answers_law.specs.Near.{HasNamesSince}
+use Rattle.sc_calm_answers_law.specs.NoneWaits.{HaveNoneWaiting}
 use Rattle.sc_calm_answers_law.specs.Borne.{AreBorneSo}
 use Rattle.sc_calm_answers_law.specs.Tasks.{Task}
 use Rattle.sc_calm_answers_law.specs.Works.{AreAtWork, IsTaskOf}
@@ -44,7 +49,7 @@ use Rattle.sc_calm_answers_law.specs.Works.{AreAtWork, IsTaskOf}
 abbrev pub IsOfJournal : Scenario → Rows → Mail → Type 0
 IsOfJournal scenario journal mail = (name : Draw) → group_of_mail mail.body ≡ Some name → IsNamedGroup scenario journal name
 
--- An order is under way since a quiet front that rests: what is known of its stage, of the groups that it has not touched, of those that left a group, of rounds, of its transaction, of its coordinator, of what stands at groups, and of the child that it makes; clients are as they were; each mail under way is of a group of the journal; and errands go to nodes.
+-- An order is under way since a quiet front that rests: what is known of its stage, of the groups that it has not touched, of those that left a group, of rounds, of its transaction, of the groups that go, of its coordinator, of what stands at groups, and of the child that it makes; clients are as they were; each mail under way is of a group of the journal, errands go to nodes, no act waits in vain, and no group more has a name than the child.
 pub record IsOrderedSince (words : ℕ → ℕ → ℕ × ℕ) (scenario : Scenario) (first : Base) (journal quiet rows : Rows) : Type 0 where
   pub behind : Rows
   pub rows_are : rows ≡ quiet ++ behind
@@ -53,6 +58,7 @@ pub record IsOrderedSince (words : ℕ → ℕ → ℕ × ℕ) (scenario : Scena
   pub rising : (base : Base) (among : Among base (groups_at as_nodes scenario.groups journal)) → IsRisingOn (logged_sets as_nodes base journal) (tellers_at as_nodes scenario base journal) words (births as_nodes scenario) rows base (under.sent base among).course
   pub round : (base : Base) (among : Among base (groups_at as_nodes scenario.groups journal)) → IsRoundSince (under.rests.sent base among).course under.stage base.core.id (under.sent base among).course
   pub true_since : IsTrueSince scenario quiet rows under.stage
+  pub goes : IsGoingSince scenario journal quiet rows under.stage
   pub settled : AreSettled words scenario rows under.stage
   pub hinted : IsHinted scenario quiet rows under.stage
   pub line : OrderLine
@@ -63,20 +69,22 @@ pub record IsOrderedSince (words : ℕ → ℕ → ℕ × ℕ) (scenario : Scena
   pub clients : (other : Seat Player) (client : ClientState) → IsSeat (births as_nodes scenario) other → value player_table other quiet ≡ Client client → (value player_table other rows ≡ Client client) × (has_gone rows other.who ≡ has_gone quiet other.who)
   pub known : (who : ℕ) → is_born (players words (births as_nodes scenario)) who ≡ true → Each (IsOfJournal scenario journal) (rest (players words (births as_nodes scenario)) rows who)
   pub home : Each (GoesHome scenario) (mails rows)
+  pub waits : HaveNoneWaiting scenario rows
+  pub names : HasNamesSince (births as_nodes scenario) quiet rows task
 
--- So it is from an order on that is told in a quiet front that rests, before which errands went to nodes, which finds what keeps the journal calm.
+-- So it is from an order on that is told in a quiet front that rests, before which errands went to nodes, which begins a stage, and finds what keeps the journal calm.
 abbrev pub OrdersBeginOrdered : Type 0
 OrdersBeginOrdered =
     (words : ℕ → ℕ → ℕ × ℕ) (scenario : Scenario) (first : Base) (journal quiet : Rows) (seat : Seat Player) (line : OrderLine) → IsCalmJournal words scenario journal → RestsAt words scenario first journal quiet → Each (GoesHome scenario) (mails quiet)
     → IsSeat (births as_nodes scenario) seat → IsFront journal (with_event quiet seat (Told line)) → AreInTime (players words (births as_nodes scenario)) (with_event quiet seat (Told line))
-    → IsOrderedSince words scenario first journal quiet (with_event quiet seat (Told line))
+    → IsOrderedSince words scenario first journal quiet (with_event quiet seat (Told line)) × StageAfter (births as_nodes scenario) quiet seat (Told line) Still
     × ((far sent : ℕ) → FindsCalm (chart_at far sent (players words (births as_nodes scenario)) quiet) (births as_nodes scenario) quiet seat (Told line))
 
--- All this holds after each delivery, which finds what keeps the journal calm, by the chart of the rows before it.
+-- All this holds after each delivery, which leaves the stage or is a step to the next one, and finds what keeps the journal calm, by the chart of the rows before it.
 abbrev pub DeliveriesKeepOrdered : Type 0
 DeliveriesKeepOrdered =
     (words : ℕ → ℕ → ℕ × ℕ) (scenario : Scenario) (first : Base) (journal quiet rows : Rows) (seat : Seat Player) (number : ℕ) → IsCalmJournal words scenario journal
-    → IsOrderedSince words scenario first journal quiet rows → GoesOnBy words scenario journal rows seat number
-    → IsOrderedSince words scenario first journal quiet (with_event rows seat (Deliver number))
+    → (o : IsOrderedSince words scenario first journal quiet rows) → GoesOnBy words scenario journal rows seat number
+    → IsOrderedSince words scenario first journal quiet (with_event rows seat (Deliver number)) × StageAfter (births as_nodes scenario) rows seat (Deliver number) o.under.stage
     × ((far sent : ℕ) → quiet_front (players words (births as_nodes scenario)) rows ≡ quiet → DoHintsRise (replicas_after scenario quiet) (chart_at far sent (players words (births as_nodes scenario)) rows).ways
     → FindsCalm (chart_at far sent (players words (births as_nodes scenario)) rows) (births as_nodes scenario) rows seat (Deliver number))

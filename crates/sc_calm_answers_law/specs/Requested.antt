@@ -3,11 +3,9 @@ use Rattle.std.specs.Prelude.{◌≡◌, ℕ, ◌+◌, ◌≤◌, List, [], ◌�
 use Rattle.sc_base.specs.Among.{Among}
 use Rattle.sc_cmd.specs.declared.cores.Base.{Base}
 use Rattle.sc_cmd.specs.declared.orders.OrderLine.{OrderLine}
-use Rattle.sc_mail.specs.declared.bodies.Mail.{Mail}
 use Rattle.sc_base.specs.Roster.{is_member}
 use Rattle.sc_actor.specs.declared.actors.Seat.{Seat}
 use Rattle.sc_actor.specs.declared.rows.Event.{Event}
-use Rattle.sc_actor.specs.declared.rows.Row.{Row}
 use Rattle.sc_actor.specs.System.{row_of}
 use Rattle.sc_orderly_law.specs.Orderly.{IsInOrder, is_born, orders}
 use Rattle.sc_log_law.specs.Findings.{AreItsLogs}
@@ -29,7 +27,7 @@ use Rattle.sc_budget_law.specs.CalmNode.{Setting}
 use Rattle.sc_calm_answers_law.specs.Rows.{NodesMayPump, AreNear}
 use Rattle.sc_calm_answers_law.specs.SettingCounting.{GoneAgree}
 use Rattle.sc_calm_answers_law.specs.Settings.{frames_after, AreAtNodes}
-use Rattle.sc_calm_answers_law.specs.Journal.{IsCalmJournal, IsFront, AreSent}
+use Rattle.sc_calm_answers_law.specs.Journal.{IsCalmJournal, IsFront}
 use Rattle.sc_calm_answers_law.specs.Resting.{RestsAt}
 
 -- The setting that a quiet front gives to the requests behind it: the frames of the groups that stand, and ways as its chart has them.

@@ -2,6 +2,7 @@
 //! laws, no logic.
 ghost use Rattle.sc_calm_answers_law.specs.AskedSince.{
   AskedRowsFindCalm,
+  AskedRowsGoOn,
   RequestsBeginAsked,
   RequestsKeepGroups,
   RequestsRestAgain,
@@ -75,7 +76,15 @@ pub fn requests_stay_asked()
     requests_keep_ballots();
 }
 
-/// .. and finds what keeps the journal calm, where no client is sent on more often than any.
+/// .. and so does each row of the journal that tells no order.
+pub fn asked_rows_go_on()
+    ensures { AskedRowsGoOn }
+{
+    requests_stay_asked();
+}
+
+/// Whatever comes next finds what keeps the journal calm, where no client is sent on more often than
+/// any.
 pub fn asked_rows_find_calm()
     ensures { AskedRowsFindCalm }
 {

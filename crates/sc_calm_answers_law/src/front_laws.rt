@@ -4,13 +4,16 @@ ghost use Rattle.sc_calm_answers_law.specs.Over.{OrdersLeaveResting};
 
 use crate::answer_laws::quiet_journals_begin;
 use crate::found_laws::quiet_leaders_have_nothing;
+use crate::goer_laws::goers_go_in_turn;
+use crate::homeward_laws::homeward_goes_to_actors;
 use crate::kept_laws::views_agree;
-use crate::known_laws::{fronts_are_found, no_mail_for_strangers};
+use crate::known_laws::{first_groups_are_reached, fronts_are_found, no_mail_for_strangers};
 use crate::led_laws::groups_begin_standing;
 use crate::over_laws::{quiet_fronts_rest, quiet_journals_rest};
 use crate::request_laws::lawful_replicas_are_named_once;
 use crate::rise_laws::{groups_begin_rising, orders_keep_rounds, rounds_are_seen};
 use crate::sent_laws::{groups_are_born_as_begun, groups_begin_sent};
+use crate::wait_laws::none_waits;
 use sc_calm_groups_law::scenarios_are_kept_born;
 use sc_calm_logs_law::slots_have_rosters;
 use sc_calm_mail_law::slots_are_left;
@@ -49,4 +52,8 @@ pub fn orders_leave_resting()
     fronts_are_found();
     no_mail_for_strangers();
     quiet_fronts_rest();
+    homeward_goes_to_actors();
+    goers_go_in_turn();
+    none_waits();
+    first_groups_are_reached();
 }

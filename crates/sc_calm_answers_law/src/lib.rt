@@ -10,11 +10,15 @@ pub use answer_laws::{
     quiet_journals_begin,
 };
 
+mod answered_laws;
+
+pub use answered_laws::{calm_journals_go_on, calm_lines_settle, calm_requests_are_answered};
+
 mod asked_laws;
 
 pub use asked_laws::{
-    asked_rows_find_calm, requests_begin_asked, requests_keep_groups, requests_rest_again,
-    requests_stay_asked, resting_fronts_are_known, sent_nodes_may_pump,
+    asked_rows_find_calm, asked_rows_go_on, requests_begin_asked, requests_keep_groups,
+    requests_rest_again, requests_stay_asked, resting_fronts_are_known, sent_nodes_may_pump,
 };
 
 mod between_laws;
@@ -155,7 +159,3 @@ pub use request_laws::{
     quiet_journals_have_no_mail, quiet_journals_know_one, quiet_leaders_are_reached,
     request_rows_find_calm, requests_are_taken_calmly, tokens_never_rise, tokens_stay,
 };
-
-mod tmp_laws;
-
-pub use tmp_laws::{tmp_one, tmp_two};
