@@ -59,58 +59,58 @@ abbrev Ends : Scenario → Said → Text → Type 0
 Ends scenario said text = IsAnswered scenario said text ⊎ IsFilled scenario said text
 
 module _ (IsSuch : Scenario → Type 0)
-         (settle : (words : ℕ → ℕ → ℕ × ℕ) (scenario : Scenario) (journal : List (Row Mail OrderLine)) → IsValid scenario → IsSuch scenario → Lawful as_nodes words scenario journal → unsettled (system_of as_nodes words scenario) (schedule scenario) journal ≡ false)
-         (answered : (words : ℕ → ℕ → ℕ × ℕ) (scenario : Scenario) (journal : List (Row Mail OrderLine)) → IsValid scenario → IsSuch scenario → Lawful as_nodes words scenario journal → Whole as_nodes words scenario journal → AreAnswered scenario journal)
-         where
-  -- what comes of a valid scenario of such a kind
-  comes_answered : (Shows : List (Row Mail OrderLine) → List (List ℕ) → Type 0) (scenario : Scenario) (said : Said) (text : Text) → IsValid scenario → IsSuch scenario → Comes Shows scenario said text → Ends scenario said text
-  comes_answered Shows scenario said text valid such (inl plays) = inl (record {
-    status = ap status_of (plays.said_is ∙ ap said_of (settle two_words scenario plays.journal valid such plays.reports.lawful));
-    journal = plays.journal;
-    journal_is = plays.reports.journal_is;
-    answers = answered two_words scenario plays.journal valid such plays.reports.lawful plays.reports.whole;
-  })
-  comes_answered Shows scenario said text valid such (inr full) = inr (record { valid = valid; plays = full })
+    (settle : (words : ℕ → ℕ → ℕ × ℕ) (scenario : Scenario) (journal : List (Row Mail OrderLine)) → IsValid scenario → IsSuch scenario → Lawful as_nodes words scenario journal → unsettled (system_of as_nodes words scenario) (schedule scenario) journal ≡ false)
+    (answered : (words : ℕ → ℕ → ℕ × ℕ) (scenario : Scenario) (journal : List (Row Mail OrderLine)) → IsValid scenario → IsSuch scenario → Lawful as_nodes words scenario journal → Whole as_nodes words scenario journal → AreAnswered scenario journal)
+  where
+    -- what comes of a valid scenario of such a kind
+    comes_answered : (Shows : List (Row Mail OrderLine) → List (List ℕ) → Type 0) (scenario : Scenario) (said : Said) (text : Text) → IsValid scenario → IsSuch scenario → Comes Shows scenario said text → Ends scenario said text
+    comes_answered Shows scenario said text valid such (inl plays) = inl (record {
+      status = ap status_of (plays.said_is ∙ ap said_of (settle two_words scenario plays.journal valid such plays.reports.lawful));
+      journal = plays.journal;
+      journal_is = plays.reports.journal_is;
+      answers = answered two_words scenario plays.journal valid such plays.reports.lawful plays.reports.whole;
+    })
+    comes_answered Shows scenario said text valid such (inr full) = inr (record { valid = valid; plays = full })
 
-  -- the scenario that was read is the one that was asked for
-  read_answered : (Shows : Scenario → List (Row Mail OrderLine) → List (List ℕ) → Type 0) (scenario other : Scenario) (said : Said) (text : Text) → other ≡ scenario → IsValid other → IsSuch scenario → Comes (Shows other) other said text → Ends scenario said text
-  read_answered Shows scenario other said text same valid such comes =
-      subst (λ s. Ends s said text) same (comes_answered (Shows other) other said text valid (subst IsSuch (sym same) such) comes)
+    -- the scenario that was read is the one that was asked for
+    read_answered : (Shows : Scenario → List (Row Mail OrderLine) → List (List ℕ) → Type 0) (scenario other : Scenario) (said : Said) (text : Text) → other ≡ scenario → IsValid other → IsSuch scenario → Comes (Shows other) other said text → Ends scenario said text
+    read_answered Shows scenario other said text same valid such comes =
+        subst (λ s. Ends s said text) same (comes_answered (Shows other) other said text valid (subst IsSuch (sym same) such) comes)
 
-  says_answered : (what : Option Subcommand) (source : SourceUse) (scenario : Scenario) (said : Said) (text : Text) → IsAskedFor what source scenario → IsSuch scenario → (Rose source.faults_before source.faults_after → ⊥) → SaysFor what source said text → Ends scenario said text
-  says_answered None source scenario said text asked such calm says = absurd asked
-  says_answered (Some ask.Audit) source scenario said text asked such calm says = absurd asked
-  says_answered (Some ask.Run) source scenario said text asked such calm (inl refuses) = absurd (not_refused source scenario said text asked calm refuses)
-  says_answered (Some ask.Run) source scenario said text asked such calm (inr plays) =
-      read_answered ShowsReport scenario plays.scenario said text (same_text source scenario plays.scenario asked plays.read.read) plays.read.valid such plays.comes
-  says_answered (Some ask.Pool) source scenario said text asked such calm (inl refuses) = absurd (not_refused source scenario said text asked calm refuses)
-  says_answered (Some ask.Pool) source scenario said text asked such calm (inr plays) =
-      read_answered ShowsReport scenario plays.scenario said text (same_text source scenario plays.scenario asked plays.read.read) plays.read.valid such plays.comes
-  says_answered (Some (ask.Scan sight)) source scenario said text asked such calm (inl refuses) = absurd (not_refused source scenario said text asked calm refuses)
-  says_answered (Some (ask.Scan sight)) source scenario said text asked such calm (inr plays) =
-      read_answered (λ s. ShowsScan s sight) scenario plays.scenario said text (same_text source scenario plays.scenario asked plays.read.read) plays.read.valid such plays.comes
-  says_answered (Some ask.Journal) source scenario said text asked such calm (inl refuses) = absurd (not_refused source scenario said text asked calm refuses)
-  says_answered (Some ask.Journal) source scenario said text asked such calm (inr plays) =
-      let all : plays.bytes ≡ asked.0 = subst (λ o. IfSome o (λ input. plays.bytes ≡ input)) asked.1 plays.read.all in
-      let e : Ok plays.scenario ≡ Ok scenario = sym plays.read.read ∙ (ap verdict_of all ∙ asked.2) in
-      let same : plays.scenario ≡ scenario = cc in
-      read_answered (λ s. ShowsFile plays.bytes) scenario plays.scenario said text same plays.read.valid such plays.comes
-  says_answered (Some (ask.Make n seed)) source scenario said text asked such calm says =
-      read_answered ShowsReport scenario (made_scenario n seed) said text (sym asked) says.0 such says.1
+    says_answered : (what : Option Subcommand) (source : SourceUse) (scenario : Scenario) (said : Said) (text : Text) → IsAskedFor what source scenario → IsSuch scenario → (Rose source.faults_before source.faults_after → ⊥) → SaysFor what source said text → Ends scenario said text
+    says_answered None source scenario said text asked such calm says = absurd asked
+    says_answered (Some ask.Audit) source scenario said text asked such calm says = absurd asked
+    says_answered (Some ask.Run) source scenario said text asked such calm (inl refuses) = absurd (not_refused source scenario said text asked calm refuses)
+    says_answered (Some ask.Run) source scenario said text asked such calm (inr plays) =
+        read_answered ShowsReport scenario plays.scenario said text (same_text source scenario plays.scenario asked plays.read.read) plays.read.valid such plays.comes
+    says_answered (Some ask.Pool) source scenario said text asked such calm (inl refuses) = absurd (not_refused source scenario said text asked calm refuses)
+    says_answered (Some ask.Pool) source scenario said text asked such calm (inr plays) =
+        read_answered ShowsReport scenario plays.scenario said text (same_text source scenario plays.scenario asked plays.read.read) plays.read.valid such plays.comes
+    says_answered (Some (ask.Scan sight)) source scenario said text asked such calm (inl refuses) = absurd (not_refused source scenario said text asked calm refuses)
+    says_answered (Some (ask.Scan sight)) source scenario said text asked such calm (inr plays) =
+        read_answered (λ s. ShowsScan s sight) scenario plays.scenario said text (same_text source scenario plays.scenario asked plays.read.read) plays.read.valid such plays.comes
+    says_answered (Some ask.Journal) source scenario said text asked such calm (inl refuses) = absurd (not_refused source scenario said text asked calm refuses)
+    says_answered (Some ask.Journal) source scenario said text asked such calm (inr plays) =
+        let all : plays.bytes ≡ asked.0 = subst (λ o. IfSome o (λ input. plays.bytes ≡ input)) asked.1 plays.read.all in
+        let e : Ok plays.scenario ≡ Ok scenario = sym plays.read.read ∙ (ap verdict_of all ∙ asked.2) in
+        let same : plays.scenario ≡ scenario = cc in
+        read_answered (λ s. ShowsFile plays.bytes) scenario plays.scenario said text same plays.read.valid such plays.comes
+    says_answered (Some (ask.Make n seed)) source scenario said text asked such calm says =
+        read_answered ShowsReport scenario (made_scenario n seed) said text (sym asked) says.0 such says.1
 
-  -- so a run of one answers all, or has a status that may come of a full journal, or of want of memory
-  answers_where : (May : ℕ → Type 0) → May 8 → ((scenario : Scenario) (said : Said) (text : Text) → IsSuch scenario → IsFilled scenario said text → May (status_of said))
-      → (words : List (List ℕ)) (source : SourceUse) (sink : SinkUse) (done : Done) → Runs words source sink done → AnswersWhere IsSuch May words source sink done
-  answers_where May short full words source sink done (inr out) scenario asked such calm still = inr (subst May (sym out.status) short)
-  answers_where May short full words source sink done (inl printed) scenario asked such calm still =
-      let either = says_answered (subcommand_by words) source scenario printed.said printed.text asked such calm printed.says in
-      elim (printed.prints) [
-        | inl whole ↦ elim either [
+    -- so a run of one answers all, or has a status that may come of a full journal, or of want of memory
+    answers_where : (May : ℕ → Type 0) → May 8 → ((scenario : Scenario) (said : Said) (text : Text) → IsSuch scenario → IsFilled scenario said text → May (status_of said))
+        → (words : List (List ℕ)) (source : SourceUse) (sink : SinkUse) (done : Done) → Runs words source sink done → AnswersWhere IsSuch May words source sink done
+    answers_where May short full words source sink done (inr out) scenario asked such calm still = inr (subst May (sym out.status) short)
+    answers_where May short full words source sink done (inl printed) scenario asked such calm still =
+        let either = says_answered (subcommand_by words) source scenario printed.said printed.text asked such calm printed.says in
+        elim (printed.prints) [
+          | inl whole ↦ elim either [
             | inl a ↦ inl (record { status = whole.0 ∙ a.status; journal = a.journal; journal_is = printed.journal ∙ a.journal_is; answered = a.answers })
             | inr filled ↦ inr (subst May (sym whole.0) (full scenario printed.said printed.text such filled))
           ]
-        | inr failed ↦ absurd (still failed.3)
-      ]
+          | inr failed ↦ absurd (still failed.3)
+        ]
 
 module _ (quiet : PlainLinesEndQuiet) (answered : PlainRequestsAreAnswered) (light : PlainJournalsAreLight) where
   -- the journal of a plain scenario at its budget is not full
