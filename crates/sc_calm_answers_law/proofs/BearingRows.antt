@@ -49,10 +49,9 @@ use Rattle.sc_calm_rows_law.proofs.Scenes.{fit}
 use Rattle.sc_calm_rows_law.proofs.Turning.{delivered, others_idle, rows_replicas, found_name}
 use Rattle.sc_calm_rows_law.proofs.Viewing.{new_is, view_is, view_was}
 use Rattle.sc_calm_rows_law.proofs.WellNodes.{Plays, Found, found_well, replay_well}
-use Rattle.sc_calm_rows_law.specs.WellKept.{IsWellKept}
 use Rattle.sc_calm_logs_law.specs.Logged.{IsGroupOf, HasReplica}
 use Rattle.sc_calm_groups_law.specs.Led.{Ends, IsWellLed}
-use Rattle.sc_calm_groups_law.specs.Through.{IsWellPlayer, AreWellBorn, IsRowOf, Delivers, HasOneLog, IsSentSo}
+use Rattle.sc_calm_groups_law.specs.Through.{AreWellBorn, IsRowOf, Delivers, HasOneLog, IsSentSo}
 use Rattle.sc_calm_groups_law.proofs.Executing.{asides_stay, orders_stay, promises_stay}
 use Rattle.sc_calm_answers_law.specs.Bearing.{IsBirth, EntriesBearChildren}
 use Rattle.sc_calm_answers_law.proofs.Playing.{plays_of}

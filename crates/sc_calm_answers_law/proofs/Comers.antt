@@ -1,21 +1,13 @@
 -- By a vote a leader executes what adds a member alone, and keeps its ballot.
-use Rattle.std.proofs.Common.{◌≡◌, ℕ, ◌+◌, ◌≤◌, eqb, ltb, true, false, true≢false, List, [], ◌∷◌, Option, Some, None, ◌⊎◌, inl, inr, refl, sym, ◌∙◌, ap, subst, arith}
-use Rattle.std.specs.FinMap.{get}
-use Rattle.std.proofs.lemmas.Bool.{cases_eq, cases_lt, cond_both}
+use Rattle.std.proofs.Common.{◌≡◌, ℕ, ◌+◌, ◌≤◌, true, false, true≢false, List, [], ◌∷◌, Option, Some, None, ◌⊎◌, inl, inr, refl, sym, ◌∙◌, ap, subst, arith}
+use Rattle.std.proofs.lemmas.Bool.{cases_eq, cases_lt}
 use Rattle.sc_base.specs.declared.names.Ballot.{Ballot}
-use Rattle.sc_base.specs.declared.ops.Noted.{Noted}
-use Rattle.sc_base.specs.declared.ops.Op.{Op}
-use Rattle.sc_ideal.specs.IdealStore.{key_of, holds_key}
 use Rattle.sc_cmd.specs.declared.commands.Command.{Command}
 use Rattle.sc_cmd.specs.declared.commands.Command.TheVariants.{Noop, Call, Join, Leave, Split, Begin, Prepared, RecordVote, GiveUp, Finish, Watched, RecordWatch}
 use Rattle.sc_cmd.specs.declared.cores.Core.{Core}
-use Rattle.sc_cmd.specs.declared.cores.Lock.{Lock}
-use Rattle.sc_cmd.specs.declared.cores.Lock.TheVariants.{Free, Coordinating, Promised, Watching}
-use Rattle.sc_cmd.specs.declared.effects.Effect.{Effect}
 use Rattle.sc_cmd.specs.declared.links.Route.{Route}
 use Rattle.sc_mail.specs.declared.bodies.MailBody.TheVariants.{Accepted}
-use Rattle.sc_machine_table.specs.Group.{Group}
-use Rattle.sc_machine_table.specs.Machine.{served_by_note, served, called, applied}
+use Rattle.sc_machine_table.specs.Machine.{applied}
 use Rattle.sc_base.specs.Roster.{IsRoster, is_member}
 use Rattle.sc_node_table.specs.Execute.{entered, executed_one, next_child, next_ready, ending, executed_ready, executed}
 use Rattle.sc_node_table.specs.Pump.{is_act, pumped}
@@ -35,7 +27,7 @@ use Rattle.sc_following_law.proofs.Leading.{none_taken}
 use Rattle.sc_following_law.proofs.Offers.{pumps_offer}
 use Rattle.sc_following_law.proofs.Voted.{vote_row}
 use Rattle.sc_calm_answers_law.proofs.Above.{MovesLast}
-use Rattle.sc_calm_answers_law.proofs.Cores.{called_core, numbered_core, served_core}
+use Rattle.sc_calm_answers_law.proofs.Cores.{called_core}
 
 -- ---- calls and fillers leave a group's core as it is
 

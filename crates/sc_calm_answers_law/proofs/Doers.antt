@@ -6,8 +6,6 @@ use Rattle.sc_cmd.specs.declared.commands.Command.{Command}
 use Rattle.sc_actor.specs.declared.actors.Seat.{Seat}
 use Rattle.sc_actor.specs.declared.rows.Event.TheVariants.{Deliver}
 use Rattle.sc_actor.specs.System.{numbers_of}
-use Rattle.sc_machine_table.specs.Group.{Group}
-use Rattle.sc_machine_table.specs.Logs.{state_after}
 use Rattle.sc_machine_table.specs.Machine.{applied}
 use Rattle.sc_node_table.specs.Replica.{ReplicaState}
 use Rattle.sc_orderly_law.specs.Timely.{AreInTime}

@@ -1,5 +1,5 @@
 -- A row of a calm journal finds what an order needs.
-use Rattle.std.proofs.Common.{List, Some, [], ap, false, inl, inr, slice_get, subst, sym, true, true≢false, ℕ, ◌∙◌, ◌∷◌, ◌≡◌, refl}
+use Rattle.std.proofs.Common.{List, Some, [], ap, false, inl, inr, subst, sym, true, true≢false, ℕ, ◌∙◌, ◌≡◌, refl}
 use Rattle.std.proofs.lemmas.Bool.{cases_Bool}
 use Rattle.sc_actor.specs.Mail.{mails, numbered}
 use Rattle.sc_actor.specs.Replay.{value}
@@ -7,7 +7,6 @@ use Rattle.sc_actor.specs.System.{row_of}
 use Rattle.sc_actor.specs.declared.actors.Seat.{Seat}
 use Rattle.sc_actor.specs.declared.rows.Event.{Event}
 use Rattle.sc_actor.specs.declared.rows.Event.TheVariants.{Deliver, Go, Told}
-use Rattle.sc_base.specs.Among.{Among, Each}
 use Rattle.sc_base.specs.declared.names.Draw.{Draw}
 use Rattle.sc_calm_answers_law.proofs.Beside.{besides_found}
 use Rattle.sc_calm_answers_law.proofs.Leader.{leaders_found}
@@ -47,10 +46,8 @@ use Rattle.sc_orderly_law.specs.Timely.{AreInTime}
 use Rattle.sc_paxos_words.proofs.ListLemmas.{Each-among, Each-weaker}
 use Rattle.sc_scenario.specs.declared.scenarios.Scenario.{Scenario}
 use Rattle.sc_sound.specs.Players.{Player, as_nodes, births, player_table}
-use Rattle.std.proofs.Common.{zero, suc}
 use Rattle.sc_mail.specs.declared.roles.Role.TheVariants.{Node, Client}
 use Rattle.sc_calm_groups_law.proofs.TopNodes.{Plays as TopPlays, replay_well as tops_replay}
-use Rattle.sc_paxos_law.proofs.Among.{place_among}
 use Rattle.sc_group_law.proofs.RowSteps.{number_among}
 
 -- a player that is kept has its number

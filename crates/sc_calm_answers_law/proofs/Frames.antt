@@ -1,6 +1,6 @@
 -- The frames of the replicas that lead in a quiet journal are those of the groups that stand.
-use Rattle.std.proofs.Common.{◌≡◌, ℕ, ◌≤◌, leb, cond, true, true≢false, List, [], ◌∷◌, Option, Some, None, inl, inr, refl, sym, ◌∙◌, ap, subst, arith}
-use Rattle.std.specs.Prelude.{filter, map}
+use Rattle.std.proofs.Common.{◌≡◌, ℕ, ◌≤◌, leb, cond, true, true≢false, List, [], ◌∷◌, Option, Some, None, inl, inr, sym, ◌∙◌, ap, subst, arith}
+use Rattle.std.specs.Prelude.{filter}
 use Rattle.std.proofs.lemmas.Bool.{cases_Bool, and_from, le-leb}
 use Rattle.std.proofs.lemmas.Option.{none-some}
 use Rattle.sc_base.proofs.NameLemmas.{draw_is, same_name}

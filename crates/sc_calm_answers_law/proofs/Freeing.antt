@@ -1,17 +1,12 @@
 -- By each command a group loses no member, or it is locked in no transaction after it.
-use Rattle.std.proofs.Common.{◌≡◌, ℕ, ◌+◌, ◌-◌, Bool, true, false, cond, eqb, nat_lt, zero, suc, take, List, [], ◌∷◌, Option, Some, None, ◌⊎◌, inl, inr, refl, sym, ◌∙◌, ap, subst, arith}
-use Rattle.std.specs.FinMap.{get}
-use Rattle.sc_base.specs.declared.ops.Noted.{Noted}
-use Rattle.sc_base.specs.declared.ops.Op.{Op}
+use Rattle.std.proofs.Common.{◌≡◌, ℕ, ◌+◌, ◌-◌, Bool, true, false, cond, zero, suc, take, List, [], ◌∷◌, Option, Some, None, ◌⊎◌, inl, inr, refl, sym, ◌∙◌, ap, subst, arith}
 use Rattle.sc_cmd.specs.Cores.{is_alone}
-use Rattle.sc_ideal.specs.IdealStore.{key_of, holds_key}
 use Rattle.sc_cmd.specs.declared.cores.Lock.{Lock}
 use Rattle.sc_cmd.specs.declared.cores.Lock.TheVariants.{Free, Coordinating, Promised, Watching}
 use Rattle.sc_cmd.specs.declared.links.Route.{Route}
 use Rattle.sc_cmd.specs.declared.commands.Command.{Command}
 use Rattle.sc_cmd.specs.declared.commands.Command.TheVariants.{Noop, Call, Join, Leave, Split, Begin, Prepared, RecordVote, GiveUp, Finish, Watched, RecordWatch}
 use Rattle.sc_cmd.specs.declared.cores.Core.{Core}
-use Rattle.sc_cmd.specs.declared.orders.OrderRefusal.{OrderRefusal}
 use Rattle.sc_base.specs.declared.names.Draw.{Draw}
 use Rattle.sc_base.specs.Same.{same_draw}
 use Rattle.sc_base.specs.Roster.{is_member}
@@ -26,11 +21,10 @@ use Rattle.sc_cmd.specs.declared.votes.Past.{Past}
 use Rattle.sc_cmd.specs.declared.votes.Past.TheVariants as Cast
 use Rattle.sc_cmd.specs.declared.votes.Vote.{Vote}
 use Rattle.sc_cmd.specs.declared.votes.Vote.TheVariants as Says
-use Rattle.sc_cmd.specs.declared.effects.Effect.{Effect}
-use Rattle.sc_cmd.specs.declared.effects.Effect.TheVariants.{Again, Stale, NotMine, NoEffect, Changed, Decided}
+use Rattle.sc_cmd.specs.declared.effects.Effect.TheVariants.{NoEffect, Changed, Decided}
 use Rattle.sc_machine_table.specs.Group.{Group}
 use Rattle.sc_machine_table.specs.Finishes.{participant_after, watcher_after, party_freed, settled_in, finished}
-use Rattle.sc_machine_table.specs.Machine.{applied, served_by_note, served, called, done, ordered_by, split_group}
+use Rattle.sc_machine_table.specs.Machine.{applied, ordered_by, split_group}
 use Rattle.sc_machine_table.specs.Orders.{refusal_of, refused_in, refused_free, locked_in, ordered, with_node, without_node}
 use Rattle.sc_machine_table.specs.Plans.{Plan, split_plan, merge_plan, closing_plan, repart_plan, migrate_plan}
 use Rattle.sc_machine_table.specs.Splits.{has_named, left_group}
@@ -45,7 +39,7 @@ use Rattle.sc_log_law.specs.Descent.{Rows}
 use Rattle.sc_following_law.specs.Following.{members_at}
 use Rattle.sc_calm_logs_law.specs.Logged.{logged_sets}
 use Rattle.sc_calm_answers_law.specs.States.{state_at, LeaversFree}
-use Rattle.sc_calm_answers_law.proofs.Cores.{called_core, cond_core, cond_either, numbered_core, served_core}
+use Rattle.sc_calm_answers_law.proofs.Cores.{called_core, cond_either}
 use Rattle.sc_hist_law.proofs.Logs.{ordered_either}
 
 -- ---- the core of the group stays

@@ -27,7 +27,7 @@ use Rattle.sc_calm_logs_law.specs.Logged.{IsGroupOf}
 use Rattle.sc_calm_logs_law.proofs.Views.{views_are_replicas}
 use Rattle.sc_calm_orders_law.specs.Parts.{works}
 use Rattle.sc_calm_orders_law.specs.Scenes.{Asking, Bound, Here, Scene, Turn, Unbound}
-use Rattle.sc_calm_orders_law.specs.Stages.{Asks, Closes, ClosesBoth, Filed, IsAt, Leg, Mailed, Ordered, Recorded, Replied, SentOn, Stage, Still, Weighs, closing}
+use Rattle.sc_calm_orders_law.specs.Stages.{Asks, Closes, ClosesBoth, IsAt, Leg, Ordered, Recorded, Replied, SentOn, Stage, Still, Weighs, closing}
 use Rattle.sc_calm_orders_law.proofs.Lists.{cases-draw}
 use Rattle.sc_calm_orders_law.proofs.Ordering.{tables-order}
 use Rattle.sc_calm_rows_law.specs.Groups.{view_at}

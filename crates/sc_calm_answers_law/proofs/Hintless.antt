@@ -9,7 +9,7 @@ use Rattle.sc_orderly_law.proofs.InTime.{last_in_time}
 use Rattle.sc_sound.specs.Players.{as_nodes, births, player_table}
 use Rattle.sc_calm_law.specs.Charts.{players}
 use Rattle.sc_calm_orders_law.specs.Parts.{errand_by}
-use Rattle.sc_calm_orders_law.specs.Scenes.{Asking, Elsewhere, Here, Turn, Unbound}
+use Rattle.sc_calm_orders_law.specs.Scenes.{Elsewhere, Here, Unbound}
 use Rattle.sc_calm_orders_law.specs.Stages.{Asks, Closes, ClosesBoth, IsAt, Ordered, Recorded, Replied, SentOn, Stage, Still, Weighs}
 use Rattle.sc_calm_orders_law.proofs.Lists.{among-right}
 use Rattle.sc_calm_rows_law.specs.Turns.{with_event}

@@ -37,7 +37,6 @@ use Rattle.sc_calm_answers_law.proofs.Pending.{question_at}
 use Rattle.sc_calm_answers_law.proofs.TrueQuiet.{link_least}
 use Rattle.sc_calm_answers_law.proofs.TrueSending.{AsksOn, Enters, IsSending, Mute}
 use Rattle.sc_calm_answers_law.proofs.Since.{led_first}
-use Rattle.std.proofs.lemmas.Option.{same_Some}
 use Rattle.sc_paxos_law.proofs.Among.{Among-either}
 
 pub no_deeds : (entries : List Command) (group made : Group) → AreDeeds [] entries → made ≡ state_after group entries → made ≡ group

@@ -1,5 +1,5 @@
 -- Each entry of a group's log brings nodes of the scenario, row by row of a lawful journal of a valid scenario.
-use Rattle.std.proofs.Common.{◌≡◌, ℕ, Bool, List, [], ◌∷◌, ◌++◌, length, drop, Some, inl, inr, refl, sym, ◌∙◌, ap, subst, append_assoc, append-nil, option_to_list}
+use Rattle.std.proofs.Common.{◌≡◌, ℕ, Bool, List, [], ◌∷◌, ◌++◌, length, drop, inl, inr, refl, sym, ◌∙◌, ap, subst, append_assoc, append-nil}
 use Rattle.sc_base.specs.Among.{Among, Each}
 use Rattle.sc_base.specs.Drawing.{Drawer, next_name}
 use Rattle.sc_cmd.specs.declared.commands.Command.{Command}
@@ -13,19 +13,17 @@ use Rattle.sc_actor.specs.declared.rows.Event.TheVariants.{Deliver, Tick, Go, To
 use Rattle.sc_actor.specs.declared.rows.Row.{Row}
 use Rattle.sc_actor.specs.Steps.{IsStep}
 use Rattle.sc_actor.proofs.Induction.{lawful-induction}
-use Rattle.sc_machine_table.specs.Group.{Group, group_of}
+use Rattle.sc_machine_table.specs.Group.{group_of}
 use Rattle.sc_machine_table.specs.Logs.{state_after}
-use Rattle.sc_machine_table.specs.Machine.{applied}
-use Rattle.sc_log_entries.specs.Births.{birth_of}
 use Rattle.sc_log_entries.proofs.Children.{births_are_children}
 use Rattle.sc_node_table.specs.Policy.{names_after_tick}
 use Rattle.sc_node_table.specs.Reminders.{waited_in}
 use Rattle.sc_node_table.specs.Replica.{ReplicaState}
 use Rattle.sc_paxos_words.proofs.ListLemmas.{Each-among, Each-append, Each-from_All}
-use Rattle.sc_paxos_law.proofs.Among.{Among-left, Among-right}
+use Rattle.sc_paxos_law.proofs.Among.{Among-right}
 use Rattle.sc_scenario.specs.Valid.{IsBounded, IsBoundedLine, IsUpTo}
 use Rattle.sc_scenario.specs.declared.scenarios.Scenario.{Scenario}
-use Rattle.sc_sound.specs.GroupsOf.{children_of, groups_at, birth_at}
+use Rattle.sc_sound.specs.GroupsOf.{groups_at, birth_at}
 use Rattle.sc_sound.specs.Logs.{decided_log, decided_state}
 use Rattle.sc_sound.specs.Players.{Ahead, Lawful, schedule, system_of}
 use Rattle.sc_ring_law.specs.Allowed.{Sources}

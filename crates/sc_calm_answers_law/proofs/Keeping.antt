@@ -2,7 +2,7 @@
 use Rattle.std.proofs.Common.{◌≡◌, ◌⊎◌, ℕ, suc, ◌+◌, ◌<◌, length, eqb, nat_lt, Bool, true, false, true≢false, List, [], ◌++◌, take, Option, Some, None, inl, inr, refl, sym, ◌∙◌, ap, subst, arith}
 use Rattle.std.specs.List.{list_any}
 use Rattle.std.proofs.lemmas.Bool.{cases_Bool, cond-false, eq-eqb, eqb-true}
-use Rattle.sc_base.specs.Among.{Among, Each}
+use Rattle.sc_base.specs.Among.{Among}
 use Rattle.sc_base.specs.Same.{same_ballot, same_draw}
 use Rattle.sc_base.specs.declared.names.Ballot.{Ballot}
 use Rattle.sc_base.specs.declared.names.Draw.{Draw}
@@ -17,7 +17,7 @@ use Rattle.sc_actor.specs.Mail.{mails, numbered}
 use Rattle.sc_actor.specs.System.{row_of}
 use Rattle.sc_actor.specs.declared.actors.Seat.{Seat}
 use Rattle.sc_actor.specs.declared.rows.Event.TheVariants.{Deliver}
-use Rattle.sc_mail.specs.declared.roles.Role.TheVariants.{Node, Client}
+use Rattle.sc_mail.specs.declared.roles.Role.TheVariants.{Node}
 use Rattle.sc_orderly_law.proofs.Resting.{is_born-from}
 use Rattle.sc_machine_table.specs.Children.{child_by}
 use Rattle.sc_machine_table.specs.Group.{Group, group_of}
@@ -48,7 +48,7 @@ use Rattle.sc_calm_rows_law.specs.Turns.{with_event}
 use Rattle.sc_calm_rows_law.specs.WellKept.{IsWellKept}
 use Rattle.sc_calm_rows_law.proofs.Viewing.{view_others}
 use Rattle.sc_calm_rows_law.proofs.WellNodes.{Plays, Found, found_well, replay_well}
-use Rattle.sc_calm_groups_law.specs.Through.{IsWellPlayer, ScenariosAreWellBorn}
+use Rattle.sc_calm_groups_law.specs.Through.{ScenariosAreWellBorn}
 use Rattle.sc_calm_scenes_law.specs.Found.{LeaderFinds, BesideFinds, FindsReplica, AtLeader, AtAnother, FindsFlight, Late, Leaves, Changed, Opened, Voted, Aborted, Decided, Heard, Ended}
 use Rattle.sc_calm_scenes_law.specs.Fresh.{IsThere, IsNowhere}
 use Rattle.sc_calm_scenes_law.proofs.Taking.{OneOf}

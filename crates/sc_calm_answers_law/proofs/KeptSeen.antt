@@ -1,10 +1,8 @@
 -- The replicas of all players in a quiet journal are those that are seen at nodes.
-use Rattle.std.proofs.Common.{◌≡◌, ℕ, ◌≤◌, leb, cond, true, List, [], ◌∷◌, ◌++◌, ◌⊎◌, map, Option, Some, None, inl, inr, refl, sym, ◌∙◌, ap, subst, arith}
-use Rattle.std.proofs.lemmas.Bool.{cases_Bool, and_from, le-leb}
+use Rattle.std.proofs.Common.{◌≡◌, ℕ, ◌≤◌, cond, true, List, [], ◌∷◌, map, Option, Some, None, inl, inr, refl, sym, ◌∙◌, ap, subst, arith}
+use Rattle.std.proofs.lemmas.Bool.{cases_Bool}
 use Rattle.std.proofs.lemmas.Option.{none-some}
-use Rattle.sc_base.proofs.NameLemmas.{draw_is, same_name}
 use Rattle.sc_base.specs.Among.{Among}
-use Rattle.sc_base.specs.Limits.{most_nodes}
 use Rattle.sc_base.specs.Same.{same_draw}
 use Rattle.sc_base.specs.declared.names.Draw.{Draw}
 use Rattle.sc_cmd.specs.declared.cores.Base.{Base}
@@ -18,7 +16,7 @@ use Rattle.sc_node_table.specs.Node.{is_node, replica_of}
 use Rattle.sc_node_table.specs.Replica.{ReplicaState, name_of}
 use Rattle.sc_node_table.specs.Slots.{numbers_from}
 use Rattle.sc_paxos_law.proofs.Among.{Among-left, from_map}
-use Rattle.sc_paxos_words.proofs.ListLemmas.{Each-among, find_found}
+use Rattle.sc_paxos_words.proofs.ListLemmas.{find_found}
 use Rattle.sc_scenario.specs.declared.scenarios.Scenario.{Scenario}
 use Rattle.sc_scenario.specs.Valid.{IsValid, ValidScenariosAreBounded}
 use Rattle.sc_sound.specs.Players.{Player, player_table, node_seat, client_seat, client_seats, route_of, as_nodes, births, Lawful}
@@ -27,7 +25,7 @@ use Rattle.sc_budget_law.specs.AskingQuiet.{replicas_after, IsQuietJournal}
 use Rattle.sc_budget_law.specs.BetweenJournal.{replicas_of}
 use Rattle.sc_budget_law.proofs.BetweenSteps.{in_numbers, to_numbers}
 use Rattle.sc_budget_law.proofs.Lists.{map_among}
-use Rattle.sc_calm_answers_law.specs.Starts.{AreNamedOnce, LawfulReplicasAreNamedOnce}
+use Rattle.sc_calm_answers_law.specs.Starts.{LawfulReplicasAreNamedOnce}
 use Rattle.sc_calm_answers_law.specs.Settings.{AreAtNodes}
 use Rattle.sc_budget_law.proofs.Knowing.{among_last}
 use Rattle.sc_calm_answers_law.proofs.Following.{split_among}

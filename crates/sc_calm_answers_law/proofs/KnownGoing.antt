@@ -13,7 +13,7 @@ use Rattle.sc_mail.specs.declared.roles.Role.TheVariants.{Node, Client}
 use Rattle.sc_actor.specs.declared.actors.Seat.{Seat}
 use Rattle.sc_actor.specs.Replay.{value}
 use Rattle.sc_paxos_law.proofs.Among.{Among-left, Among-right, Among-either, from_map}
-use Rattle.sc_paxos_words.proofs.ListLemmas.{Each-among, find_found}
+use Rattle.sc_paxos_words.proofs.ListLemmas.{find_found}
 use Rattle.sc_scenario.specs.Valid.{ValidScenariosAreBounded}
 use Rattle.sc_scenario.specs.declared.scenarios.Scenario.{Scenario}
 use Rattle.sc_node_table.specs.Node.{NodeState, replica_of}
@@ -30,7 +30,7 @@ use Rattle.sc_calm_rows_law.specs.Groups.{replicas_of as view_replicas, replica_
 use Rattle.sc_calm_charts_law.specs.Charting.{replicas_of, all_replicas, names_at, went_in}
 use Rattle.sc_calm_charts_law.specs.Following.{LedStandOnce}
 use Rattle.sc_calm_charts_law.proofs.Names.{led_by}
-use Rattle.sc_calm_answers_law.specs.Starts.{AreNamedOnce, LawfulReplicasAreNamedOnce}
+use Rattle.sc_calm_answers_law.specs.Starts.{LawfulReplicasAreNamedOnce}
 use Rattle.sc_calm_answers_law.specs.SettingCounting.{GoneAgree}
 use Rattle.sc_calm_answers_law.specs.KnownFronts.{IsQuietFront, IsFoundFront, FrontsAreFound}
 use Rattle.sc_calm_answers_law.proofs.KnownFronts.{IsClient, replayed_client, client_among, seat_in, node_among}

@@ -1,7 +1,7 @@
 -- Replicas are at nodes of their scenario, where rows come in time.
-use Rattle.std.proofs.Common.{◌≡◌, ℕ, zero, suc, ◌+◌, ◌<◌, ◌≤◌, ◌||◌, leb, eqb, Bool, true, false, true≢false, List, [], ◌∷◌, ◌++◌, length, map, filter, Some, None, inl, inr, refl, sym, ◌∙◌, ap, subst, append_assoc, arith}
+use Rattle.std.proofs.Common.{◌≡◌, ℕ, zero, suc, ◌+◌, ◌<◌, ◌≤◌, leb, eqb, Bool, true, List, [], ◌∷◌, ◌++◌, length, map, filter, Some, None, inl, inr, refl, sym, ◌∙◌, ap, subst, append_assoc, arith}
 use Rattle.std.specs.Prelude.{find}
-use Rattle.std.proofs.lemmas.Bool.{cases_Bool, cases_lt, cond-true, cond-false, eqb-true, ne_eqb, and_parts, leb-true}
+use Rattle.std.proofs.lemmas.Bool.{cases_Bool, cases_lt, cond-true, cond-false, ne_eqb, and_parts, leb-true}
 use Rattle.std.proofs.lemmas.Option.{none-some}
 use Rattle.sc_base.specs.Among.{Among}
 use Rattle.sc_base.specs.Limits.{most_nodes}

@@ -6,7 +6,7 @@ use Rattle.sc_cmd.specs.declared.commands.Command.{Command}
 use Rattle.sc_cmd.specs.declared.cores.Base.{Base}
 use Rattle.sc_cmd.specs.declared.links.Route.{Route}
 use Rattle.sc_base.specs.Roster.{is_member}
-use Rattle.sc_node_table.specs.Replica.{ReplicaState, listed, members}
+use Rattle.sc_node_table.specs.Replica.{ReplicaState, members}
 use Rattle.sc_orderly_law.specs.Timely.{AreInTime}
 use Rattle.sc_paxos_words.specs.declared.flights.Flight.{Flight}
 use Rattle.sc_scenario.specs.declared.scenarios.Scenario.{Scenario}
@@ -19,7 +19,7 @@ use Rattle.sc_following_law.specs.Following.{members_at}
 use Rattle.sc_calm_mail_law.proofs.FewJournals.{journals_idle}
 use Rattle.sc_calm_orders_law.specs.Parts.{work_by, works, works_flying, works_in, works_ready}
 use Rattle.sc_calm_orders_law.specs.Scenes.{Answers, Bound, Ends, Here, Records, Work, is_watch}
-use Rattle.sc_calm_orders_law.specs.Stages.{Asks, Closes, ClosesBoth, Deal, Filed, Leg, Mailed, Ordered, Party, Recorded, Replied, SentOn, Stage, Still, Weighs, closing, leads_of, parties_of}
+use Rattle.sc_calm_orders_law.specs.Stages.{Asks, Closes, ClosesBoth, Deal, Ordered, Party, Recorded, Replied, SentOn, Stage, Still, Weighs, closing, leads_of, parties_of}
 use Rattle.sc_calm_orders_law.proofs.Lists.{among-left, among-right, found, tagged, tokens}
 use Rattle.sc_calm_orders_law.proofs.Moves.{closing-work, no-work, work_of}
 use Rattle.sc_calm_rows_law.specs.Groups.{view_at}

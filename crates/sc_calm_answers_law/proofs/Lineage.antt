@@ -19,7 +19,6 @@ use Rattle.sc_calm_orders_law.proofs.Lists.{among-left, among-right}
 use Rattle.sc_calm_answers_law.proofs.WorkBirths.{HasBorn, stays_born, bears_born, new_born}
 use Rattle.sc_calm_answers_law.proofs.Logs.{kids_of}
 use Rattle.sc_paxos_law.proofs.Among.{Among-either}
-use Rattle.sc_machine_table.proofs.LogLemmas.{state_push}
 
 -- it forgets none
 pub log_stays : (name : Draw) (group : Group) (log : List Command) → HasBorn name group.core.born → HasBorn name (state_after group log).core.born

@@ -1,11 +1,10 @@
 -- The link of a group that stands in a quiet front is as a quiet journal asks it.
-use Rattle.std.proofs.Common.{◌≡◌, ℕ, ◌+◌, ◌-◌, ◌/◌, ◌%◌, ◌^◌, ◌<◌, ◌≤◌, true, false, List, [], ◌∷◌, Option, Some, None, refl, sym, ◌∙◌, ap, subst, arith}
+use Rattle.std.proofs.Common.{◌≡◌, ℕ, ◌/◌, ◌%◌, ◌^◌, ◌<◌, true, false, List, [], ◌∷◌, Option, Some, None, refl, sym, ◌∙◌, ap, subst, arith}
 use Rattle.std.specs.Prelude.{IsTrue, ◌&&◌, is_none, is_some}
 use Rattle.std.specs.Option.{option_map}
-use Rattle.std.proofs.lemmas.Bool.{lt-ltb}
 use Rattle.std.proofs.lemmas.Option.{none-some, same_Some}
 use Rattle.sc_base.specs.Among.{Among}
-use Rattle.sc_base.specs.Arc.{Arc, IsArc, offset, holds, end_of}
+use Rattle.sc_base.specs.Arc.{Arc, IsArc, holds, end_of}
 use Rattle.sc_base.specs.Text.{pos_of}
 use Rattle.sc_base.proofs.NameLemmas.{draw_is}
 use Rattle.sc_cmd.specs.declared.cores.Base.{Base}

@@ -1,14 +1,13 @@
 -- What a mail of a group that is well led finds at the node that it comes to, by what it says.
 use Rattle.std.proofs.Common.{◌≡◌, ℕ, suc, ◌+◌, ◌≤◌, true, false, true≢false, List, [], ◌∷◌, ◌++◌, Option, Some, None, ◌⊎◌, inl, inr, refl, sym, ◌∙◌, ap, subst, arith, append_assoc}
 use Rattle.std.proofs.lemmas.Bool.{cases_Bool}
-use Rattle.sc_base.specs.Among.{Each}
 use Rattle.sc_base.specs.declared.names.Draw.{Draw}
 use Rattle.sc_cmd.specs.declared.commands.Command.{Command}
 use Rattle.sc_cmd.specs.declared.cores.Base.{Base}
 use Rattle.sc_mail.specs.declared.bodies.Mail.{Mail}
 use Rattle.sc_mail.specs.declared.bodies.MailBody.{MailBody}
 use Rattle.sc_mail.specs.declared.bodies.MailBody.TheVariants.{Request, Answer, Prepare, Promise, Accept, Accepted, Nack, Learn, Ask, Install, TxPrepare, TxVote, TxOutcome, TxElsewhere, TxWatch, TxWatched, Told as ToldMail}
-use Rattle.sc_mail.specs.declared.roles.Role.TheVariants.{Node, Client}
+use Rattle.sc_mail.specs.declared.roles.Role.TheVariants.{Node}
 use Rattle.sc_base.specs.Roster.{is_member}
 use Rattle.sc_actor.specs.declared.actors.Seat.{Seat}
 use Rattle.sc_actor.specs.declared.rows.Event.TheVariants.{Deliver, Go}
@@ -38,7 +37,6 @@ use Rattle.sc_following_law.proofs.TableHints.{heirs_elect}
 use Rattle.sc_calm_rows_law.specs.Groups.{view_at, promise_in, progress_at, marks_at, mark_in, taken_mark}
 use Rattle.sc_calm_rows_law.specs.Mailed.{IsScene, TakesMail, HoldsReplica}
 use Rattle.sc_calm_rows_law.specs.Turns.{with_event, IsReplicasRow}
-use Rattle.sc_calm_rows_law.specs.WellKept.{IsWellKept}
 use Rattle.sc_calm_rows_law.proofs.Hearing.{names_stay}
 use Rattle.sc_calm_rows_law.proofs.Scenes.{apart_off as led_off, goes_on, row_in, head, all_fit, known, within, no_lead, fit}
 use Rattle.sc_calm_rows_law.proofs.Turning.{found_name, rows_replicas}
@@ -46,7 +44,7 @@ use Rattle.sc_calm_rows_law.proofs.Viewing.{view_was}
 use Rattle.sc_calm_rows_law.proofs.WellNodes.{Plays, Found, found_well, replay_well}
 use Rattle.sc_calm_groups_law.specs.Led.{Ends, hint_in, hints_at}
 use Rattle.sc_calm_groups_law.specs.Logged.{IsOfLog, IsLogsState}
-use Rattle.sc_calm_groups_law.specs.Through.{IsWellPlayer, AreWellBorn}
+use Rattle.sc_calm_groups_law.specs.Through.{AreWellBorn}
 use Rattle.sc_calm_answers_law.specs.Meeting.{MeetsMail, IsPlain, NeedsBesides, IsNoRequest, NeedsAt}
 use Rattle.sc_calm_answers_law.proofs.Elsewhere.{IsApart, owes_same, owes_most, stands_here, elsewhere_apart, apart_off, none_of}
 use Rattle.sc_calm_answers_law.proofs.FindingRows.{next_with, still_named, IsLeft, left_by, nines_at, stays_behind}

@@ -1,13 +1,8 @@
 -- By each command a group loses no member, or nobody comes to it.
-use Rattle.std.proofs.Common.{◌≡◌, ℕ, Bool, true, false, cond, ◌&&◌, ◌||◌, not, eqb, nat_lt, nat_le, zero, suc, length, take, filter, List, [], ◌∷◌, Option, Some, None, ◌⊎◌, inl, inr, refl, ◌∙◌, ap}
-use Rattle.std.specs.FinMap.{get}
-use Rattle.sc_base.specs.declared.ops.Noted.{Noted}
-use Rattle.sc_base.specs.declared.ops.Op.{Op}
+use Rattle.std.proofs.Common.{◌≡◌, ℕ, Bool, true, false, cond, ◌&&◌, ◌||◌, not, eqb, nat_le, zero, suc, length, take, filter, List, [], ◌∷◌, Option, Some, None, ◌⊎◌, inl, inr, refl, ◌∙◌, ap}
 use Rattle.sc_cmd.specs.Cores.{is_alone}
-use Rattle.sc_ideal.specs.IdealStore.{key_of, holds_key}
 use Rattle.sc_cmd.specs.declared.cores.Lock.{Lock}
 use Rattle.sc_cmd.specs.declared.cores.Lock.TheVariants.{Free, Coordinating, Promised, Watching}
-use Rattle.sc_cmd.specs.declared.links.Route.{Route}
 use Rattle.sc_cmd.specs.declared.commands.Command.{Command}
 use Rattle.sc_cmd.specs.declared.commands.Command.TheVariants.{Noop, Call, Join, Leave, Split, Begin, Prepared, RecordVote, GiveUp, Finish, Watched, RecordWatch}
 use Rattle.sc_cmd.specs.declared.cores.Core.{Core}
@@ -32,18 +27,17 @@ use Rattle.sc_cmd.specs.declared.votes.Past.{Past}
 use Rattle.sc_cmd.specs.declared.votes.Past.TheVariants as Cast
 use Rattle.sc_cmd.specs.declared.votes.Vote.{Vote}
 use Rattle.sc_cmd.specs.declared.votes.Vote.TheVariants as Says
-use Rattle.sc_cmd.specs.declared.effects.Effect.{Effect}
-use Rattle.sc_cmd.specs.declared.effects.Effect.TheVariants.{Again, Stale, NotMine, NoEffect, Changed, Decided}
+use Rattle.sc_cmd.specs.declared.effects.Effect.TheVariants.{NoEffect, Changed, Decided}
 use Rattle.sc_machine_table.specs.Group.{Group}
 use Rattle.sc_machine_table.specs.Finishes.{can_gain, gained_group, lost_group, moved, welcomed_group, participant_after, watcher_after, party_freed, settled_in, finished}
-use Rattle.sc_machine_table.specs.Machine.{applied, served_by_note, served, called, done, ordered_by, split_group}
+use Rattle.sc_machine_table.specs.Machine.{applied, ordered_by, split_group}
 use Rattle.sc_machine_table.specs.Orders.{refusal_of, ordered, with_node, without_node}
 use Rattle.sc_machine_table.specs.Plans.{Plan, can_cut, has_key_of, can_split, split_plan, may_merge, merged_group, merge_plan, closing_group, closing_plan, can_repart, taken, giving_group, taking_group, giving_plan, taking_plan, repart_plan, can_migrate, migrated_group, migrate_plan}
 use Rattle.sc_machine_table.specs.Splits.{has_named, staying, left_group}
 use Rattle.sc_machine_table.specs.Transactions.{begun_group, aborted, committed, heard_group, granted, participant_answered, asks_watcher, vote_recorded, released, watch_answered, watch_recorded, is_coordinating}
 use Rattle.sc_machine_table.specs.Votes.{has_voted, vote_of, watch_vote_of, voted_on}
 use Rattle.sc_machine_table.specs.Logs.{state_after}
-use Rattle.sc_calm_answers_law.proofs.Cores.{called_core, cond_core, cond_either, numbered_core, served_core}
+use Rattle.sc_calm_answers_law.proofs.Cores.{called_core, cond_either}
 use Rattle.sc_hist_law.proofs.Logs.{ordered_either}
 use Rattle.sc_calm_answers_law.proofs.Entering.{or_map}
 

@@ -1,5 +1,5 @@
 -- Which names replicas have after some rows, and that a name that is new is none of them.
-use Rattle.std.proofs.Common.{◌≡◌, ℕ, zero, suc, eqb, false, List, [], ◌∷◌, Option, Some, None, find, option_map, length, inl, inr, refl, sym, ap, subst}
+use Rattle.std.proofs.Common.{◌≡◌, ℕ, eqb, false, List, [], ◌∷◌, Option, Some, None, find, option_map, length, inl, inr, refl, sym, ap, subst}
 use Rattle.std.proofs.lemmas.Bool.{cases_Bool, or_from}
 use Rattle.std.specs.List.{list_any}
 use Rattle.sc_machine_table.specs.Votes.{has_voted}
@@ -16,10 +16,8 @@ use Rattle.sc_mail.specs.declared.roles.Role.TheVariants.{Node, Client}
 use Rattle.sc_node_table.specs.Node.{replica_of}
 use Rattle.sc_node_table.specs.Replica.{ReplicaState, name_of}
 use Rattle.sc_node_table.specs.Transactions.{noted_outcome, noted_vote}
-use Rattle.sc_paxos_words.proofs.ListLemmas.{Each-among, Each-append, Each-weaker, find_found, find_nothing}
-use Rattle.sc_scenario.specs.Groups.{base_at, bases_up_to}
+use Rattle.sc_paxos_words.proofs.ListLemmas.{Each-among, Each-weaker, find_found, find_nothing}
 use Rattle.sc_scenario.specs.Valid.{IsBounded}
-use Rattle.sc_scenario.specs.declared.drafts.GroupLine.{GroupLine}
 use Rattle.sc_scenario.specs.declared.scenarios.Scenario.{Scenario}
 use Rattle.sc_sound.specs.Players.{Lawful, Player, as_nodes, births, player_table}
 use Rattle.sc_names_law.specs.Fresh.{BeginsUndrawn, IsUsed, NamesAreDrawn}

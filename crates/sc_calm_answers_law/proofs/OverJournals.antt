@@ -1,5 +1,5 @@
 -- A quiet front of a calm journal rests, where its players are as a quiet journal asks it.
-use Rattle.std.proofs.Common.{◌≡◌, ◌⊎◌, inl, inr, ℕ, Bool, true, false, cond, List, [], ◌∷◌, ◌++◌, Option, Some, None, refl, ◌∙◌, ap}
+use Rattle.std.proofs.Common.{◌≡◌, ◌⊎◌, inl, inr, ℕ, Bool, true, false, cond, List, [], ◌∷◌, Option, Some, None, refl, ◌∙◌, ap}
 use Rattle.std.specs.Prelude.{nat_le}
 use Rattle.sc_base.specs.declared.names.Draw.{Draw}
 use Rattle.sc_cmd.specs.declared.cores.Base.{Base}
@@ -15,7 +15,7 @@ use Rattle.sc_sound.specs.Players.{Player, births, as_nodes}
 use Rattle.sc_calm_law.specs.Charts.{players}
 use Rattle.sc_calm_law.specs.Quiet.{IsAtRest}
 use Rattle.sc_calm_law.specs.Totals.{Rows}
-use Rattle.sc_calm_orders_law.specs.Parts.{works_in, works_flying, works_ready, works, bond_in, errands_for}
+use Rattle.sc_calm_orders_law.specs.Parts.{bond_in, errands_for}
 use Rattle.sc_calm_orders_law.specs.Scenes.{Bond, Unbound, Work, Errand, Here, free}
 use Rattle.sc_calm_orders_law.specs.Stages.{Still, IsAt}
 use Rattle.sc_calm_rows_law.specs.Groups.{view_at}

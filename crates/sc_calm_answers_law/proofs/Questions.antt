@@ -1,16 +1,12 @@
 -- What a stage says of a question, and of one that is sent elsewhere.
-use Rattle.std.proofs.Common.{◌≡◌, ℕ, Bool, List, [], ◌∷◌, ◌++◌, Some, inl, inr, refl, sym, ◌∙◌, ap, subst}
+use Rattle.std.proofs.Common.{◌≡◌, ℕ, Bool, List, [], ◌++◌, inl, inr, refl}
 use Rattle.sc_base.specs.Among.{Among}
 use Rattle.sc_base.specs.declared.names.Draw.{Draw}
-use Rattle.sc_mail.specs.declared.bodies.Mail.{Mail}
 use Rattle.sc_calm_orders_law.specs.Scenes.{is_watch, Errand, Question, Elsewhere, Reply, Result, Here, Scene}
-use Rattle.sc_calm_orders_law.specs.Parts.{errand_by, errand_for, errands_for}
 use Rattle.sc_calm_orders_law.specs.Stages.{Deal, Leg, closing, parties_of, Stage, Still, Ordered, Asks, SentOn, Weighs, Replied, Recorded, Closes, ClosesBoth, IsAt}
 use Rattle.sc_calm_orders_law.proofs.Begun.{first, second}
-use Rattle.sc_calm_orders_law.proofs.Errands.{errand-own}
-use Rattle.sc_calm_orders_law.proofs.Lists.{tokens, tagged, found, among-left, among-right}
+use Rattle.sc_calm_orders_law.proofs.Lists.{tokens, tagged, found}
 use Rattle.sc_calm_orders_law.proofs.Moves.{no-errand, closing-errand}
-use Rattle.sc_calm_answers_law.proofs.Hinting.{errand_there}
 
 abbrev errands_of : Here → List Errand
 errands_of h = h.errands

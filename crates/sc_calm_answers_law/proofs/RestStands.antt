@@ -1,7 +1,6 @@
 -- A group that stands is as a quiet journal asks it, where it is well led.
-use Rattle.std.proofs.Common.{◌≡◌, ℕ, ◌+◌, ◌<◌, ◌≤◌, true, false, true≢false, List, [], Option, Some, None, inl, inr, refl, sym, ◌∙◌, ap, subst, arith}
+use Rattle.std.proofs.Common.{◌≡◌, ℕ, ◌+◌, ◌<◌, ◌≤◌, true, false, true≢false, List, Option, Some, None, inl, inr, refl, sym, ◌∙◌, ap, subst, arith}
 use Rattle.std.specs.Prelude.{is_some}
-use Rattle.std.specs.Option.{option_map}
 use Rattle.std.proofs.lemmas.Bool.{cases_eq, cases_lt}
 use Rattle.sc_base.specs.Among.{Among}
 use Rattle.sc_base.specs.declared.names.Ballot.{Ballot}
@@ -10,14 +9,11 @@ use Rattle.sc_cmd.specs.declared.cores.Base.{Base}
 use Rattle.sc_cmd.specs.declared.links.Route.{Route}
 use Rattle.sc_base.specs.Roster.{is_member, least_of}
 use Rattle.sc_machine_table.specs.Group.{Group}
-use Rattle.sc_paxos_words.specs.declared.flights.Flight.{Flight}
 use Rattle.sc_paxos_words.specs.declared.reports.Report.{Report}
 use Rattle.sc_paxos_words.specs.Ballots.{below}
-use Rattle.sc_paxos_words.specs.Leaders.{flight_at}
 use Rattle.sc_paxos_words.proofs.ListLemmas.{Each-weaker}
 use Rattle.sc_scenario.specs.declared.scenarios.Scenario.{Scenario}
-use Rattle.sc_node_table.specs.Replica.{ReplicaState, next, members, taken_at, either}
-use Rattle.sc_node_table.specs.Slots.{at_slot}
+use Rattle.sc_node_table.specs.Replica.{ReplicaState, next, members}
 use Rattle.sc_sound.specs.Players.{as_nodes}
 use Rattle.sc_calm_law.specs.Quiet.{IsLinked, IsBelow, MayVote, IsUpToDate, StandsQuiet, IsGoneQuiet}
 use Rattle.sc_log_law.specs.Descent.{Rows}
@@ -36,7 +32,6 @@ use Rattle.sc_calm_answers_law.specs.States.{state_at, ReplicasRunLogs}
 use Rattle.sc_calm_answers_law.specs.Rests.{replicas_at, IsQuietGroup, SawNoMore, QuietGroupsStand, IsTakenIn, QuietGroupsAreGone}
 use Rattle.sc_calm_answers_law.proofs.Facts.{opens_same, set_slot, at, over, all, now, view, even, place, has_one, newest_next, members_have, states, kept, room, same_state, ran}
 use Rattle.sc_calm_answers_law.proofs.KnownGroups.{none_taken}
-use Rattle.sc_calm_answers_law.proofs.Elsewhere.{none_of}
 
 some_of : {X : Type 0} (o : Option X) → is_some o ≡ true → (x : X) × (o ≡ Some x)
 some_of (Some x) e = (x, refl)

@@ -1,10 +1,7 @@
 -- A player refuses nothing but what it is asked to promise or to accept.
-use Rattle.std.proofs.Common.{◌≡◌, ℕ, ◌||◌, not, nat_lt, eqb, inl, inr, refl, List, [], ◌∷◌, length, Option, Some, None, ap, sym, ◌∙◌, subst}
-use Rattle.std.proofs.lemmas.Bool.{cases_Bool, cond-true, cond-false}
-use Rattle.sc_base.specs.Same.{same_draw}
+use Rattle.std.proofs.Common.{◌≡◌, ℕ, ◌||◌, not, nat_lt, eqb, refl, List, [], length, Option, Some, None, sym, subst}
 use Rattle.sc_base.specs.declared.names.Ballot.{Ballot}
 use Rattle.sc_base.specs.declared.names.Draw.{Draw}
-use Rattle.sc_base.proofs.NameLemmas.{draw_is}
 use Rattle.sc_cmd.specs.declared.orders.OrderLine.{OrderLine}
 use Rattle.sc_mail.specs.declared.bodies.Mail.{Mail}
 use Rattle.sc_mail.specs.declared.bodies.MailBody.{MailBody}
@@ -23,7 +20,6 @@ use Rattle.sc_sound.specs.Players.{Player, player_table}
 use Rattle.sc_calm_mail_law.proofs.Clients.{IsRequestOf, clients_ask}
 use Rattle.sc_calm_answers_law.proofs.Said.{IsSaid, AreSaid}
 use Rattle.sc_calm_answers_law.proofs.SaidRows.{Refuses, mailed_keeps, order_keeps, made_keeps}
-use Rattle.sc_calm_rows_law.proofs.Turning.{found_name}
 
 module _ (may : Draw → ℕ → Ballot → Type 0) where
   unknown_said : (from : ℕ) (body : MailBody) (node : NodeState) → AreSaid may (unknown from body node).1

@@ -1,5 +1,5 @@
 -- The chart of some rows counts as the setting does that the last quiet journal before them gives.
-use Rattle.std.proofs.Common.{◌≡◌, ℕ, zero, suc, ◌+◌, ◌≤◌, cond, true, false, true≢false, Bool, List, [], ◌∷◌, ◌++◌, ◌⊎◌, ◌-◌, length, map, take, min, Option, Some, None, inl, inr, refl, sym, ◌∙◌, ap, subst, arith}
+use Rattle.std.proofs.Common.{◌≡◌, ℕ, zero, suc, ◌+◌, ◌≤◌, cond, true, false, true≢false, Bool, List, [], ◌∷◌, ◌-◌, length, map, take, min, Option, Some, None, inl, inr, refl, sym, ◌∙◌, ap, subst, arith}
 use Rattle.std.specs.Prelude.{filter, is_some, ◌&&◌, ◌||◌, not}
 use Rattle.std.proofs.lemmas.Bool.{cases_Bool}
 use Rattle.std.proofs.lemmas.List.{take_all}
@@ -25,7 +25,6 @@ use Rattle.sc_scenario.specs.declared.scenarios.Scenario.{Scenario}
 use Rattle.sc_scenario.specs.Valid.{IsValid, ValidScenariosAreBounded}
 use Rattle.sc_sound.specs.Players.{Player, player_table, node_seat, client_seat, client_seats, route_of, as_nodes, births, Lawful}
 use Rattle.sc_calm_law.specs.Charts.{players}
-use Rattle.sc_calm_law.specs.Parties.{StandsOnce}
 use Rattle.sc_calm_law.specs.Quiet.{HasReplica, StandsQuiet}
 use Rattle.sc_calm_law.specs.Totals.{leads, is_leading, is_led}
 use Rattle.sc_calm_charts_law.specs.Charting.{replicas_of as chart_replicas, all_replicas, went_in, ends_by, way_by, names_at, chart_at, reach_in}

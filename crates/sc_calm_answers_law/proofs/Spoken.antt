@@ -2,7 +2,6 @@
 use Rattle.std.proofs.Common.{◌≡◌, ℕ, true, true≢false, List, [], ◌++◌, Option, Some, None, inl, inr, refl, sym, ◌∙◌, ap, subst, append-nil, arith}
 use Rattle.std.specs.Option.{option_map}
 use Rattle.std.proofs.lemmas.Bool.{cases_Bool}
-use Rattle.sc_base.specs.Among.{Each}
 use Rattle.sc_base.specs.Same.{same_draw}
 use Rattle.sc_base.specs.declared.names.Ballot.{Ballot}
 use Rattle.sc_base.specs.declared.names.Draw.{Draw}
@@ -44,14 +43,13 @@ use Rattle.sc_following_law.proofs.Nodes.{same_mark}
 use Rattle.sc_calm_rows_law.specs.Groups.{view_at, next_in, promise_in, progress_at}
 use Rattle.sc_calm_rows_law.specs.Mailed.{TakesMail, HoldsReplica}
 use Rattle.sc_calm_rows_law.specs.Turns.{IsSeat, with_event, IsReplicasRow}
-use Rattle.sc_calm_rows_law.specs.WellKept.{IsWellKept}
 use Rattle.sc_calm_rows_law.proofs.Scenes.{fit, goes_on, known}
 use Rattle.sc_calm_rows_law.proofs.Turning.{found_name, rows_replicas}
 use Rattle.sc_calm_rows_law.proofs.Viewing.{view_was, sent_is}
 use Rattle.sc_calm_rows_law.proofs.WellNodes.{Plays, Found, found_well, replay_well}
 use Rattle.sc_calm_groups_law.specs.Led.{Ends, dated_at, IsWellLed}
 use Rattle.sc_calm_groups_law.specs.Mailed.{IsLedScene}
-use Rattle.sc_calm_groups_law.specs.Through.{IsWellPlayer, AreWellBorn, Delivers, HasOneLog, IsSentSo}
+use Rattle.sc_calm_groups_law.specs.Through.{AreWellBorn, Delivers, HasOneLog, IsSentSo}
 use Rattle.sc_calm_groups_law.proofs.Mails.{scene}
 use Rattle.sc_calm_groups_law.proofs.Dating.{dated_in, taken_dated, rows_dated}
 use Rattle.sc_calm_mail_law.specs.Idle.{IsPlainlyKept, JournalsKeepIdle}

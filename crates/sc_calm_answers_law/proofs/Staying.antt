@@ -55,8 +55,7 @@ use Rattle.sc_calm_rows_law.proofs.Mailing.{mailed_keeps, order_keeps}
 use Rattle.sc_calm_rows_law.proofs.Turning.{found_name}
 use Rattle.sc_calm_rows_law.proofs.Viewing.{view_others, view_was}
 use Rattle.sc_calm_rows_law.proofs.WellNodes.{Plays, replay_well}
-use Rattle.sc_calm_rows_law.specs.WellKept.{IsWellKept}
-use Rattle.sc_calm_groups_law.specs.Through.{IsWellPlayer, ScenariosAreWellBorn}
+use Rattle.sc_calm_groups_law.specs.Through.{ScenariosAreWellBorn}
 use Rattle.sc_calm_logs_law.specs.Logged.{IsGroupOf}
 use Rattle.sc_calm_answers_law.specs.Led.{ChildrenAreBegun}
 use Rattle.sc_calm_scenes_law.specs.Fresh.{IsNowhere, IsErrandFor, AreUntouched}
@@ -66,7 +65,6 @@ use Rattle.sc_calm_scenes_law.proofs.Taking.{OneOf, all_children, all_sent, now_
 use Rattle.sc_calm_scenes_law.proofs.Turning.{calm_is}
 use Rattle.sc_calm_answers_law.specs.JournalUnder.{IsYoungAt}
 use Rattle.sc_calm_answers_law.specs.Young.{IsUnanswered, YoungGroupsStay}
-use Rattle.std.proofs.lemmas.Option.{same_Some}
 use Rattle.sc_calm_answers_law.proofs.Playing.{plays_of}
 use Rattle.sc_calm_rows_law.proofs.Beginning.{none_some}
 

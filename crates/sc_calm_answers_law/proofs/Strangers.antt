@@ -34,7 +34,7 @@ use Rattle.sc_scenario.specs.Groups.{base_at}
 use Rattle.sc_scenario.specs.declared.scenarios.Scenario.{Scenario}
 use Rattle.sc_node_table.specs.Node.{NodeState, replica_of, with_made, unknown, may_come, group_of_mail, taken_by, routed, on_mail, group_of_order, ordered_of}
 use Rattle.sc_node_table.specs.Mails.{told_desk}
-use Rattle.sc_node_table.specs.Replica.{ReplicaState, Place, listed, name_of, last_slot}
+use Rattle.sc_node_table.specs.Replica.{ReplicaState, Place, name_of, last_slot}
 use Rattle.sc_node_table.specs.Rows.{made_by}
 use Rattle.sc_node_table.specs.Slots.{slots_ahead}
 use Rattle.sc_sound.specs.GroupsOf.{groups_at}
@@ -42,7 +42,7 @@ use Rattle.sc_sound.specs.Players.{Player, player_table, node_seat, client_seats
 use Rattle.sc_calm_law.specs.Charts.{players}
 use Rattle.sc_log_law.specs.Descent.{Rows}
 use Rattle.sc_law_lemmas.proofs.Ways.{either_way}
-use Rattle.sc_following_law.specs.Following.{Mark, Installs, mark_of}
+use Rattle.sc_following_law.specs.Following.{Installs, mark_of}
 use Rattle.sc_following_law.specs.Rows.{IsRow}
 use Rattle.sc_following_law.specs.Tables.{marks_for}
 use Rattle.sc_calm_rows_law.specs.Groups.{marks_at, progress_at, mark_in, taken_mark, begun_course}

@@ -31,7 +31,7 @@ use Rattle.sc_machine_table.specs.Children.{ordered_child, released_child, answe
 use Rattle.sc_machine_table.specs.Finishes.{participant_after, settled_in, watch_ended, finished}
 use Rattle.sc_machine_table.specs.Group.{Group}
 use Rattle.sc_machine_table.specs.Machine.{applied, split_group}
-use Rattle.sc_machine_table.specs.Orders.{locked_in, refusal_of, refused_in, with_node, without_node}
+use Rattle.sc_machine_table.specs.Orders.{locked_in, refusal_of, with_node, without_node}
 use Rattle.sc_machine_table.specs.Plans.{Plan, can_split, split_plan, merge_plan, closing_plan, repart_plan, migrate_plan}
 use Rattle.sc_machine_table.specs.Splits.{staying, left_group, child_of, has_named, is_locked_in}
 use Rattle.sc_machine_table.specs.Transactions.{begun_group, committed, granted, participant_answered, asks_watcher, vote_recorded, released, watch_answered, watch_recorded, is_coordinating}

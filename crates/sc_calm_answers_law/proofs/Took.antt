@@ -46,7 +46,6 @@ use Rattle.sc_calm_answers_law.proofs.Doers.{lead_works, one_not_none}
 use Rattle.sc_calm_answers_law.proofs.TrueGoing.{has_asked, has_done, has_new}
 use Rattle.sc_calm_answers_law.proofs.TrueQuiet.{stands_there}
 use Rattle.sc_calm_answers_law.proofs.Stepping.{Aside, Fate, Leading, Missed, New, Same, fate}
-use Rattle.sc_calm_rows_law.proofs.Beginning.{none_some}
 use Rattle.sc_calm_answers_law.proofs.Opened.{no_asking}
 
 -- one at rest has no work

@@ -51,7 +51,6 @@ use Rattle.sc_calm_scenes_law.proofs.Viewing.{tell}
 use Rattle.sc_cmd.specs.declared.cores.Lock.TheVariants.{Promised, Watching}
 use Rattle.sc_cmd.specs.declared.votes.No.TheVariants.{Apart}
 use Rattle.sc_log_law.specs.Findings.{AreItsLogs}
-use Rattle.sc_machine_table.specs.Logs.{state_after}
 use Rattle.sc_machine_table.specs.Plans.{merged_link}
 use Rattle.sc_machine_table.specs.Splits.{right_link}
 use Rattle.sc_machine_table.specs.Votes.{vote_of}
@@ -62,7 +61,7 @@ use Rattle.sc_sound.specs.GroupsOf.{world_at}
 use Rattle.sc_sound.specs.Players.{Lawful, Player, schedule, system_of}
 use Rattle.sc_sound.specs.Soundness.{IsOneMap}
 use Rattle.sc_whole_law.specs.Valid.{ValidEntriesAreLogs, ValidJournalsAreSound}
-use Rattle.sc_calm_answers_law.specs.Deeds.{AreDeeds, Doer, HasDone, Promising, doer, heard_doer, opened}
+use Rattle.sc_calm_answers_law.specs.Deeds.{Doer, HasDone, Promising, doer, heard_doer, opened}
 use Rattle.sc_calm_answers_law.specs.TrueEntries.{IsAskedOrCast, LeadsSince, VotesAreTrue}
 use Rattle.sc_calm_answers_law.specs.Told.{IsAllowedBy, LockTells, ReplicasTell}
 use Rattle.sc_calm_answers_law.specs.TrueUnder.{IsTrueSince}

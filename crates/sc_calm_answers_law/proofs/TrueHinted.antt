@@ -24,7 +24,7 @@ use Rattle.sc_calm_law.specs.Totals.{Rows}
 use Rattle.sc_calm_answers_law.specs.Votes.{IsTrueEntry}
 use Rattle.sc_calm_orders_law.specs.Parts.{bond_of, work_by, works}
 use Rattle.sc_calm_orders_law.specs.Scenes.{Asking, First, Here, Next, Records, is_watch}
-use Rattle.sc_calm_orders_law.specs.Stages.{Asks, Deal, IsAt, Ordered, Recorded, SentOn, Stage}
+use Rattle.sc_calm_orders_law.specs.Stages.{Asks, IsAt, Ordered, Recorded, SentOn, Stage}
 use Rattle.sc_calm_rows_law.specs.Groups.{view_at}
 use Rattle.sc_calm_rows_law.specs.Turns.{with_event}
 use Rattle.sc_calm_scenes_law.specs.Scenes.{scene_at}

@@ -46,7 +46,6 @@ use Rattle.sc_calm_answers_law.proofs.Parties.{Coordinates}
 use Rattle.sc_calm_answers_law.proofs.Opened.{IsOpened}
 use Rattle.sc_actor.specs.Mail.{mails, numbered}
 use Rattle.std.proofs.lemmas.Option.{same_Some}
-use Rattle.sc_paxos_law.proofs.Among.{Among-either}
 
 module _ (tells : ReplicasTell) (words : ℕ → ℕ → ℕ × ℕ) (scenario : Scenario) (first : Base) (journal quiet rows : Rows) (seat : Seat Player) (number : ℕ) (stage : Stage) (g : GoesOnSince words scenario first journal quiet rows seat number stage)
     (trues : (name : Draw) (node : ℕ) (r : ReplicaState) → view_at (births as_nodes scenario) rows name node ≡ Some r → r.running ≡ true → Each (λ (flight : Flight Command). IsTrueEntry r.me r.group flight.value) r.leader.flights) where

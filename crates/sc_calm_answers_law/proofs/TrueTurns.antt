@@ -9,7 +9,6 @@ use Rattle.sc_cmd.specs.declared.bodies.Offer.{Offer}
 use Rattle.sc_cmd.specs.declared.commands.Command.TheVariants.{Prepared}
 use Rattle.sc_cmd.specs.declared.cores.Core.{Core}
 use Rattle.sc_cmd.specs.declared.cores.Lock.TheVariants.{Coordinating}
-use Rattle.sc_node_table.specs.Replica.{ReplicaState}
 use Rattle.sc_ring_law.specs.Stories.{Story, offer_for, offer_with, unsigned}
 use Rattle.sc_scenario.specs.declared.scenarios.Scenario.{Scenario}
 use Rattle.sc_calm_law.specs.Totals.{Rows}
@@ -18,7 +17,6 @@ use Rattle.sc_calm_orders_law.specs.Scenes.{Asking, First, Lone, Next, Records, 
 use Rattle.sc_calm_answers_law.specs.Told.{IsAllowedBy}
 use Rattle.sc_calm_answers_law.proofs.Fits.{none_of}
 use Rattle.sc_calm_answers_law.proofs.Opened.{opening_refused}
-use Rattle.std.proofs.lemmas.Option.{same_Some}
 
 -- ---- names and turns
 

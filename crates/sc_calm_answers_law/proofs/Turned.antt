@@ -1,7 +1,6 @@
 -- What an event of a player does to its replica of a group that is well led: nothing, or the replica is born or made, or takes a mail or an order.
 use Rattle.std.proofs.Common.{◌≡◌, ℕ, true≢false, List, [], Option, Some, None, inl, inr, refl, sym, ◌∙◌, ap, subst, append-nil}
 use Rattle.std.proofs.lemmas.Bool.{cases_Bool}
-use Rattle.sc_base.specs.Among.{Each}
 use Rattle.sc_base.specs.Same.{same_draw}
 use Rattle.sc_base.specs.declared.names.Draw.{Draw}
 use Rattle.sc_base.proofs.NameLemmas.{draw_is, same_name}
@@ -32,13 +31,12 @@ use Rattle.sc_following_law.specs.Hints.{Tellers}
 use Rattle.sc_calm_rows_law.specs.Groups.{view_at, mark_in, taken_mark, begun_course}
 use Rattle.sc_calm_rows_law.specs.Mailed.{TakesMail, HoldsReplica}
 use Rattle.sc_calm_rows_law.specs.Turns.{IsSeat, with_event, IsReplicasRow, LeavesAlone, LeavesOrBears}
-use Rattle.sc_calm_rows_law.specs.WellKept.{IsWellKept}
 use Rattle.sc_calm_rows_law.proofs.Turning.{others_idle, rows_replicas}
 use Rattle.sc_calm_rows_law.proofs.Viewing.{view_was}
 use Rattle.sc_calm_rows_law.proofs.WellNodes.{Plays, Found, found_well, replay_well}
 use Rattle.sc_calm_groups_law.specs.Led.{Ends}
 use Rattle.sc_calm_groups_law.specs.Logged.{IsLogsState}
-use Rattle.sc_calm_groups_law.specs.Through.{IsWellPlayer, AreWellBorn, Delivers, HasOneLog, IsSentSo}
+use Rattle.sc_calm_groups_law.specs.Through.{AreWellBorn, Delivers, HasOneLog, IsSentSo}
 use Rattle.sc_calm_answers_law.proofs.Playing.{plays_of}
 
 -- a node of a seat takes this mail of the group, for its replica

@@ -16,7 +16,7 @@ use Rattle.sc_client_table.specs.Table.{table}
 use Rattle.sc_orderly_law.proofs.Seats.{seat_found}
 use Rattle.sc_paxos_law.proofs.Among.{Among-either, from_map}
 use Rattle.sc_paxos_words.proofs.ListLemmas.{find_found}
-use Rattle.sc_node_table.specs.Node.{NodeState, replica_of, born_node}
+use Rattle.sc_node_table.specs.Node.{replica_of, born_node}
 use Rattle.sc_node_table.specs.Replica.{ReplicaState}
 use Rattle.sc_node_table.specs.Slots.{numbers_from}
 use Rattle.sc_scenario.specs.declared.scenarios.Asks.{Asks}

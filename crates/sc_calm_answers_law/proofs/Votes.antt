@@ -55,8 +55,7 @@ use Rattle.sc_mail.specs.declared.bodies.Mail.{Mail}
 use Rattle.sc_mail.specs.declared.bodies.MailBody.TheVariants.{Accepted}
 use Rattle.sc_base.specs.Roster.{least_of}
 use Rattle.sc_node_table.specs.Node.{NodeState}
-use Rattle.sc_node_table.specs.Pump.{is_act}
-use Rattle.sc_node_table.specs.Replica.{Place, ReplicaState, listed, next}
+use Rattle.sc_node_table.specs.Replica.{Place, ReplicaState, next}
 use Rattle.sc_node_table.specs.Rows.{mailed}
 use Rattle.sc_paxos_words.proofs.ListLemmas.{Each-among, find_found}
 use Rattle.sc_paxos_words.specs.Leaders.{flight_at}

@@ -42,7 +42,7 @@ use Rattle.sc_calm_rows_law.proofs.Hearing.{names_stay}
 use Rattle.sc_calm_rows_law.proofs.Turning.{found_name, rows_replicas}
 use Rattle.sc_calm_rows_law.proofs.Viewing.{view_was, sent_is}
 use Rattle.sc_calm_rows_law.proofs.WellNodes.{Plays, Found, found_well, replay_well}
-use Rattle.sc_calm_groups_law.specs.Through.{IsWellPlayer, ScenariosAreWellBorn}
+use Rattle.sc_calm_groups_law.specs.Through.{ScenariosAreWellBorn}
 use Rattle.sc_law_lemmas.proofs.Ways.{either_way}
 use Rattle.sc_calm_scenes_law.proofs.Fresh.{client_leaves}
 use Rattle.sc_calm_scenes_law.proofs.Taking.{now_is, all_sent}

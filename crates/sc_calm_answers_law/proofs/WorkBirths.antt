@@ -1,5 +1,5 @@
 -- Which children a group knows to have borne: it forgets none, and knows each that an entry bears.
-use Rattle.std.proofs.Common.{◌≡◌, ◌⊎◌, ℕ, ◌&&◌, ◌||◌, not, nat_le, nat_lt, eqb, length, Bool, true, false, true≢false, cond, List, [], ◌∷◌, ◌++◌, Option, Some, None, inl, inr, refl, sym, ◌∙◌, ap, subst}
+use Rattle.std.proofs.Common.{◌≡◌, ◌⊎◌, ℕ, ◌&&◌, ◌||◌, not, nat_le, length, Bool, true, false, true≢false, cond, List, [], ◌∷◌, ◌++◌, Option, Some, None, inl, inr, refl, sym, ◌∙◌, ap, subst}
 use Rattle.std.specs.List.{list_any}
 use Rattle.std.proofs.lemmas.Bool.{cond_both}
 use Rattle.sc_base.specs.Same.{same_draw}
@@ -15,7 +15,7 @@ use Rattle.sc_cmd.specs.declared.cores.Base.{Base}
 use Rattle.sc_cmd.specs.declared.cores.Lock.{Lock}
 use Rattle.sc_cmd.specs.declared.cores.Lock.TheVariants.{Free, Coordinating, Promised, Watching}
 use Rattle.sc_cmd.specs.declared.effects.Effect.{Effect}
-use Rattle.sc_cmd.specs.declared.effects.Effect.TheVariants.{NoEffect, Again, Stale}
+use Rattle.sc_cmd.specs.declared.effects.Effect.TheVariants.{NoEffect}
 use Rattle.sc_cmd.specs.declared.votes.Outcome.TheVariants as Is
 use Rattle.sc_cmd.specs.declared.links.Route.{Route}
 use Rattle.sc_cmd.specs.declared.orders.OrderRefusal.{OrderRefusal}
@@ -29,13 +29,9 @@ use Rattle.sc_cmd.specs.declared.votes.Frozen.{Frozen}
 use Rattle.sc_machine_table.specs.Children.{ordered_child, answered_child, watched_child, child_by}
 use Rattle.sc_machine_table.specs.Finishes.{participant_after, moved, can_gain, gained_group, lost_group, welcomed_group, settled_in, watch_ended, finished}
 use Rattle.sc_machine_table.specs.Group.{Group}
-use Rattle.sc_machine_table.specs.Machine.{served_by_note, served, called, applied, split_group}
+use Rattle.sc_machine_table.specs.Machine.{applied, split_group}
 use Rattle.sc_machine_table.specs.Plans.{Plan, can_cut, has_key_of, taken, can_split, may_merge, merge_plan, closing_plan, can_repart, giving_plan, taking_plan, repart_plan, can_migrate, migrate_plan}
 use Rattle.sc_base.specs.Arc.{holds}
-use Rattle.sc_base.specs.declared.ops.Noted.{Noted}
-use Rattle.sc_base.specs.declared.ops.Op.{Op}
-use Rattle.sc_ideal.specs.IdealStore.{key_of, holds_key}
-use Rattle.std.specs.FinMap.{get}
 use Rattle.sc_cmd.specs.declared.votes.Gift.{Gift}
 use Rattle.sc_cmd.specs.declared.cores.Core.{Core}
 use Rattle.sc_base.specs.Union.{united}
@@ -43,7 +39,7 @@ use Rattle.sc_machine_table.specs.Orders.{refusal_of, with_node, without_node, o
 use Rattle.sc_machine_table.specs.Splits.{left_group, right_members, child_of, has_named}
 use Rattle.sc_machine_table.specs.Transactions.{begun_group, committed, granted, participant_answered, asks_watcher, vote_recorded, watch_answered, watch_recorded, is_coordinating}
 use Rattle.sc_machine_table.specs.Votes.{has_voted}
-use Rattle.sc_calm_answers_law.proofs.Cores.{called_core, numbered_core, served_core}
+use Rattle.sc_calm_answers_law.proofs.Cores.{called_core}
 use Rattle.sc_ring_law.proofs.Notes.{any_keeps, any_new}
 
 -- a group's own part of a step

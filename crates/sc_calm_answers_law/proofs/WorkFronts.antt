@@ -1,6 +1,5 @@
 -- What stands at groups is kept from the order on, front by front.
-use Rattle.std.proofs.Common.{◌≡◌, ◌⊎◌, ℕ, eqb, Bool, true, false, List, [], ◌∷◌, drop, Some, inl, inr, refl, sym, ◌∙◌, ap, subst}
-use Rattle.std.specs.List.{filter}
+use Rattle.std.proofs.Common.{◌≡◌, ◌⊎◌, ℕ, eqb, Bool, true, false, List, [], drop, Some, inl, inr, refl, sym, ◌∙◌, ap, subst}
 use Rattle.std.proofs.lemmas.Bool.{cases_Bool, eq-eqb, eqb-true}
 use Rattle.sc_base.specs.Among.{Each}
 use Rattle.sc_base.specs.declared.names.Draw.{Draw}
@@ -27,7 +26,6 @@ use Rattle.sc_scenario.specs.declared.scenarios.Scenario.{Scenario}
 use Rattle.sc_node_table.specs.Node.{NodeState, replica_of}
 use Rattle.sc_node_table.specs.Replica.{ReplicaState}
 use Rattle.sc_node_table.specs.Rows.{mailed}
-use Rattle.sc_law_lemmas.proofs.Ways.{either_way}
 use Rattle.sc_sound.specs.Players.{Player, player_table, births, as_nodes}
 use Rattle.sc_calm_law.specs.Charts.{players}
 use Rattle.sc_calm_law.specs.Totals.{Rows}

@@ -49,7 +49,7 @@ use Rattle.sc_calm_rows_law.proofs.Viewing.{view_was, sent_is}
 use Rattle.sc_calm_rows_law.proofs.WellNodes.{Plays, Found, found_well, replay_well}
 use Rattle.sc_calm_groups_law.specs.Led.{dated_at}
 use Rattle.sc_calm_groups_law.specs.Mailed.{IsLedScene}
-use Rattle.sc_calm_groups_law.specs.Through.{IsWellPlayer, Delivers, ScenariosAreWellBorn}
+use Rattle.sc_calm_groups_law.specs.Through.{Delivers, ScenariosAreWellBorn}
 use Rattle.sc_calm_groups_law.proofs.Mails.{scene}
 use Rattle.sc_calm_groups_law.proofs.Dating.{dated_in, taken_dated, rows_dated}
 use Rattle.sc_calm_answers_law.specs.Guided.{IsGuided, IsNamedGuide}
@@ -66,7 +66,6 @@ use Rattle.sc_calm_answers_law.proofs.Unborn.{IsUnborn, made_unborn}
 use Rattle.sc_calm_answers_law.proofs.Taking.{Hears, mailed_fine, mailed_kids, made_fine}
 use Rattle.std.proofs.lemmas.Option.{same_Some}
 use Rattle.sc_calm_answers_law.proofs.Playing.{plays_of}
-use Rattle.sc_calm_rows_law.proofs.Beginning.{none_some}
 
 -- what holds of a replica at a front, but its name and what its leader counted
 abbrev pub HeldSo : Affair → Draw → ReplicaState → Type 0

@@ -1,4 +1,4 @@
--- A plain scenario at its budget is answered, where no device fails and memory is not short.
+-- A plain scenario at its budget is answered, and so is a calm one, where no device fails and memory is not short.
 use Rattle.std.specs.Prelude.{◌≡◌, ◌⊎◌, ℕ, List, Option, None, Some, Ok}
 use Rattle.sc_edges.specs.Causes.{Rose}
 use Rattle.sc_edges.specs.Uses.{SourceUse, SinkUse}
@@ -9,6 +9,7 @@ use Rattle.sc_scenario.specs.Grammar.{verdict_of}
 use Rattle.sc_scenario.specs.Made.{made_scenario}
 use Rattle.sc_scenario.specs.declared.scenarios.Scenario.{Scenario}
 use Rattle.sc_budget_law.specs.Budget.{IsAtBudget, AreAnswered}
+use Rattle.sc_budget_law.specs.Calm.{IsCalmAtBudget}
 use Rattle.sc_command_line.specs.Subcommands.{subcommand_by}
 use Rattle.sc_command_line.specs.declared.subcommands.Subcommand.{Subcommand}
 use Rattle.sc_command_line.specs.declared.subcommands.Subcommand.TheVariants as ask
@@ -36,13 +37,25 @@ pub record AnswersAll (scenario : Scenario) (done : Done) : Type 0 where
   pub journal_is : done.journal ≡ Some journal
   pub answered : AreAnswered scenario journal
 
--- Where words ask for a scenario that is plain and at its budget, and no fault of the source or the sink rose, a run answers all; or memory was short.
-abbrev pub AnswersWithinBudget : List (List ℕ) → SourceUse → SinkUse → Done → Type 0
-AnswersWithinBudget words source sink done =
-    (scenario : Scenario) → IsAskedFor (subcommand_by words) source scenario → IsAtBudget scenario
+-- Where words ask for a scenario of this kind, and no fault of the source or the sink rose, a run answers all; or its status is one of these.
+abbrev pub AnswersWhere : (Scenario → Type 0) → (ℕ → Type 0) → List (List ℕ) → SourceUse → SinkUse → Done → Type 0
+AnswersWhere IsSuch May words source sink done =
+    (scenario : Scenario) → IsAskedFor (subcommand_by words) source scenario → IsSuch scenario
     → (Rose source.faults_before source.faults_after → ⊥) → (Rose sink.faults_before sink.faults_after → ⊥)
-    → AnswersAll scenario done ⊎ (done.status ≡ 8)
+    → AnswersAll scenario done ⊎ May done.status
+
+-- Where the scenario is plain and at its budget, a run answers all; or memory was short.
+abbrev pub AnswersWithinBudget : List (List ℕ) → SourceUse → SinkUse → Done → Type 0
+AnswersWithinBudget words source sink done = AnswersWhere IsAtBudget (λ status. status ≡ 8) words source sink done
+
+-- Where the scenario is calm and at its budget, a run answers all; or its journal is full, or memory was short.
+abbrev pub AnswersCalmly : List (List ℕ) → SourceUse → SinkUse → Done → Type 0
+AnswersCalmly words source sink done = AnswersWhere IsCalmAtBudget (λ status. (status ≡ 7) ⊎ (status ≡ 8)) words source sink done
 
 -- whatever runs answers within the budget
 abbrev pub RunsAnswerWithinBudget : Type 0
 RunsAnswerWithinBudget = (words : List (List ℕ)) (source : SourceUse) (sink : SinkUse) (done : Done) → Runs words source sink done → AnswersWithinBudget words source sink done
+
+-- whatever runs answers calmly
+abbrev pub RunsAnswerCalmly : Type 0
+RunsAnswerCalmly = (words : List (List ℕ)) (source : SourceUse) (sink : SinkUse) (done : Done) → Runs words source sink done → AnswersCalmly words source sink done

@@ -2,10 +2,10 @@
 ghost use Rattle.std.specs.Prelude.{◌≡◌, ◌≤◌, ◌+◌, map, false, string_bytes};
 ghost use Rattle.sc_command_line.specs.Subcommands.{reads_input};
 ghost use Rattle.sc_command_line.specs.Inputs.{most_takes};
-ghost use Rattle.sc_run.specs.Answers.{AnswersWithinBudget};
+ghost use Rattle.sc_run.specs.Answers.{AnswersCalmly, AnswersWithinBudget};
 ghost use Rattle.sc_run.specs.Run.{Runs};
 
-use crate::answering::runs_answer_within_budget;
+use crate::answering::{runs_answer_calmly, runs_answer_within_budget};
 use crate::done::{Done, Text};
 use crate::saying::say;
 use sc_actor::Gate;
@@ -80,7 +80,8 @@ fn say_and_print<S: Source, K: Sink, G: Gate, R: Threads + Wait + Sync>(
 ///
 /// Where the scenario is plain and at its budget and no fault of the source or the sink rises, the
 /// status is 0, or 8 where memory is short; with 0 every request of a client whose go line has a
-/// line of deliveries after it is answered.
+/// line of deliveries after it is answered. Where it is calm and at its budget the same holds, but
+/// that the status may also be 7, where its journal is full.
 pub fn run<S: Source, K: Sink, G: Gate, R: Threads + Wait + Sync>(
     rt: &R,
     alloc: Global,
@@ -123,11 +124,29 @@ pub fn run<S: Source, K: Sink, G: Gate, R: Threads + Wait + Sync>(
           calls_after = K.calls output.new;
         })
         result }
+    ensures calm { AnswersCalmly (map string_bytes words.now.items)
+        (record {
+          left = S.left input.old;
+          faults_before = S.faults input.old;
+          faults_after = S.faults input.new;
+        })
+        (record {
+          held_before = K.held output.old;
+          held_after = K.held output.new;
+          pieces_before = K.pieces output.old;
+          pieces_after = K.pieces output.new;
+          faults_before = K.faults output.old;
+          faults_after = K.faults output.new;
+          calls_before = K.calls output.old;
+          calls_after = K.calls output.new;
+        })
+        result }
     ensures unread { reads_input (map string_bytes words.now.items) ≡ false →
         input.new ≡ input.old }
     ensures takes { S.calls input.new ≤ S.calls input.old
         + most_takes (map string_bytes words.now.items) }
 {
     runs_answer_within_budget();
+    runs_answer_calmly();
     say_and_print(rt, alloc, words, input, output, gate)
 }
