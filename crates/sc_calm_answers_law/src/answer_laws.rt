@@ -37,16 +37,16 @@ pub fn calm_lines_end_quiet()
     plain_lines_end_quiet();
 }
 
-/// Before the first row of a valid scenario all is quiet: each group is led by its first member, and
-/// each of its members is up to date, no client was told to go, and no mail is left.
+/// Before the first row of a valid scenario all is quiet: each group is led by its first member,
+/// and each of its members is up to date, no client was told to go, and no mail is left.
 pub fn quiet_journals_begin()
     ensures { QuietJournalsBegin }
 {
     valid_scenarios_are_bounded();
 }
 
-/// A journal of a valid calm scenario at its budget has few rows, so slots and rounds are left in each:
-/// its budget is no more than a line may deliver, and so it gives few orders.
+/// A journal of a valid calm scenario at its budget has few rows, so slots and rounds are left in
+/// each: its budget is no more than a line may deliver, and so it gives few orders.
 pub fn calm_journals_are_short()
     ensures { CalmJournalsAreShort }
 {

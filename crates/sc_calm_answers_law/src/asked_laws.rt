@@ -30,8 +30,8 @@ use sc_calm_mail_law::{replicas_last, slots_are_left};
 use sc_scenario::valid_scenarios_are_bounded;
 use sc_whole_law::{valid_entries_are_logs, valid_journals_are_sound};
 
-/// A quiet front that rests is known as requests need it, where ways may be longer by one than orders
-/// were told.
+/// A quiet front that rests is known as requests need it, where ways may be longer by one than
+/// orders were told.
 pub fn resting_fronts_are_known()
     ensures { RestingFrontsAreKnown }
 {
@@ -83,8 +83,8 @@ pub fn asked_rows_go_on()
     requests_stay_asked();
 }
 
-/// Whatever comes next finds what keeps the journal calm, where no client is sent on more often than
-/// any.
+/// Whatever comes next finds what keeps the journal calm, where no client is sent on more often
+/// than any.
 pub fn asked_rows_find_calm()
     ensures { AskedRowsFindCalm }
 {

@@ -86,7 +86,8 @@ pub fn orders_rows_meet()
     ensures { OrdersRowsMeet }
 {}
 
-/// Each row of such a journal finds what an order needs, where the children that it makes are young.
+/// Each row of such a journal finds what an order needs, where the children that it makes are
+/// young.
 pub fn orders_rows_find()
     ensures { OrdersRowsFind }
 {}

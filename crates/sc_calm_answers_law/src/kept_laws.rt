@@ -39,7 +39,8 @@ pub fn stages_ask()
     scenes_tell();
 }
 
-/// Each delivery while an order is under way finds what keeps a journal calm, where its mail is known.
+/// Each delivery while an order is under way finds what keeps a journal calm, where its mail is
+/// known.
 pub fn order_rows_find_calm()
     ensures { OrderRowsFindCalm }
 {

@@ -50,7 +50,8 @@ pub fn links_were_members()
     names_have_one_owner();
 }
 
-/// No mail ever asks for anything of a group beyond the bound of the course in which it is well led.
+/// No mail ever asks for anything of a group beyond the bound of the course in which it is well
+/// led.
 pub fn groups_are_asked_through()
     ensures { GroupsAreAskedThrough }
 {
@@ -68,8 +69,8 @@ pub fn free_groups_have_arcs()
     names_have_one_owner();
 }
 
-/// The groups of a front of a lawful journal are groups of the journal, and each replica is of one of
-/// them.
+/// The groups of a front of a lawful journal are groups of the journal, and each replica is of one
+/// of them.
 pub fn fronts_are_found()
     ensures { FrontsAreFound }
 {
@@ -203,8 +204,8 @@ pub fn turns_go_on()
     ensures { TurnsGoOn }
 {}
 
-/// So they do in a quiet front, where they did in an earlier one in which no group was bound, and at
-/// most one went since, into one that stands.
+/// So they do in a quiet front, where they did in an earlier one in which no group was bound, and
+/// at most one went since, into one that stands.
 pub fn fronts_go_in_turn()
     ensures { FrontsGoInTurn }
 {

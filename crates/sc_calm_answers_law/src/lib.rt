@@ -1,6 +1,6 @@
-//! That calm scenarios are answered within their budget: no line of deliveries is cut off, and every
-//! request of a client that is served is answered, while orders reshape the ring. Definitions and
-//! laws, no logic.
+//! That calm scenarios are answered within their budget: no line of deliveries is cut off, and
+//! every request of a client that is served is answered, while orders reshape the ring. Definitions
+//! and laws, no logic.
 #![tactic(auto)]
 
 mod answer_laws;

@@ -1,4 +1,5 @@
-//! That the groups that stand in a quiet journal stand round the ring. Definitions and laws, no logic.
+//! That the groups that stand in a quiet journal stand round the ring. Definitions and laws, no
+//! logic.
 ghost use Rattle.sc_calm_answers_law.specs.Cuts.{QuietGroupsHaveCuts};
 ghost use Rattle.sc_calm_answers_law.specs.Round.{StandingGroupsAreRound};
 
@@ -9,9 +10,9 @@ pub fn standing_groups_are_round()
     ensures { StandingGroupsAreRound }
 {}
 
-/// In a quiet journal whose groups are one map the groups that stand are those of the cuts, where each
-/// group of the journal has a replica, and one that has executed as much as any has executed its
-/// whole log.
+/// In a quiet journal whose groups are one map the groups that stand are those of the cuts, where
+/// each group of the journal has a replica, and one that has executed as much as any has executed
+/// its whole log.
 pub fn quiet_groups_have_cuts()
     ensures { QuietGroupsHaveCuts }
 {}

@@ -40,8 +40,8 @@ pub fn quiet_hints_rise()
     ensures { QuietHintsRise }
 {}
 
-/// By each row a group begins one round more at most since a quiet front: its leader stops by an act
-/// alone, which ends the group's part in the order.
+/// By each row a group begins one round more at most since a quiet front: its leader stops by an
+/// act alone, which ends the group's part in the order.
 pub fn rows_keep_round()
     ensures { RowsKeepRound }
 {

@@ -10,8 +10,8 @@ use crate::request_laws::lawful_replicas_are_named_once;
 use sc_calm_charts_law::{ends_fall, led_stand_once};
 use sc_scenario::valid_scenarios_are_bounded;
 
-/// In a quiet lawful journal whose replicas are at nodes of the scenario, the frames of the replicas
-/// that lead are those of the groups that stand.
+/// In a quiet lawful journal whose replicas are at nodes of the scenario, the frames of the
+/// replicas that lead are those of the groups that stand.
 pub fn quiet_journals_have_frames()
     ensures { QuietJournalsHaveFrames }
 {
@@ -25,8 +25,8 @@ pub fn quiet_settings_are_linked()
     ensures { QuietSettingsAreLinked }
 {}
 
-/// The chart after requests behind a quiet journal counts as the setting does which that gives, where
-/// groups go one after another, and of one that is gone all know where it went.
+/// The chart after requests behind a quiet journal counts as the setting does which that gives,
+/// where groups go one after another, and of one that is gone all know where it went.
 pub fn quiet_charts_count()
     ensures { QuietChartsCount }
 {

@@ -99,8 +99,8 @@ pub fn votes_are_true()
     drawn_names_are_new();
 }
 
-/// So are the votes that a coordinator has in flight: a participant's Yes decides, or asks a watcher
-/// that is another group, and a watcher's vote decides.
+/// So are the votes that a coordinator has in flight: a participant's Yes decides, or asks a
+/// watcher that is another group, and a watcher's vote decides.
 pub fn records_are_true()
     ensures { RecordsAreTrue }
 {
@@ -139,8 +139,8 @@ pub fn settled_orders_begin()
     replicas_tell();
 }
 
-/// Nor is anybody by a delivery, since the leader has one command in flight at most, by which nobody
-/// comes.
+/// Nor is anybody by a delivery, since the leader has one command in flight at most, by which
+/// nobody comes.
 pub fn settled_orders_go_on()
     ensures { SettledOrdersGoOn }
 {

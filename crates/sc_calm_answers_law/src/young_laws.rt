@@ -23,8 +23,8 @@ pub fn young_groups_stay()
     children_are_begun();
 }
 
-/// While an order is under way, nothing of a group comes to a first member that has no replica of it
-/// yet.
+/// While an order is under way, nothing of a group comes to a first member that has no replica of
+/// it yet.
 pub fn groups_are_quiet_while_young()
     ensures { GroupsAreQuietWhileYoung }
 {
