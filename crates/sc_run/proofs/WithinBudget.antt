@@ -1,5 +1,5 @@
 -- A run of a plain scenario at its budget answers every request, and so does one of a calm scenario, unless its journal is full.
-use Rattle.std.proofs.Common.{◌≡◌, ◌⊎◌, ℕ, ◌+◌, List, [], ◌∷◌, ◌++◌, Option, None, Some, Ok, inl, inr, refl, sym, ◌∙◌, ap, subst, arith}
+use Rattle.std.proofs.Common.{◌≡◌, ◌⊎◌, ℕ, List, [], ◌∷◌, ◌++◌, Option, None, Some, Ok, inl, inr, refl, sym, ◌∙◌, ap, subst, arith}
 use Rattle.std.specs.Prelude.{false, IfSome}
 use Rattle.sc_edges.specs.Causes.{Rose}
 use Rattle.sc_edges.specs.Uses.{SourceUse, SinkUse}
