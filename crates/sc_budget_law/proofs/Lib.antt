@@ -45,6 +45,7 @@ pub mod Ends
 pub mod Bytes
 pub mod Light
 pub mod Worked
+pub mod WorkedQuiet
 pub mod RestingFrames
 pub mod CalmKnowing
 pub mod CalmRows

@@ -122,7 +122,7 @@ answered first others groups_are one a is =
     ]
 
 -- the one member is told to leave its group, which is refused
-leave_it : OrderLine
+abbrev pub leave_it : OrderLine
 leave_it = record { number = 1; order = Leave 1 lone_name }
 
 -- the same journal behind that order, each mail with a number more
