@@ -1,10 +1,10 @@
 -- A set stays ascending when a node is put into it or taken out.
-use Rattle.std.proofs.Common.{◌≡◌, ℕ, suc, ◌+◌, ◌<◌, ◌≤◌, true, false, not, eqb, ltb, List, [], ◌∷◌, ◌++◌, length, filter, inl, inr, ap, arith}
+use Rattle.std.proofs.Common.{◌≡◌, ℕ, ◌+◌, ◌<◌, ◌≤◌, true, false, not, eqb, ltb, List, [], ◌∷◌, ◌++◌, length, filter, inl, inr, ap, arith}
 use Rattle.std.specs.List.{All, AllPairs}
 use Rattle.std.specs.List.Sorted.{IsStrictlyIncreasing}
 use Rattle.std.proofs.lemmas.Bool.{cases_Bool, cond-true, cond-false, ltb-true, eqb-true, ne_eqb, not_from_false, not_from_true}
 use Rattle.std.proofs.lemmas.List.Kept.{AllPairs-cons, AllPairs-filter, AllPairs-from_increasing, IsStrictlyIncreasing-filter}
-use Rattle.std.proofs.lemmas.List.Elements.{All-cons, All-tail, All-head, All-append, All-weaker, All-from_get_or, filter_passes}
+use Rattle.std.proofs.lemmas.List.Elements.{All-cons, All-tail, All-head, All-append, All-weaker, filter_passes}
 use Rattle.std.proofs.lemmas.List.{length-append}
 use Rattle.sc_base.specs.Roster.{IsRoster, is_member, with_member, without_member}
 use Rattle.sc_base.proofs.SetLemmas.{split_length, length-filter-le}

@@ -1,6 +1,6 @@
 -- How many nodes the union of two sets has.
-use Rattle.std.proofs.Common.{◌≡◌, ℕ, suc, ◌+◌, ◌<◌, ◌≤◌, Bool, true, false, cond, not, eqb, ltb, ◌||◌, List, [], ◌∷◌, ◌++◌, length, filter, drop, get_or, drop-cons, None, inl, inr, refl, sym, ◌∙◌, ap, arith}
-use Rattle.std.specs.List.{list_any, All}
+use Rattle.std.proofs.Common.{◌≡◌, ℕ, suc, ◌+◌, ◌<◌, ◌≤◌, Bool, true, false, cond, not, eqb, ltb, ◌||◌, List, [], ◌∷◌, length, filter, drop, get_or, drop-cons, None, inl, inr, refl, sym, ◌∙◌, ap, arith}
+use Rattle.std.specs.List.{All}
 use Rattle.std.specs.List.Sorted.{IsStrictlyIncreasing}
 use Rattle.std.proofs.lemmas.Bool.{cases_Bool, cond-true, cond-false, cases_order, lt-ltb, le-ltb, ne_eqb, cond_both}
 use Rattle.std.proofs.lemmas.List.Folds.{list_any-append}

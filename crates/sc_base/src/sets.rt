@@ -139,7 +139,9 @@ impl Members {
 }
 
 impl Dup for Members {
-    fn dup(&self, _alloc: Global) -> Result<Members, OutOfMemory> {
+    fn dup(&self, _alloc: Global) -> Result<Members, OutOfMemory>
+        ensures { result ≡ Ok self.now }
+    {
         Ok(*self)
     }
 }

@@ -1,4 +1,6 @@
 //! What a transaction between groups is to do, and what it asks of its parties.
+ghost use Rattle.std.specs.Prelude.{◌≡◌};
+
 use crate::links::Link;
 use sc_base::{Draw, Dup, Members, OutOfMemory, RingArc, Same};
 use std::alloc::Global;
@@ -40,19 +42,25 @@ pub struct Watch {
 }
 
 impl Dup for Body {
-    fn dup(&self, _alloc: Global) -> Result<Body, OutOfMemory> {
+    fn dup(&self, _alloc: Global) -> Result<Body, OutOfMemory>
+        ensures { result ≡ Ok self.now }
+    {
         Ok(*self)
     }
 }
 
 impl Dup for Offer {
-    fn dup(&self, _alloc: Global) -> Result<Offer, OutOfMemory> {
+    fn dup(&self, _alloc: Global) -> Result<Offer, OutOfMemory>
+        ensures { result ≡ Ok self.now }
+    {
         Ok(*self)
     }
 }
 
 impl Dup for Watch {
-    fn dup(&self, _alloc: Global) -> Result<Watch, OutOfMemory> {
+    fn dup(&self, _alloc: Global) -> Result<Watch, OutOfMemory>
+        ensures { result ≡ Ok self.now }
+    {
         Ok(*self)
     }
 }

@@ -1,4 +1,6 @@
 //! Where a group is, as another group or a client knows it.
+ghost use Rattle.std.specs.Prelude.{◌≡◌};
+
 use sc_base::{Draw, Dup, Members, OutOfMemory, Same, Sequence};
 use std::alloc::Global;
 
@@ -21,13 +23,17 @@ pub struct Route {
 pub type MemberSets = Sequence<Members>;
 
 impl Dup for Link {
-    fn dup(&self, _alloc: Global) -> Result<Link, OutOfMemory> {
+    fn dup(&self, _alloc: Global) -> Result<Link, OutOfMemory>
+        ensures { result ≡ Ok self.now }
+    {
         Ok(*self)
     }
 }
 
 impl Dup for Route {
-    fn dup(&self, _alloc: Global) -> Result<Route, OutOfMemory> {
+    fn dup(&self, _alloc: Global) -> Result<Route, OutOfMemory>
+        ensures { result ≡ Ok self.now }
+    {
         Ok(*self)
     }
 }

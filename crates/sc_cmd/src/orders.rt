@@ -92,25 +92,33 @@ impl OrderRefusal {
 }
 
 impl Dup for Order {
-    fn dup(&self, _alloc: Global) -> Result<Order, OutOfMemory> {
+    fn dup(&self, _alloc: Global) -> Result<Order, OutOfMemory>
+        ensures { result ≡ Ok self.now }
+    {
         Ok(*self)
     }
 }
 
 impl Dup for OrderLine {
-    fn dup(&self, _alloc: Global) -> Result<OrderLine, OutOfMemory> {
+    fn dup(&self, _alloc: Global) -> Result<OrderLine, OutOfMemory>
+        ensures { result ≡ Ok self.now }
+    {
         Ok(*self)
     }
 }
 
 impl Dup for OrderRefusal {
-    fn dup(&self, _alloc: Global) -> Result<OrderRefusal, OutOfMemory> {
+    fn dup(&self, _alloc: Global) -> Result<OrderRefusal, OutOfMemory>
+        ensures { result ≡ Ok self.now }
+    {
         Ok(*self)
     }
 }
 
 impl Dup for ToldResult {
-    fn dup(&self, _alloc: Global) -> Result<ToldResult, OutOfMemory> {
+    fn dup(&self, _alloc: Global) -> Result<ToldResult, OutOfMemory>
+        ensures { result ≡ Ok self.now }
+    {
         Ok(*self)
     }
 }

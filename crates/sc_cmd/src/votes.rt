@@ -1,4 +1,6 @@
 //! What the parties of a transaction answer, and what was decided.
+ghost use Rattle.std.specs.Prelude.{◌≡◌};
+
 use crate::links::{Link, Route};
 use sc_base::{Boxed, Draw, Dup, Members, OutOfMemory, Pairs, RingArc, Same, SeenList, Sequence};
 use std::alloc::Global;
@@ -87,7 +89,9 @@ impl Dup for Heard {
 }
 
 impl Dup for No {
-    fn dup(&self, _alloc: Global) -> Result<No, OutOfMemory> {
+    fn dup(&self, _alloc: Global) -> Result<No, OutOfMemory>
+        ensures { result ≡ Ok self.now }
+    {
         Ok(*self)
     }
 }
@@ -99,7 +103,9 @@ impl Dup for Vote {
 }
 
 impl Dup for Past {
-    fn dup(&self, _alloc: Global) -> Result<Past, OutOfMemory> {
+    fn dup(&self, _alloc: Global) -> Result<Past, OutOfMemory>
+        ensures { result ≡ Ok self.now }
+    {
         Ok(*self)
     }
 }

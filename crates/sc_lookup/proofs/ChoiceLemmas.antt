@@ -1,5 +1,5 @@
 -- The chosen group is the nearest.
-use Rattle.std.proofs.Common.{◌≡◌, ℕ, ◌<◌, ◌≤◌, Bool, true, false, cond, leb, List, [], ◌∷◌, ◌++◌, All, Option, Some, None, fold, length, refl, sym, ap, ◌∙◌, arith, append_assoc, append-nil, subst, zero, suc}
+use Rattle.std.proofs.Common.{◌≡◌, ℕ, ◌<◌, ◌≤◌, true, false, cond, leb, [], ◌∷◌, ◌++◌, All, Some, None, fold, length, refl, ap, arith, append_assoc, append-nil, subst, zero, suc}
 use Rattle.std.specs.Option.{option_map}
 use Rattle.std.proofs.lemmas.Bool.{leb-true, leb-false}
 use Rattle.std.proofs.lemmas.List.Elements.{All-append}

@@ -1,6 +1,6 @@
 -- How the known groups change, and that some group stays known.
-use Rattle.std.proofs.Common.{◌≡◌, ℕ, ◌≤◌, ◌+◌, Bool, true, false, cond, List, [], ◌∷◌, ◌++◌, Option, Some, None, length, length-append, refl, sym, ap, ◌∙◌, arith}
-use Rattle.std.specs.Map.{lookup, set_value, remove_entry}
+use Rattle.std.proofs.Common.{◌≡◌, ℕ, ◌≤◌, Bool, true, false, cond, List, [], ◌∷◌, ◌++◌, Option, Some, None, length, length-append, refl, ap, arith}
+use Rattle.std.specs.Map.{lookup, set_value}
 use Rattle.std.proofs.lemmas.Map.{length-set_value}
 use Rattle.indexmap.specs.IndexMap.{insert_entry}
 use Rattle.sc_base.specs.declared.names.Draw.{Draw}
@@ -18,6 +18,23 @@ set_value-none test (f ∷ es) w e =
       | true ↦ λ h. absurd (cc)
       | false ↦ λ h. ap (λ l. f ∷ l) (set_value-none test es w h)
     ] e
+
+-- to change what is known of one group makes no group known and none unknown
+pub set_value-known : {K X : Type 0} (other test : K → Bool) (es : List (K × X)) (w : X) → is_some (lookup other (set_value test es w)) ≡ is_some (lookup other es)
+set_value-known other test [] w = refl
+set_value-known other test (f ∷ es) w =
+    elim (test f.0) as (λ b. is_some (lookup other (cond b ((f.0, w) ∷ es) (f ∷ set_value test es w))) ≡ is_some (cond (other f.0) (Some f.1) (lookup other es))) [
+      | true ↦
+          elim (other f.0) as (λ o. is_some (cond o (Some w) (lookup other es)) ≡ is_some (cond o (Some f.1) (lookup other es))) [
+            | true ↦ refl
+            | false ↦ refl
+          ]
+      | false ↦
+          elim (other f.0) as (λ o. is_some (cond o (Some f.1) (lookup other (set_value test es w))) ≡ is_some (cond o (Some f.1) (lookup other es))) [
+            | true ↦ refl
+            | false ↦ set_value-known other test es w
+          ]
+    ]
 
 -- a group that was not known goes last
 pub insert_entry-last : {K X : Type 0} (eq : K → K → Bool) (es : List (K × X)) (k : K) (w : X) → lookup (eq k) es ≡ None → insert_entry eq es k w ≡ es ++ (k, w) ∷ []

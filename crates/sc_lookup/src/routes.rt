@@ -1,5 +1,5 @@
 //! The groups that a client knows.
-ghost use Rattle.std.specs.Prelude.{◌≡◌, ◌∷◌, ◌++◌, [], ◌<◌, ◌≤◌, IsOk, IfOk, OnOk, OnErr, None, Some, is_some, length};
+ghost use Rattle.std.specs.Prelude.{◌≡◌, ◌∷◌, ◌++◌, [], ◌<◌, ◌≤◌, IsOk, IfOk, OnOk, OnErr, None, Some, is_some, true, length};
 ghost use Rattle.std.specs.Map.{set_value};
 ghost use Rattle.indexmap.specs.IndexMap.{spare};
 ghost use Rattle.sc_base.specs.Same.{same_draw};
@@ -101,9 +101,11 @@ impl Routes {
     }
 
     /// The group told its arc and its successor: the group's arc starts where the arc does, and the
-    /// successor's at the arc's end. A successor that was not known goes last.
+    /// successor's at the arc's end. A successor that was not known goes last; one that was known
+    /// takes no memory.
     pub fn not_mine(&mut self, group: Draw, arc: &RingArc, succ: &Link) -> Result<(), OutOfMemory>
-        ensures { OnOk result (self.new ≡ told_not_mine group arc.now succ.now self.old) }
+        ensures routes { OnOk result (self.new ≡ told_not_mine group arc.now succ.now self.old) }
+        ensures known { is_some (way_to succ.now.group self.old) ≡ true → IsOk result }
     {
         start_at(&mut self.known, group, arc.lo());
         learn(&mut self.known, succ.group, arc.end(), succ.members)
@@ -158,6 +160,7 @@ fn set_way(known: &mut IndexMap<Draw, Way>, group: Draw, way: Way)
 /// Lets a known group's arc start elsewhere.
 fn start_at(known: &mut IndexMap<Draw, Way>, group: Draw, lo: u32)
     ensures entries { known.new.entries ≡ starting group lo known.old.entries }
+    ensures same { (other : Draw) → is_some (way_to other known.new.entries) ≡ is_some (way_to other known.old.entries) }
     ensures len { length known.new.entries ≡ length known.old.entries }
 {
     if let Some(way) = way_to(known, group) {
@@ -188,6 +191,7 @@ fn learn(
     ensures err { OnErr result (known.new.entries ≡ known.old.entries) }
     ensures some { 1 ≤ length known.old.entries → 1 ≤ length known.new.entries }
     ensures room { 0 < spare known.old → IsOk result }
+    ensures known { is_some (way_to group known.old.entries) ≡ true → IsOk result }
 {
     match way_to(known, group) {
         Some(way) => {

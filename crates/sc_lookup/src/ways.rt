@@ -51,7 +51,9 @@ impl Way {
 }
 
 impl Dup for Way {
-    fn dup(&self, _alloc: Global) -> Result<Way, OutOfMemory> {
+    fn dup(&self, _alloc: Global) -> Result<Way, OutOfMemory>
+        ensures { result ≡ Ok self.now }
+    {
         Ok(*self)
     }
 }
