@@ -41,10 +41,10 @@ at_budget : IsAtBudget put_get_scenario
 at_budget = (tt, (lit≤ tt, tt))
 
 -- with an order before them, three times 48 and 512
-lines_of : OrderLine → List SchedLine
+unfoldable pub lines_of : OrderLine → List SchedLine
 lines_of order = Told 1 order ∷ Settle 656 ∷ Go 1 ∷ Settle 656 ∷ []
 
-ordered : OrderLine → Scenario
+unfoldable pub ordered : OrderLine → Scenario
 ordered order = record put_get_scenario { lines = lines_of order }
 
 calm_budget : (order : OrderLine) → calm_budget_of (ordered order) ≡ 656
@@ -74,7 +74,7 @@ parted order (a ∷ b ∷ []) (c ∷ between) after one other is need = let none
 parted order (a ∷ b ∷ c ∷ []) between after one other is need = let none : [] ≡ between ++ other ∷ after = cc in absurd (ends between after other none)
 parted order (a ∷ b ∷ c ∷ d ∷ before) between after one other is need = let none : [] ≡ before ++ one ∷ between ++ other ∷ after = cc in absurd (ends (before ++ one ∷ between) after other none)
 
-calm_at_budget : (order : OrderLine) → IsCalmAtBudget (ordered order)
+pub calm_at_budget : (order : OrderLine) → IsCalmAtBudget (ordered order)
 unfolding ordered lines_of
 calm_at_budget order = record { lines = (tt, (lit≤ tt, (tt, (lit≤ tt, tt)))); followed = followed order; parted = parted order }
 
@@ -83,7 +83,7 @@ unfolding ordered lines_of
 spaced order = (tt, (tt, tt))
 
 -- the client
-asks : Asks
+unfoldable pub asks : Asks
 asks = record { client = 1; ops = put_it ∷ get_it ∷ [] }
 
 -- at birth two mails of requests are owed, by the client alone

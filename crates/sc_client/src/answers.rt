@@ -1,5 +1,9 @@
 //! What a client makes of answers.
-ghost use Rattle.std.specs.Prelude.{◌≡◌, ◌+◌, ◌++◌, ◌∷◌, [], Some, IfOk};
+ghost use Rattle.std.specs.Prelude.{◌≡◌, ℕ, ◌+◌, ◌++◌, ◌∷◌, [], false, Option, Some, IfOk, IsOk};
+ghost use Rattle.sc_base.specs.declared.names.Draw.{Draw};
+ghost use Rattle.sc_mail.specs.declared.bodies.AnswerBody.{AnswerBody};
+ghost use Rattle.sc_mail.specs.declared.bodies.AnswerBody.TheVariants.{NotLeader};
+ghost use Rattle.sc_mail.specs.declared.bodies.MailBody.TheVariants.{Answer};
 ghost use Rattle.sc_client_table.specs.Table.{answer_taken, got, started, redirected, was_asked, waits_for};
 
 use crate::client::ClientCore;
@@ -8,10 +12,13 @@ use sc_mail::{AnswerBody, Mail, MailBody};
 use std::alloc::Global;
 
 impl ClientCore {
-    /// A mail; one that is no answer to the waiting request is ignored.
+    /// Takes a mail; one that is no answer to the waiting request is ignored, which takes no memory.
     pub(crate) fn got(&mut self, alloc: Global, mail: &Mail) -> Result<Sequence<Mail>, OutOfMemory>
-        ensures { IfOk result
+        ensures sent { IfOk result
             (λ mails. got mail.now.from mail.now.body self.old ≡ (self.new, mails)) }
+        ensures ignored { ((group : Draw) (seq : ℕ) (answer : AnswerBody) →
+            mail.now.body ≡ Answer group seq answer → waits_for self.old.waiting seq ≡ false) →
+            IsOk result }
     {
         match &mail.body {
             MailBody::Answer { group, seq, answer } if self.waits_for(*seq) => {
@@ -85,14 +92,18 @@ impl ClientCore {
         self.start(alloc, seq + 1)
     }
 
-    /// An answer, other than a reply, of the node that was asked.
+    /// Follows an answer, other than a reply, of the node that was asked. Memory is taken only for
+    /// the request that is sent again, and for a group that becomes known.
     fn redirected(
         &mut self,
         alloc: Global,
         group: Draw,
         answer: &AnswerBody,
     ) -> Result<Sequence<Mail>, OutOfMemory>
-        ensures { IfOk result (λ mails. redirected group answer.now self.old ≡ (self.new, mails)) }
+        ensures sent { IfOk result
+            (λ mails. redirected group answer.now self.old ≡ (self.new, mails)) }
+        ensures none { (hint : Option ℕ) → answer.now ≡ NotLeader hint →
+            (redirected group answer.now self.old).1 ≡ [] → IsOk result }
     {
         match answer {
             AnswerBody::NotLeader { hint: Some(node) } => {

@@ -1,5 +1,5 @@
 //! How a client sends its requests.
-ghost use Rattle.std.specs.Prelude.{◌≡◌, ◌∷◌, [], ◌≤◌, IfOk};
+ghost use Rattle.std.specs.Prelude.{◌≡◌, ◌∷◌, [], ◌≤◌, IfOk, IsOk};
 ghost use Rattle.std.specs.Option.{option_map};
 ghost use Rattle.sc_client_table.specs.Client.{waiting_request};
 ghost use Rattle.sc_client_table.specs.Table.{request_of, sent_to, request_sent, started, turned_on, client_ticked};
@@ -52,13 +52,14 @@ impl ClientCore {
         }
     }
 
-    /// The waiting request goes to a group's target.
+    /// Sends the waiting request to a group's target. Where nothing is sent, no memory is taken.
     pub(crate) fn send_to(
         &mut self,
         alloc: Global,
         group: Draw,
     ) -> Result<Sequence<Mail>, OutOfMemory>
-        ensures { IfOk result (λ mails. sent_to group self.old ≡ (self.new, mails)) }
+        ensures sent { IfOk result (λ mails. sent_to group self.old ≡ (self.new, mails)) }
+        ensures none { (sent_to group self.old).1 ≡ [] → IsOk result }
     {
         let Some(target) = self.routes.target(group) else {
             return Ok(Sequence::new(alloc));
@@ -71,9 +72,11 @@ impl ClientCore {
         just(alloc, mail)
     }
 
-    /// The waiting request is sent by a new choice of the group.
+    /// Sends the waiting request by a new choice of the group. Where nothing is sent, no memory is
+    /// taken.
     pub(crate) fn send(&mut self, alloc: Global) -> Result<Sequence<Mail>, OutOfMemory>
-        ensures { IfOk result (λ mails. request_sent self.old ≡ (self.new, mails)) }
+        ensures sent { IfOk result (λ mails. request_sent self.old ≡ (self.new, mails)) }
+        ensures none { (request_sent self.old).1 ≡ [] → IsOk result }
     {
         let Some((_seq, op)) = self.waiting_request() else {
             return Ok(Sequence::new(alloc));
@@ -82,10 +85,11 @@ impl ClientCore {
         self.send_to(alloc, group)
     }
 
-    /// The request with a number is sent, if there is one.
+    /// Sends the request with a number, if there is one. Where nothing is sent, no memory is taken.
     pub(crate) fn start(&mut self, alloc: Global, seq: u32) -> Result<Sequence<Mail>, OutOfMemory>
         requires { 1 ≤ seq }
-        ensures { IfOk result (λ mails. started seq self.old ≡ (self.new, mails)) }
+        ensures sent { IfOk result (λ mails. started seq self.old ≡ (self.new, mails)) }
+        ensures none { (started seq self.old).1 ≡ [] → IsOk result }
     {
         if seq as usize <= self.requests.len() {
             self.waiting = Some(seq);
@@ -95,22 +99,27 @@ impl ClientCore {
         Ok(Sequence::new(alloc))
     }
 
-    /// The member after a group's target becomes the preferred node, and the request goes to it.
+    /// Prefers the member after a group's target, and sends the waiting request to it. Where nothing
+    /// is sent, no memory is taken.
     pub(crate) fn turn_on(
         &mut self,
         alloc: Global,
         group: Draw,
     ) -> Result<Sequence<Mail>, OutOfMemory>
-        ensures { IfOk result (λ mails. turned_on group self.old ≡ (self.new, mails)) }
+        ensures sent { IfOk result (λ mails. turned_on group self.old ≡ (self.new, mails)) }
+        ensures none { (turned_on group self.old).1 ≡ [] → IsOk result }
     {
         self.routes.after(group);
         self.send_to(alloc, group)
     }
 
-    /// With a request waiting, the group last asked is asked again, at the next node.
+    /// Asks the group that was asked last again, at the next node, where a request waits. Where
+    /// nothing is sent, no memory is taken.
     pub(crate) fn tick(&mut self, alloc: Global) -> Result<Sequence<Mail>, OutOfMemory>
-        ensures { IfOk result
+        ensures sent { IfOk result
             (λ mails. client_ticked self.old self.old.waiting self.old.asked ≡ (self.new, mails)) }
+        ensures none { (client_ticked self.old self.old.waiting self.old.asked).1 ≡ [] →
+            IsOk result }
     {
         match (self.waiting, self.asked) {
             (Some(_seq), Some((group, _target))) => self.turn_on(alloc, group),

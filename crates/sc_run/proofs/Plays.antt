@@ -1,5 +1,5 @@
 -- What a driver's answer says of a scenario.
-use Rattle.std.proofs.Common.{◌≡◌, ◌≢◌, ◌<◌, ◌≤◌, ◌^◌, ℕ, List, [], ◌∷◌, length, map, Bool, Some, inl, refl, ◌∙◌, ap, subst, arith}
+use Rattle.std.proofs.Common.{◌≡◌, ◌≢◌, ◌<◌, ◌≤◌, ◌^◌, ℕ, List, [], ◌∷◌, ◌++◌, length, map, Bool, Some, inl, inr, refl, ◌∙◌, ap, subst, arith}
 use Rattle.std.specs.Prelude.{⊤}
 use Rattle.sc_cmd.specs.declared.orders.OrderLine.{OrderLine}
 use Rattle.sc_mail.specs.declared.bodies.Mail.{Mail}
@@ -10,6 +10,7 @@ use Rattle.sc_actor.specs.declared.schedules.Line.{Line}
 use Rattle.sc_actor.specs.Counted.{journal_bytes}
 use Rattle.sc_actor.specs.Mail.{mails}
 use Rattle.sc_actor.proofs.BoundLemmas.{journal_counts}
+use Rattle.sc_actor.proofs.WalkLemmas.{lawful-snoc}
 use Rattle.sc_chance.specs.Words.{two_words}
 use Rattle.sc_actor.specs.Walk.{IsLawful, IsWhole, skipped, unsettled, is_quiet}
 use Rattle.sc_actor.specs.Counted.{IsFull}
@@ -19,13 +20,15 @@ use Rattle.sc_actor.specs.declared.schedules.Played.{Played}
 use Rattle.sc_actor.specs.declared.schedules.Played.TheVariants.{Ended, Full, OutOfMemory}
 use Rattle.sc_scenario.specs.Valid.{IsValid}
 use Rattle.sc_scenario.specs.declared.scenarios.Scenario.{Scenario}
-use Rattle.sc_sound.specs.Players.{schedule, system_of, Lawful, parties, Player, as_nodes}
+use Rattle.sc_sound.specs.Players.{schedule, system_of, Lawful, Whole, parties, Player, as_nodes}
 use Rattle.sc_refusal_law.specs.Journals.{ValidJournalsRefuseWithCause}
 use Rattle.sc_whole_law.specs.Valid.{ValidJournalsAreSound}
 use Rattle.sc_command_line.specs.Causes.{said_of}
+use Rattle.sc_command_line.specs.declared.said.Said.TheVariants.{Filled}
+use Rattle.sc_run.specs.Budgets.{BudgetsSuffice}
 use Rattle.sc_run.specs.declared.done.Text.{Text}
 use Rattle.sc_run.specs.Played.{mail_weight, HasPlayedToEnd, HasFilled}
-use Rattle.sc_run.specs.Run.{journal_limit, Comes}
+use Rattle.sc_run.specs.Run.{journal_limit, Comes, TellsFull}
 
 -- an answer other than a want of memory
 abbrev GoesOn : Played → Type 0
@@ -42,7 +45,7 @@ pub actors_of : {A M O : Type 0} {g : Ghosts A M O} {h : MailGhosts M} (ss : Lis
 actors_of [] = refl
 actors_of (s ∷ ss) = ap (λ rest. s.actor ∷ rest) (actors_of ss)
 
-module _ (law : ValidJournalsAreSound) (causes : ValidJournalsRefuseWithCause) (scenario : Scenario) (valid : IsValid scenario) (lines : List (Line OrderLine)) (lines_are : lines ≡ schedule scenario) (limit : ℕ) (journal : List (Row Mail OrderLine)) where
+module _ (law : ValidJournalsAreSound) (causes : ValidJournalsRefuseWithCause) (budgets : BudgetsSuffice) (scenario : Scenario) (valid : IsValid scenario) (lines : List (Line OrderLine)) (lines_are : lines ≡ schedule scenario) (limit : ℕ) (journal : List (Row Mail OrderLine)) where
   -- a driver's end is a play's
   pub ends : (cut quiet : Bool) (skips : ℕ) (left : List Player) →
       IsLawful (system_of as_nodes two_words scenario) lines journal → IsWhole (system_of as_nodes two_words scenario) lines journal → journal_bytes mail_weight journal ≤ limit →
@@ -50,23 +53,36 @@ module _ (law : ValidJournalsAreSound) (causes : ValidJournalsRefuseWithCause) (
       left ≡ parties as_nodes scenario journal → HasPlayedToEnd scenario limit cut quiet skips journal left
   ends cut quiet skips left lawful whole within cut_is quiet_is skips_are parties_are =
       let allowed : Lawful as_nodes two_words scenario journal = subst (λ l. IsLawful (system_of as_nodes two_words scenario) l journal) lines_are lawful in
+      let through : Whole as_nodes two_words scenario journal = subst (λ l. IsWhole (system_of as_nodes two_words scenario) l journal) lines_are whole in
+      let same_cut = cut_is ∙ ap (λ l. unsettled (system_of as_nodes two_words scenario) l journal) lines_are in
       record {
         lawful = allowed;
-        whole = subst (λ l. IsWhole (system_of as_nodes two_words scenario) l journal) lines_are whole;
+        whole = through;
         sound = law as_nodes refl two_words scenario valid journal allowed;
         refuses = causes as_nodes refl two_words scenario valid journal allowed;
         within = within;
-        cut_is = cut_is ∙ ap (λ l. unsettled (system_of as_nodes two_words scenario) l journal) lines_are;
+        cut_is = same_cut;
         quiet_is = quiet_is;
         skips_are = skips_are ∙ ap (λ l. skipped (system_of as_nodes two_words scenario) l journal) lines_are;
         parties_are = parties_are;
+        settled = λ within. same_cut ∙ budgets.settled two_words scenario journal valid within allowed;
+        answered = λ within. budgets.answered two_words scenario journal valid within allowed through;
       }
 
   -- a journal that a driver has filled is a play's
   pub fills : IsFull (system_of as_nodes two_words scenario) mail_weight lines limit journal → HasFilled scenario limit journal
   fills h =
       let full : IsFull (system_of as_nodes two_words scenario) mail_weight (schedule scenario) limit journal = subst (λ l. IsFull (system_of as_nodes two_words scenario) mail_weight l limit journal) lines_are h in
-      record { full = full; sound = law as_nodes refl two_words scenario valid journal full.lawful; refuses = causes as_nodes refl two_words scenario valid journal full.lawful }
+      record {
+        full = full;
+        sound = law as_nodes refl two_words scenario valid journal full.lawful;
+        refuses = causes as_nodes refl two_words scenario valid journal full.lawful;
+        below = λ plain.
+            let longer = lawful-snoc (system_of as_nodes two_words scenario) (schedule scenario) journal full.row full.lawful full.next in
+            let low = budgets.light two_words scenario (journal ++ full.row ∷ []) valid plain longer in
+            let high = full.passes in
+            omega (arith, low, high);
+      }
 
 -- the text of a run that ended
 pub comes_ended : (Shows : List (Row Mail OrderLine) → List (List ℕ) → Type 0) (scenario : Scenario) (cut quiet : Bool) (skips : ℕ) (journal : List (Row Mail OrderLine)) (parties : List Player) (text : Text) →
@@ -75,6 +91,18 @@ comes_ended Shows scenario cut quiet skips journal parties text e lines journal_
   journal = journal;
   reports = record { lawful = e.lawful; whole = e.whole; within = e.within; sound = e.sound; refuses = e.refuses; lines = lines; journal_is = journal_is; parties_are = parties_is ∙ e.parties_are };
   said_is = ap said_of e.cut_is;
+  settled = λ within. ap said_of (e.settled within);
+  answered = e.answered;
+})
+
+-- the text of a run whose journal is full
+pub comes_full : (Shows : List (Row Mail OrderLine) → List (List ℕ) → Type 0) (scenario : Scenario) (journal : List (Row Mail OrderLine)) (text : Text) → HasFilled scenario journal_limit journal → TellsFull journal text → Comes Shows scenario Filled text
+comes_full Shows scenario journal text filled tells = inr (record {
+  journal = journal;
+  filled = filled;
+  tells = tells;
+  said_is = refl;
+  not_plain = λ plain. let low = filled.below plain in omega (arith, low);
 })
 
 -- the rows of a run that ended are few, and so are their mails

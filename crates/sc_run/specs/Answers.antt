@@ -1,4 +1,4 @@
--- A plain scenario at its budget is answered, and so is a calm one, where no device fails and memory is not short.
+-- What a run does. Where no read or write error comes and memory suffices, it answers a plain scenario at its budget, and a calm one.
 use Rattle.std.specs.Prelude.{◌≡◌, ◌⊎◌, ℕ, List, Option, None, Some, Ok}
 use Rattle.sc_edges.specs.Causes.{Rose}
 use Rattle.sc_edges.specs.Uses.{SourceUse, SinkUse}
@@ -14,7 +14,7 @@ use Rattle.sc_command_line.specs.Subcommands.{subcommand_by}
 use Rattle.sc_command_line.specs.declared.subcommands.Subcommand.{Subcommand}
 use Rattle.sc_command_line.specs.declared.subcommands.Subcommand.TheVariants as ask
 use Rattle.sc_run.specs.declared.done.Done.{Done}
-use Rattle.sc_run.specs.Run.{Runs}
+use Rattle.sc_run.specs.Run.{Ends}
 
 -- the input, which the source tells, is the text of this scenario
 abbrev pub IsText : SourceUse → Scenario → Type 0
@@ -30,32 +30,30 @@ IsAskedFor (Some ask.Pool) source scenario = IsText source scenario
 IsAskedFor (Some (ask.Scan sight)) source scenario = IsText source scenario
 IsAskedFor (Some (ask.Make n seed)) source scenario = scenario ≡ made_scenario n seed
 
--- the status is 0, and in the journal that is handed back every request of a client that is served is answered
+-- the status is 0, and in the journal that is handed back every request of a client whose `go` line is followed by a line of deliveries is answered
 pub record AnswersAll (scenario : Scenario) (done : Done) : Type 0 where
   pub status : done.status ≡ 0
   pub journal : List (Row Mail OrderLine)
   pub journal_is : done.journal ≡ Some journal
   pub answered : AreAnswered scenario journal
 
--- Where words ask for a scenario of this kind, and no fault of the source or the sink rose, a run answers all; or its status is one of these.
+-- Where words ask for a scenario of this kind, and no read or write error came, a run answers all; or its status is one of these.
 abbrev pub AnswersWhere : (Scenario → Type 0) → (ℕ → Type 0) → List (List ℕ) → SourceUse → SinkUse → Done → Type 0
 AnswersWhere IsSuch May words source sink done =
     (scenario : Scenario) → IsAskedFor (subcommand_by words) source scenario → IsSuch scenario
     → (Rose source.faults_before source.faults_after → ⊥) → (Rose sink.faults_before sink.faults_after → ⊥)
     → AnswersAll scenario done ⊎ May done.status
 
--- Where the scenario is plain and at its budget, a run answers all; or memory was short.
+-- Where the scenario is plain and at its budget, a run answers all; or it ran out of memory.
 abbrev pub AnswersWithinBudget : List (List ℕ) → SourceUse → SinkUse → Done → Type 0
 AnswersWithinBudget words source sink done = AnswersWhere IsAtBudget (λ status. status ≡ 8) words source sink done
 
--- Where the scenario is calm and at its budget, a run answers all; or its journal is full, or memory was short.
+-- Where the scenario is calm and at its budget, a run answers all; or its journal is full, or it ran out of memory.
 abbrev pub AnswersCalmly : List (List ℕ) → SourceUse → SinkUse → Done → Type 0
 AnswersCalmly words source sink done = AnswersWhere IsCalmAtBudget (λ status. (status ≡ 7) ⊎ (status ≡ 8)) words source sink done
 
--- whatever runs answers within the budget
-abbrev pub RunsAnswerWithinBudget : Type 0
-RunsAnswerWithinBudget = (words : List (List ℕ)) (source : SourceUse) (sink : SinkUse) (done : Done) → Runs words source sink done → AnswersWithinBudget words source sink done
-
--- whatever runs answers calmly
-abbrev pub RunsAnswerCalmly : Type 0
-RunsAnswerCalmly = (words : List (List ℕ)) (source : SourceUse) (sink : SinkUse) (done : Done) → Runs words source sink done → AnswersCalmly words source sink done
+-- What a run does: it prints a text whose cause is the words and the input, or it runs out of memory; and it answers all of a scenario at its budget.
+pub record Runs (words : List (List ℕ)) (source : SourceUse) (sink : SinkUse) (done : Done) : Type 0 where
+  pub ends : Ends words source sink done
+  pub budget : AnswersWithinBudget words source sink done
+  pub calm : AnswersCalmly words source sink done

@@ -1,5 +1,6 @@
 pub mod Answers
 pub mod Audited
+pub mod Budgets
 pub mod Played
 pub mod Refusals
 pub mod Run

@@ -1,5 +1,5 @@
 -- What the answer of a play says.
-use Rattle.std.specs.Prelude.{◌≡◌, ℕ, ◌≤◌, List, Bool, ⊤}
+use Rattle.std.specs.Prelude.{◌≡◌, ℕ, ◌<◌, ◌≤◌, ◌^◌, List, Bool, false, ⊤}
 use Rattle.sc_cmd.specs.declared.orders.OrderLine.{OrderLine}
 use Rattle.sc_mail.specs.declared.bodies.Mail.{Mail}
 use Rattle.sc_mail.specs.Weight.{body_weight}
@@ -14,12 +14,14 @@ use Rattle.sc_sound.specs.Players.{system_of, schedule, Lawful, Whole, parties, 
 use Rattle.sc_actor.specs.declared.schedules.Played.{Played}
 use Rattle.sc_actor.specs.declared.schedules.Played.TheVariants.{Ended, Full, OutOfMemory}
 use Rattle.sc_chance.specs.Words.{two_words}
+use Rattle.sc_budget_law.specs.Budget.{IsAtBudget, AreAnswered}
+use Rattle.sc_run.specs.Budgets.{IsWithinBudget}
 
 -- what a mail weighs
 abbrev pub mail_weight : Mail → ℕ
 mail_weight mail = body_weight mail.body
 
--- The journal is lawful and whole and within the limit, each first part of it is sound and each refusal has its cause, the counts are the walk's, and each party is its replay.
+-- The journal is lawful and whole and within the limit, each prefix of it is sound and each refusal has its cause, the counts are the walk's, and each party is its replay. Within its budget no line is cut off, and every request of a client whose `go` line is followed by a line of deliveries is answered.
 pub record HasPlayedToEnd (scenario : Scenario) (limit : ℕ) (cut quiet : Bool) (skips : ℕ) (journal : List (Row Mail OrderLine)) (left : List Player) : Type 0 where
   pub lawful : Lawful as_nodes two_words scenario journal
   pub whole : Whole as_nodes two_words scenario journal
@@ -30,12 +32,15 @@ pub record HasPlayedToEnd (scenario : Scenario) (limit : ℕ) (cut quiet : Bool)
   pub quiet_is : quiet ≡ is_quiet (system_of as_nodes two_words scenario) journal
   pub skips_are : skips ≡ skipped (system_of as_nodes two_words scenario) (schedule scenario) journal
   pub parties_are : left ≡ parties as_nodes scenario journal
+  pub settled : IsWithinBudget scenario → cut ≡ false
+  pub answered : IsWithinBudget scenario → AreAnswered scenario journal
 
--- The journal is lawful and within the limit, each first part of it is sound and each refusal has its cause, and a row that may come next passes the limit.
+-- The journal is lawful and within the limit, each prefix of it is sound and each refusal has its cause, and a row that may come next passes the limit, which no journal of a plain scenario at its budget does unless the limit is below 2^30 bytes.
 pub record HasFilled (scenario : Scenario) (limit : ℕ) (journal : List (Row Mail OrderLine)) : Type 0 where
   pub full : IsFull (system_of as_nodes two_words scenario) mail_weight (schedule scenario) limit journal
   pub sound : IsSoundThroughout as_nodes scenario journal
   pub refuses : RefusesWithCause as_nodes scenario journal
+  pub below : IsAtBudget scenario → limit < 2 ^ 30
 
 -- How a scenario was played within a limit: the journal, and the parties as they were left.
 abbrev pub IsPlayed : Scenario → ℕ → List (Row Mail OrderLine) → List Player → Played → Type 0

@@ -20,6 +20,8 @@ use Rattle.sc_refusal_law.specs.Journals.{RefusesWithCause}
 use Rattle.sc_sound.specs.Players.{system_of, schedule, Lawful, Whole, parties, as_nodes}
 use Rattle.sc_world.specs.Replays.{IsBadRow}
 use Rattle.sc_world.specs.Summary.{summary_of}
+use Rattle.sc_budget_law.specs.Budget.{IsAtBudget, AreAnswered}
+use Rattle.sc_run.specs.Budgets.{IsWithinBudget}
 use Rattle.sc_run.specs.Played.{mail_weight, HasFilled}
 use Rattle.sc_run.specs.Shown.{ShowsScan}
 use Rattle.sc_run.specs.declared.done.Text.{Text}
@@ -32,7 +34,7 @@ use Rattle.sc_command_line.specs.declared.subcommands.Subcommand.TheVariants as 
 use Rattle.sc_command_line.specs.Faults.{fault_text, IsBadText}
 use Rattle.sc_command_line.specs.Inputs.{ReadsFile, ReadsScenario, ReadsText}
 use Rattle.sc_command_line.specs.declared.said.Said.{Said}
-use Rattle.sc_command_line.specs.declared.said.Said.TheVariants.{Filled, Usage, BadScenario, ReadFault, Lawful as Yes, Unlawful as No}
+use Rattle.sc_command_line.specs.declared.said.Said.TheVariants.{Ended, Filled, Usage, BadScenario, ReadFault, Lawful as Yes, Unlawful as No}
 use Rattle.sc_chance.specs.Words.{two_words}
 use Rattle.sc_lines.specs.declared.reasons.Reason.{Reason}
 
@@ -68,7 +70,7 @@ ShowsReport scenario journal lines = lines ≡ report_lines (summary_of scenario
 abbrev pub ShowsFile : List ℕ → List (Row Mail OrderLine) → List (List ℕ) → Type 0
 ShowsFile text journal lines = (lines ≡ file_lines text journal) × Each IsHeld journal
 
--- The text shows a journal of a scenario that is lawful, whole and within the limit, of which each first part is sound and each refusal has its cause, and the parties are the replays of their rows.
+-- The text shows a journal of a scenario that is lawful, whole and within the limit, of which each prefix is sound and each refusal has its cause, and the parties are the replays of their rows.
 pub record ReportsJournal (Shows : List (Row Mail OrderLine) → List (List ℕ) → Type 0) (scenario : Scenario) (journal : List (Row Mail OrderLine)) (text : Text) : Type 0 where
   pub lawful : Lawful as_nodes two_words scenario journal
   pub whole : Whole as_nodes two_words scenario journal
@@ -79,18 +81,21 @@ pub record ReportsJournal (Shows : List (Row Mail OrderLine) → List (List ℕ)
   pub journal_is : text.journal ≡ Some journal
   pub parties_are : text.parties ≡ parties as_nodes scenario journal
 
--- The text shows some journal of the scenario, and says whether a line was cut off with mail pending.
+-- The text shows some journal of the scenario, and says whether a line was cut off with mail pending. Within the scenario's budget none was, and every request of a client whose `go` line is followed by a line of deliveries is answered.
 pub record Plays (Shows : List (Row Mail OrderLine) → List (List ℕ) → Type 0) (scenario : Scenario) (said : Said) (text : Text) : Type 0 where
   pub journal : List (Row Mail OrderLine)
   pub reports : ReportsJournal Shows scenario journal text
   pub said_is : said ≡ said_of (unsettled (system_of as_nodes two_words scenario) (schedule scenario) journal)
+  pub settled : IsWithinBudget scenario → said ≡ Ended
+  pub answered : IsWithinBudget scenario → AreAnswered scenario journal
 
--- The text tells of some journal of the scenario that it is full: a row that may come next passes the limit.
+-- The text reports of some journal of the scenario that it is full: a row that may come next passes the limit. No journal of a plain scenario at its budget is.
 pub record PlaysUntilFull (scenario : Scenario) (said : Said) (text : Text) : Type 0 where
   pub journal : List (Row Mail OrderLine)
   pub filled : HasFilled scenario journal_limit journal
   pub tells : TellsFull journal text
   pub said_is : said ≡ Filled
+  pub not_plain : IsAtBudget scenario → ⊥
 
 -- what comes of a scenario, of whose journal this is shown
 abbrev pub Comes : (List (Row Mail OrderLine) → List (List ℕ) → Type 0) → Scenario → Said → Text → Type 0
@@ -147,7 +152,7 @@ pub record TellsOfRows (line : List ℕ) (rows : List (Row Mail OrderLine)) (tex
   pub journal : text.journal ≡ Some rows
   pub parties : text.parties ≡ []
 
--- Rows are a lawful journal of a scenario, of which each first part is sound and each refusal has its cause, and the text says how many they are.
+-- Rows are a lawful journal of a scenario, of which each prefix is sound and each refusal has its cause, and the text says how many they are.
 pub record HoldsLawful (scenario : Scenario) (rows : List (Row Mail OrderLine)) (said : Said) (text : Text) : Type 0 where
   pub lawful : Lawful as_nodes two_words scenario rows
   pub sound : IsSoundThroughout as_nodes scenario rows
@@ -189,9 +194,11 @@ Scans sight source said text = Refuses IsBadText source said text ⊎ ReadsAndSc
 abbrev pub Audits : SourceUse → Said → Text → Type 0
 Audits source said text = Refuses IsBadFile source said text ⊎ ReadsAndAudits source said text
 
--- the same of a made scenario, without a look at the source
-abbrev pub PlaysMade : Scenario → Said → Text → Type 0
-PlaysMade scenario said text = IsValid scenario × Comes (ShowsReport scenario) scenario said text
+-- the same of a made scenario, which is plain and at its budget, without a look at the source
+pub record PlaysMade (scenario : Scenario) (said : Said) (text : Text) : Type 0 where
+  pub valid : IsValid scenario
+  pub at_budget : IsAtBudget scenario
+  pub comes : Comes (ShowsReport scenario) scenario said text
 
 -- What a text says that was begun where the words ask for this: the usage line, what the input is, or what comes of a made scenario.
 abbrev pub SaysFor : Option Subcommand → SourceUse → Said → Text → Type 0
@@ -217,12 +224,12 @@ pub record Printed (words : List (List ℕ)) (source : SourceUse) (sink : SinkUs
   pub journal : done.journal ≡ text.journal
   pub parties : done.parties ≡ text.parties
 
--- nothing is handed back after want of memory
+-- nothing is handed back after it ran out of memory
 pub record RanOut (done : Done) : Type 0 where
   pub status : done.status ≡ 8
   pub journal : done.journal ≡ None
   pub parties : done.parties ≡ []
 
--- A run printed a text, or memory was short.
-abbrev pub Runs : List (List ℕ) → SourceUse → SinkUse → Done → Type 0
-Runs words source sink done = Printed words source sink done ⊎ RanOut done
+-- a run printed a text, or it ran out of memory
+abbrev pub Ends : List (List ℕ) → SourceUse → SinkUse → Done → Type 0
+Ends words source sink done = Printed words source sink done ⊎ RanOut done

@@ -13,7 +13,6 @@ mod saying;
 mod showing;
 mod telling;
 
-pub use answering::{runs_answer_calmly, runs_answer_within_budget};
 pub use auditing::{audit, lawful_journals_are_told};
 pub use begun::begin;
 pub use done::{Done, Text};

@@ -7,6 +7,7 @@ ghost use Rattle.sc_scenario.specs.Valid.{IsValid};
 ghost use Rattle.sc_sound.specs.Players.{births, as_nodes};
 ghost use Rattle.sc_run.specs.Played.{IsPlayed};
 
+use crate::answering::budgets_suffice;
 use sc_actor::{Gate, Played};
 use sc_drive::{Company, drive};
 use sc_refusal_law::valid_journals_refuse_with_cause;
@@ -36,6 +37,7 @@ fn play_by<G: Gate, R: Threads + Wait + Sync>(
     valid_scenarios_can_play();
     valid_journals_are_sound();
     valid_journals_refuse_with_cause();
+    budgets_suffice();
     let Ok(lines) = schedule(alloc, scenario) else {
         return Played::OutOfMemory;
     };

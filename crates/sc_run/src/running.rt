@@ -2,10 +2,9 @@
 ghost use Rattle.std.specs.Prelude.{◌≡◌, ◌≤◌, ◌+◌, map, false, string_bytes};
 ghost use Rattle.sc_command_line.specs.Subcommands.{reads_input};
 ghost use Rattle.sc_command_line.specs.Inputs.{most_takes};
-ghost use Rattle.sc_run.specs.Answers.{AnswersCalmly, AnswersWithinBudget};
-ghost use Rattle.sc_run.specs.Run.{Runs};
+ghost use Rattle.sc_run.specs.Answers.{Runs};
+ghost use Rattle.sc_run.specs.Run.{Ends};
 
-use crate::answering::{runs_answer_calmly, runs_answer_within_budget};
 use crate::done::{Done, Text};
 use crate::saying::say;
 use sc_actor::Gate;
@@ -25,7 +24,7 @@ fn say_and_print<S: Source, K: Sink, G: Gate, R: Threads + Wait + Sync>(
     output: &mut K,
     gate: &G,
 ) -> Done
-    ensures runs { Runs (map string_bytes words.now.items)
+    ensures ends { Ends (map string_bytes words.now.items)
         (record {
           left = S.left input.old;
           faults_before = S.faults input.old;
@@ -74,14 +73,14 @@ fn say_and_print<S: Source, K: Sink, G: Gate, R: Threads + Wait + Sync>(
 /// behind it; or reads a stored journal and prints whether it is lawful.
 ///
 /// The words are those behind the program's name. Each line of output is one call of the sink, and
-/// the source is called 16,777,218 times at most, after the word `audit` 268,435,458 times. A fault
-/// of the sink wins over the status that the text belongs to. The gate is passed before each row
-/// that delivers a mail.
+/// the source is called 16,777,218 times at most, after the word `audit` 268,435,458 times. A write
+/// error overrides the text's status. The gate is passed before each row that delivers a mail.
 ///
-/// Where the scenario is plain and at its budget and no fault of the source or the sink rises, the
-/// status is 0, or 8 where memory is short; with 0 every request of a client whose go line has a
-/// line of deliveries after it is answered. Where it is calm and at its budget the same holds, but
-/// that the status may also be 7, where its journal is full.
+/// Where the scenario that is read or made is plain and at its budget, no line is cut off, the
+/// journal is not full, and every request of a client whose `go` line is followed by a line of
+/// deliveries is answered; where it is calm and at its budget the same holds, but that the journal
+/// may be full. So with no read and no write error the status of such a run is 0, or 8 where it runs
+/// out of memory, and of a calm one 7 where its journal is full.
 pub fn run<S: Source, K: Sink, G: Gate, R: Threads + Wait + Sync>(
     rt: &R,
     alloc: Global,
@@ -107,46 +106,10 @@ pub fn run<S: Source, K: Sink, G: Gate, R: Threads + Wait + Sync>(
           calls_after = K.calls output.new;
         })
         result }
-    ensures budget { AnswersWithinBudget (map string_bytes words.now.items)
-        (record {
-          left = S.left input.old;
-          faults_before = S.faults input.old;
-          faults_after = S.faults input.new;
-        })
-        (record {
-          held_before = K.held output.old;
-          held_after = K.held output.new;
-          pieces_before = K.pieces output.old;
-          pieces_after = K.pieces output.new;
-          faults_before = K.faults output.old;
-          faults_after = K.faults output.new;
-          calls_before = K.calls output.old;
-          calls_after = K.calls output.new;
-        })
-        result }
-    ensures calm { AnswersCalmly (map string_bytes words.now.items)
-        (record {
-          left = S.left input.old;
-          faults_before = S.faults input.old;
-          faults_after = S.faults input.new;
-        })
-        (record {
-          held_before = K.held output.old;
-          held_after = K.held output.new;
-          pieces_before = K.pieces output.old;
-          pieces_after = K.pieces output.new;
-          faults_before = K.faults output.old;
-          faults_after = K.faults output.new;
-          calls_before = K.calls output.old;
-          calls_after = K.calls output.new;
-        })
-        result }
     ensures unread { reads_input (map string_bytes words.now.items) ≡ false →
         input.new ≡ input.old }
     ensures takes { S.calls input.new ≤ S.calls input.old
         + most_takes (map string_bytes words.now.items) }
 {
-    runs_answer_within_budget();
-    runs_answer_calmly();
     say_and_print(rt, alloc, words, input, output, gate)
 }

@@ -16,6 +16,7 @@ use crate::showing::show;
 use crate::telling::tells;
 use sc_actor::Gate;
 use sc_base::OutOfMemory;
+use sc_budget_law::made_scenarios_are_at_budget;
 use sc_command_line::{
     InputFault, Said, Sight, Subcommand, fault_text, file_in, scenario_in, subcommand_by, text_in,
 };
@@ -145,6 +146,7 @@ fn report_made<G: Gate, R: Threads + Wait + Sync>(
     requires { (1 ≤ n) × (n ≤ 1000) }
     ensures { IfOk result (λ begun. PlaysMade (made_scenario n seed) begun.0 begun.1) }
 {
+    made_scenarios_are_at_budget();
     let scenario = made_scenario(alloc, n, seed)?;
     report(rt, alloc, Way::Runs, &scenario, gate)
 }

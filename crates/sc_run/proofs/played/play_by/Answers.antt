@@ -19,12 +19,12 @@ drive-requires-clause-spared g c κs within =
 
 pub returns-clause-played : goal.returns-clause-played
 returns-clause-played g c =
-    let old = c.args.company.now in let new = c.drive.new.company in let scenario = c.args.scenario.now in let lines = c.as_slice.result.now in let law = c.valid_journals_are_sound.ensures in let causes = c.valid_journals_refuse_with_cause.ensures in
+    let old = c.args.company.now in let new = c.drive.new.company in let scenario = c.args.scenario.now in let lines = c.as_slice.result.now in let law = c.valid_journals_are_sound.ensures in let causes = c.valid_journals_refuse_with_cause.ensures in let budgets = c.budgets_suffice.ensures in
     let lines_are = c.as_slice.ensures.value ∙ c.in-Ok.ensures in
     elim c.drive.result as (λ played. (played ≢ OutOfMemory → StaysWhole old new) → IsDriven two_words (births as_nodes scenario) lines old.net.limit new played → IsPlayed scenario old.net.limit (seen new.net) (map (λ s. s.actor) new.shells.items) played) [
       | Ended cut quiet skips ↦ λ kept e.
-          ends law causes scenario c.requires.valid lines lines_are old.net.limit (seen new.net) cut quiet skips (map (λ s. s.actor) new.shells.items)
+          ends law causes budgets scenario c.requires.valid lines lines_are old.net.limit (seen new.net) cut quiet skips (map (λ s. s.actor) new.shells.items)
           e.lawful e.whole (subst (λ limit. journal_bytes mail_weight (seen new.net) ≤ limit) (kept (no_want cut quiet skips)).stays.exchange.2 e.within) e.cut_is e.quiet_is e.skips_are (actors_of new.shells.items ∙ ap (map (λ seat. seat.actor)) e.left)
-      | Full ↦ λ kept full. fills law causes scenario c.requires.valid lines lines_are old.net.limit (seen new.net) full
+      | Full ↦ λ kept full. fills law causes budgets scenario c.requires.valid lines lines_are old.net.limit (seen new.net) full
       | OutOfMemory ↦ λ kept full. tt
     ] c.drive.ensures.kept (c.drive.ensures.driven (births as_nodes scenario) c.requires.opened)

@@ -1,0 +1,2 @@
+mod WorkedJoin
+mod WorkedSplit

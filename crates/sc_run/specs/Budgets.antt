@@ -1,0 +1,24 @@
+-- Scenarios within their budget, plain or calm, and what holds of the journals of each.
+use Rattle.std.specs.Prelude.{◌≡◌, ◌⊎◌, ℕ, List, false}
+use Rattle.sc_cmd.specs.declared.orders.OrderLine.{OrderLine}
+use Rattle.sc_mail.specs.declared.bodies.Mail.{Mail}
+use Rattle.sc_actor.specs.declared.rows.Row.{Row}
+use Rattle.sc_actor.specs.Walk.{unsettled}
+use Rattle.sc_scenario.specs.Valid.{IsValid}
+use Rattle.sc_scenario.specs.declared.scenarios.Scenario.{Scenario}
+use Rattle.sc_sound.specs.Players.{system_of, schedule, Lawful, Whole, as_nodes}
+use Rattle.sc_budget_law.specs.Budget.{IsAtBudget, AreAnswered}
+use Rattle.sc_budget_law.specs.Calm.{IsCalmAtBudget}
+use Rattle.sc_budget_law.specs.Laws.{PlainJournalsAreLight}
+
+-- the scenario is plain and at its budget, or calm and at its budget
+abbrev pub IsWithinBudget : Scenario → Type 0
+IsWithinBudget scenario = IsAtBudget scenario ⊎ IsCalmAtBudget scenario
+
+-- In each lawful journal of a valid scenario within its budget no line is cut off with mail pending, in each whole one every request of a client whose `go` line is followed by a line of deliveries is answered, and no journal of a plain one passes the limit.
+pub record BudgetsSuffice : Type 0 where
+  pub settled : (words : ℕ → ℕ → ℕ × ℕ) (scenario : Scenario) (journal : List (Row Mail OrderLine)) → IsValid scenario → IsWithinBudget scenario → Lawful as_nodes words scenario journal
+      → unsettled (system_of as_nodes words scenario) (schedule scenario) journal ≡ false
+  pub answered : (words : ℕ → ℕ → ℕ × ℕ) (scenario : Scenario) (journal : List (Row Mail OrderLine)) → IsValid scenario → IsWithinBudget scenario → Lawful as_nodes words scenario journal → Whole as_nodes words scenario journal
+      → AreAnswered scenario journal
+  pub light : PlainJournalsAreLight
