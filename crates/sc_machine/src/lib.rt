@@ -1,6 +1,7 @@
 //! One command after another on a group.
 #![tactic(auto)]
 
+mod bases;
 mod children;
 mod commits;
 mod coordinator;
@@ -8,4 +9,5 @@ mod machine;
 mod orders;
 mod parties;
 
+pub use bases::GroupBirth;
 pub use machine::Machine;

@@ -1,8 +1,8 @@
 //! The leader.
-ghost use Rattle.std.specs.Prelude.{◌≡◌, IfOk, OnOk, OnErr, None};
+ghost use Rattle.std.specs.Prelude.{◌≡◌, IfOk, IsOk, OnOk, OnErr, None, false};
 ghost use Rattle.std.specs.Option.{option_copied, option_map};
 ghost use Rattle.sc_base.specs.Roster.{is_member};
-ghost use Rattle.sc_paxos_words.specs.Choice.{names_above};
+ghost use Rattle.sc_paxos_words.specs.Choice.{chosen_value, names_above};
 ghost use Rattle.sc_paxos_words.specs.Leaders.{Obeys, first_leader, new_leader, promise_counted, is_settled, must, flight_at, with_flight_at, without_flight_at};
 ghost use Rattle.sc_paxos_words.specs.Votes.{counted, has_counted};
 
@@ -144,17 +144,18 @@ impl<V> Leader<V> {
 
 impl<V: Drop> Leader<V> {
     /// Counts the promise of a node, with its reports. False exactly where the ballot is not this
-    /// leader's or the node was counted already, and then nothing changes. Refused only for want of
-    /// memory.
+    /// leader's or the node was counted already, and then nothing changes and no memory is taken.
     pub fn on_promise(
         &mut self,
         from: u16,
         ballot: Ballot,
         mut reports: Vec<Report<V>>,
     ) -> Result<bool, OutOfMemory>
-        ensures { IfOk result
+        ensures counted { IfOk result
             (λ is_counted.
             promise_counted from ballot reports.items self.old ≡ (is_counted, self.new)) }
+        ensures ignored { (promise_counted from ballot reports.items self.old).0 ≡ false →
+            IsOk result }
     {
         if ballot != self.ballot || occurs(self.promisers.as_slice(), from) {
             return Ok(false);
@@ -218,9 +219,10 @@ impl<V: Drop> Leader<V> {
 impl<V: Dup + Drop> Leader<V> {
     /// What it must propose at a slot: what `pick` chooses from the reports in the order in which
     /// they were counted; a gap where no report names the slot and one names a greater slot; else
-    /// it is free. Refused only for want of memory.
+    /// it is free. Memory is taken only for a value.
     pub fn must(&self, slot: u32) -> Result<Must<V>, OutOfMemory>
-        ensures { IfOk result (λ found. found ≡ must slot self.now) }
+        ensures found { IfOk result (λ found. found ≡ must slot self.now) }
+        ensures none { chosen_value slot self.now.reports ≡ None → IsOk result }
     {
         let found = pick(self.alloc, slot, &self.reports)?;
         match found {

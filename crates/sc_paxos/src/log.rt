@@ -1,5 +1,5 @@
 //! The log.
-ghost use Rattle.std.specs.Prelude.{◌≡◌, ◌-◌, ◌<◌, ◌≤◌, ◌^◌, IfOk, OnErr, drop, slice_get};
+ghost use Rattle.std.specs.Prelude.{◌≡◌, ◌-◌, ◌<◌, ◌≤◌, ◌^◌, ◌⊎◌, IfOk, IsOk, OnErr, drop, slice_get};
 ghost use Rattle.std.specs.Option.{option_copied};
 ghost use Rattle.sc_paxos_words.specs.Logs.{next_of, empty_log, learnt, installed, entry_at, log_cut};
 
@@ -60,11 +60,12 @@ impl<V> Glog<V> {
 
 impl<V: Drop> Glog<V> {
     /// Takes a chosen value as the entry of its slot, where that is the next slot. Any other value
-    /// is dropped, and nothing changes. The slot is below 2^32 - 1. After want of memory nothing
-    /// has changed.
+    /// is dropped, nothing changes, and no memory is taken. The slot is below 2^32 - 1. Out of
+    /// memory, nothing has changed.
     pub fn learn(&mut self, slot: u32, value: V) -> Result<Learnt, OutOfMemory>
         requires { slot < 2 ^ 32 - 1 }
         ensures ok { IfOk result (λ answer. learnt slot value self.old ≡ (answer, self.new)) }
+        ensures dropped { (slot < next_of self.old) ⊎ (next_of self.old < slot) → IsOk result }
         ensures err { OnErr result (self.new ≡ self.old) }
     {
         let next = self.next();

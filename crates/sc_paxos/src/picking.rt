@@ -1,5 +1,5 @@
 //! The choice of a value from the reports of acceptors.
-ghost use Rattle.std.specs.Prelude.{◌≡◌, IfOk};
+ghost use Rattle.std.specs.Prelude.{◌≡◌, IfOk, IsOk, None};
 ghost use Rattle.std.specs.Option.{option_copied};
 ghost use Rattle.sc_paxos_words.specs.Choice.{choice, chosen_value, is_better};
 
@@ -9,13 +9,14 @@ use std::alloc::Global;
 
 /// The value of the highest ballot among the reports of a slot, and of several with that ballot the
 /// first in the list (Paxos Made Simple, section 2.2). There is none exactly where no report names
-/// the slot. Refused only for want of memory.
+/// the slot, and then no memory is taken.
 pub fn pick<V: Dup>(
     alloc: Global,
     slot: u32,
     reports: &Vec<Report<V>>,
 ) -> Result<Option<V>, OutOfMemory>
-    ensures { IfOk result (λ picked. picked ≡ chosen_value slot reports.now.items) }
+    ensures value { IfOk result (λ picked. picked ≡ chosen_value slot reports.now.items) }
+    ensures none { chosen_value slot reports.now.items ≡ None → IsOk result }
 {
     match best_of(slot, reports.as_slice()) {
         Some(best) => Ok(Some(best.value.dup(alloc)?)),

@@ -11,6 +11,8 @@ mod machine_tests;
 #[cfg(test)]
 mod node_tests;
 #[cfg(test)]
+mod outside_tests;
+#[cfg(test)]
 mod parties;
 #[cfg(test)]
 mod plan_tests;
