@@ -1,8 +1,10 @@
 //! The value of a client, and what each input makes of it.
-ghost use Rattle.std.specs.Prelude.{◌≡◌, ◌≤◌, length, IfOk};
+ghost use Rattle.std.specs.Prelude.{◌≡◌, ◌≤◌, ◌⊎◌, [], length, IfOk, IsOk};
+ghost use Rattle.sc_actor.specs.declared.rows.Input.TheVariants.{Go, Told, Tick};
 ghost use Rattle.sc_base.specs.Limits.{most_requests};
 ghost use Rattle.sc_client_table.specs.Client.{born_client};
 ghost use Rattle.sc_client_table.specs.Table.{table};
+ghost use Rattle.sc_cmd.specs.declared.orders.OrderLine.{OrderLine};
 
 use sc_actor::{Actor, Input};
 use sc_base::{Draw, Op, OutOfMemory, Reply, Sequence};
@@ -93,14 +95,17 @@ impl ClientCore {
         &self.replies
     }
 
-    /// Takes an input by the client's table, and answers what it sends. After want of memory the
-    /// client may only be dropped.
+    /// Takes an input by the client's table, and returns what it sends. An order, and a tick or a go
+    /// that sends nothing, take no memory. Out of memory, the client may only be dropped.
     pub fn step(
         &mut self,
         alloc: Global,
         input: &Input<Mail, OrderLine>,
     ) -> Result<Sequence<Mail>, OutOfMemory>
-        ensures { IfOk result (λ sent. table self.old input.now ≡ (self.new, sent)) }
+        ensures sent { IfOk result (λ sent. table self.old input.now ≡ (self.new, sent)) }
+        ensures told { (line : OrderLine) → input.now ≡ Told line → IsOk result }
+        ensures none { (input.now ≡ Tick) ⊎ (input.now ≡ Go) →
+            (table self.old input.now).1 ≡ [] → IsOk result }
     {
         match input {
             Input::Got(mail) => self.got(alloc, mail),
