@@ -37,7 +37,7 @@ use Rattle.sc_queue_law.specs.OneCall.{QueuesKeepOneCall}
 use Rattle.sc_refusal_law.specs.Causes.{MayGiveUp, IsImpatient, ends_queued}
 use Rattle.sc_refusal_law.specs.ClientTurns.{KeepsTurn}
 use Rattle.sc_refusal_law.specs.Journals.{Rows, Acts, ticks_in, RowHasCauses, ValidJournalsRefuseWithCause}
-use Rattle.sc_refusal_law.specs.NodeCauses.{AnswersHaveCauses, ActsHaveCauses, NodeHasCauses, counted_ticks}
+use Rattle.sc_refusal_law.specs.NodeCauses.{AnswersHaveCauses, ActsHaveCauses, NodeHasCauses, TakesRequests, counted_ticks}
 use Rattle.sc_refusal_law.proofs.NodeSteps.{Keeps, running_of, nodes_have_causes}
 use Rattle.sc_refusal_law.proofs.Locking.{allowed}
 use Rattle.sc_sound.proofs.Rows.{any_push}
@@ -239,6 +239,9 @@ module _ (ahead : Ahead) (words : ℕ → ℕ → ℕ × ℕ) (scenario : Scenar
         subst (λ (ms : List Mail). AnswersHaveCauses before input after ms) (sym (made place (Node before) (Node after) input a).sends)
         (subst (λ (n : NodeState). AnswersHaveCauses before input n (node_table before input).1) after_is has.answers)
 
+    node_requests : TakesRequests before input row.sent
+    node_requests = subst (TakesRequests before input) (sym (made place (Node before) (Node after) input a).sends) has.requests
+
     -- its replicas have waited no longer than they have ticked
     few : (r : ReplicaState) (tx : Draw) → Among r before.replicas → IsImpatient r.waits r input tx → r.waits ≤ ticks_in place rows r tx
     few r tx stood m =
@@ -279,12 +282,19 @@ module _ (ahead : Ahead) (words : ℕ → ℕ → ℕ × ℕ) (scenario : Scenar
   no_node first asks node e = subst (Placed ahead words scenario first asks rows) e (placed ahead words scenario first asks rows lawful)
 
   row_has : RowHasCauses ahead scenario rows row
-  row_has = record { answers = answers; acts = acts; turns = turns }
+  row_has = record { answers = answers; requests = requests; acts = acts; turns = turns }
     where
       answers : (seat : Seat Player) (before after : NodeState) (input : Input Mail OrderLine) → Acts ahead scenario rows row seat (Node before) (Node after) input → AnswersHaveCauses before input after row.sent
       answers seat before after input a =
           elim (seat_is ahead scenario row.who seat a.seated).1 [
             | inl n ↦ node_answers n.me n.some before after input (subst (λ (s : Seat Player). Acts ahead scenario rows row s (Node before) (Node after) input) n.is a)
+            | inr c ↦ absurd (no_node c.first c.asks before (subst (λ (s : Seat Player). value player_table s rows ≡ Node before) c.is a.was))
+          ]
+
+      requests : (seat : Seat Player) (before after : NodeState) (input : Input Mail OrderLine) → Acts ahead scenario rows row seat (Node before) (Node after) input → TakesRequests before input row.sent
+      requests seat before after input a =
+          elim (seat_is ahead scenario row.who seat a.seated).1 [
+            | inl n ↦ node_requests n.me n.some before after input (subst (λ (s : Seat Player). Acts ahead scenario rows row s (Node before) (Node after) input) n.is a)
             | inr c ↦ absurd (no_node c.first c.asks before (subst (λ (s : Seat Player). value player_table s rows ≡ Node before) c.is a.was))
           ]
 

@@ -13,6 +13,7 @@ pub mod Steps
 pub mod Inputs
 pub mod Strangers
 pub mod Joining
+pub mod Taking
 pub mod NodeSteps
 pub mod Turning
 pub mod Ticking

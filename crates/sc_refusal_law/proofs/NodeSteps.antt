@@ -36,12 +36,13 @@ use Rattle.sc_node_table.specs.Rows.{tick_row, looked_up, made_by, mailed, stepp
 use Rattle.sc_node_table.specs.Slots.{slots_ahead}
 use Rattle.sc_law_lemmas.proofs.Ways.{either_way}
 use Rattle.sc_refusal_law.specs.Causes.{at_node}
-use Rattle.sc_refusal_law.specs.NodeCauses.{AreSentBy, IsSentBy, MayGiveUpAt, ActsHaveCauses, NodeHasCauses, NodesHaveCauses, counted_ticks, replica_for, takers}
+use Rattle.sc_refusal_law.specs.NodeCauses.{AnswersHaveCauses, AreSentBy, IsSentBy, MayGiveUpAt, ActsHaveCauses, NodesHaveCauses, counted_ticks, replica_for, takers}
 use Rattle.sc_refusal_law.proofs.Joining.{tick_behind}
 use Rattle.sc_refusal_law.proofs.Steps.{Shows}
 use Rattle.sc_refusal_law.proofs.Inputs.{still_step, step_shown}
 use Rattle.sc_refusal_law.proofs.Locking.{allowed}
 use Rattle.sc_refusal_law.proofs.Strangers.{unknown_says}
+use Rattle.sc_refusal_law.proofs.Taking.{takes_requests}
 
 -- ---- replicas in their order
 
@@ -302,8 +303,9 @@ module _ (node : NodeState) (numbered : Each (λ (r : ReplicaState). 1 ≤ r.me)
 
 module _ (node : NodeState) (numbered : Each (λ (r : ReplicaState). 1 ≤ r.me) node.replicas) where
   -- what a step shows
-  abbrev Step : Input Mail OrderLine → NodeState × List Mail → Type 0
-  Step input step = NodeHasCauses node input step.0 step.1
+  record Step (input : Input Mail OrderLine) (step : NodeState × List Mail) : Type 0 where
+    answers : AnswersHaveCauses node input step.0 step.1
+    acts : ActsHaveCauses counted_ticks node input step.0
 
   taker_stands : (o : Option ReplicaState) (group : Draw) → replica_of group node.replicas ≡ o → Each (λ (r : ReplicaState). Among r node.replicas × Among r node.replicas) (listed o)
   taker_stands None group e = tt
@@ -397,10 +399,14 @@ module _ (node : NodeState) (numbered : Each (λ (r : ReplicaState). 1 ≤ r.me)
             (ticked_replicas (T node numbered after Tick) node.policy node.draws node.replicas [] (λ r stood names. (λ here. step_acts node numbered after names Given.Tick r stood stood here)));
       }
 
-pub nodes_have_causes : NodesHaveCauses
-nodes_have_causes node (Got mail) numbered =
-    either_way (λ (step : NodeState × List Mail). NodeHasCauses node (Got mail) step.0 step.1) (may_come mail.from mail.body) (routed (group_of_mail mail.body) mail.from mail.body node) (node, [])
+node_caused : (node : NodeState) (numbered : Each (λ (r : ReplicaState). 1 ≤ r.me) node.replicas) (input : Input Mail OrderLine) → Step node numbered input (node_table node input)
+node_caused node numbered (Got mail) =
+    either_way (Step node numbered (Got mail)) (may_come mail.from mail.body) (routed (group_of_mail mail.body) mail.from mail.body node) (node, [])
     (routed_causes node numbered mail (group_of_mail mail.body) refl) (idle node numbered (Got mail))
-nodes_have_causes node Tick numbered = tick_causes node numbered
-nodes_have_causes node (Told line) numbered = ordered_causes node numbered line (replica_of (group_of_order line.order) node.replicas) refl
-nodes_have_causes node Go numbered = idle node numbered Go
+node_caused node numbered Tick = tick_causes node numbered
+node_caused node numbered (Told line) = ordered_causes node numbered line (replica_of (group_of_order line.order) node.replicas) refl
+node_caused node numbered Go = idle node numbered Go
+
+pub nodes_have_causes : NodesHaveCauses
+nodes_have_causes node input numbered =
+    let caused = node_caused node numbered input in record { answers = caused.answers; acts = caused.acts; requests = takes_requests node input }

@@ -1,4 +1,4 @@
--- What every lawful journal says of refusals: each answer of a node has its cause, and so has each end of waiting; a queue has at most one call of a client; and clients ask in turn.
+-- What every lawful journal says of refusals: each answer of a node has its cause, and so has each end of waiting; a replica that runs takes requests; a queue has at most one call of a client; and clients ask in turn.
 use Rattle.std.specs.Prelude.{◌≡◌, ℕ, ◌+◌, ◌==◌, ◌&&◌, Bool, true, false, List, [], ◌∷◌, ◌++◌, Some, if◌then◌else◌}
 use Rattle.std.specs.List.{list_any, find}
 use Rattle.sc_base.specs.Among.{Among}
@@ -25,7 +25,7 @@ use Rattle.sc_sound.specs.Players.{Ahead, Lawful, Player, births, player_table}
 use Rattle.sc_mail.specs.declared.roles.Role.TheVariants.{Node, Client}
 use Rattle.sc_queue_law.specs.OneCall.{EachKeepsOneCall}
 use Rattle.sc_refusal_law.specs.ClientTurns.{KeepsTurn}
-use Rattle.sc_refusal_law.specs.NodeCauses.{AnswersHaveCauses, ActsHaveCauses}
+use Rattle.sc_refusal_law.specs.NodeCauses.{AnswersHaveCauses, ActsHaveCauses, TakesRequests}
 
 -- the rows of a journal
 abbrev pub Rows : Type 0
@@ -79,6 +79,8 @@ ticks_in seat rows r tx = ticks_from seat (name_of r) r.leader.ballot tx [] rows
 pub record RowHasCauses (ahead : Ahead) (scenario : Scenario) (rows : Rows) (row : Row Mail OrderLine) : Type 0 where
   -- each answer of a node is to a call that was asked, and has its cause
   pub answers : (seat : Seat Player) (before after : NodeState) (input : Input Mail OrderLine) → Acts ahead scenario rows row seat (Node before) (Node after) input → AnswersHaveCauses before input after row.sent
+  -- a replica that runs takes a request that is brought to it
+  pub requests : (seat : Seat Player) (before after : NodeState) (input : Input Mail OrderLine) → Acts ahead scenario rows row seat (Node before) (Node after) input → TakesRequests before input row.sent
   -- a coordinator gives up only after so many ticks of its leadership under that lock
   pub acts : (seat : Seat Player) (before after : NodeState) (input : Input Mail OrderLine) → Acts ahead scenario rows row seat (Node before) (Node after) input → ActsHaveCauses (ticks_in seat rows) before input after
   -- a client asks in turn

@@ -1,5 +1,5 @@
 -- A node's whole step: each answer that it sends has its cause at one of its replicas, and so has each end of waiting that is queued after it.
-use Rattle.std.specs.Prelude.{◌≡◌, ℕ, ◌≤◌, Option, None, Some, List, [], ◌∷◌, ◌++◌, ◌⊎◌}
+use Rattle.std.specs.Prelude.{◌≡◌, ℕ, ◌≤◌, true, Option, None, Some, List, [], ◌∷◌, ◌++◌, ◌⊎◌}
 use Rattle.sc_base.specs.Among.{Among, Each}
 use Rattle.sc_base.specs.Limits.{client_actor}
 use Rattle.sc_base.specs.declared.names.Draw.{Draw}
@@ -14,7 +14,7 @@ use Rattle.sc_mail.specs.declared.bodies.Mail.{Mail}
 use Rattle.sc_mail.specs.declared.bodies.MailBody.TheVariants.{Request}
 use Rattle.sc_node_table.specs.Node.{NodeState, group_of_mail, group_of_order, replica_of, node_table}
 use Rattle.sc_node_table.specs.Replica.{ReplicaState, name_of, listed}
-use Rattle.sc_refusal_law.specs.Causes.{IfAnswer, MayGiveUp, StepHasCauses, ends_queued}
+use Rattle.sc_refusal_law.specs.Causes.{IfAnswer, IsNotLeader, MayGiveUp, StepHasCauses, ends_queued}
 
 -- the replica of a group that an input is for, if it is for one and there is a replica
 abbrev pub replica_for : Option Draw → List ReplicaState → List ReplicaState
@@ -75,14 +75,32 @@ ActsHaveCauses ticks node input after =
     (later : ReplicaState) → Among later after.replicas
     → (tx : Draw) → Among (GiveUp tx) later.acts → MayGiveUpAt ticks node after input later tx
 
+-- an input brings a request that a replica of the node takes which runs
+pub record BringsToRunning (node : NodeState) (input : Input Mail OrderLine) : Type 0 where
+  pub mail : Mail
+  pub brought : input ≡ Got mail
+  pub group : Draw
+  pub client : ℕ
+  pub seq : ℕ
+  pub op : Op
+  pub request : mail.body ≡ Request group client seq op
+  pub replica : ReplicaState
+  pub takes : Among replica (takers node input)
+  pub runs : replica.running ≡ true
+
+-- a replica that runs takes a request: a node that is brought one for it sends no answer NotLeader
+abbrev pub TakesRequests : NodeState → Input Mail OrderLine → List Mail → Type 0
+TakesRequests node input mails = BringsToRunning node input → Each (λ (mail : Mail). IsNotLeader mail.body → ⊥) mails
+
 -- as many ticks as a replica has counted
 abbrev pub counted_ticks : ReplicaState → Draw → ℕ
 counted_ticks r tx = r.waits
 
--- a step of a node has causes
+-- a step of a node has causes, and takes requests
 pub record NodeHasCauses (node : NodeState) (input : Input Mail OrderLine) (after : NodeState) (mails : List Mail) : Type 0 where
   pub answers : AnswersHaveCauses node input after mails
   pub acts : ActsHaveCauses counted_ticks node input after
+  pub requests : TakesRequests node input mails
 
 -- every step of a node is so, whether it takes a mail, ticks or takes an order; nodes are numbered from 1
 abbrev pub NodesHaveCauses : Type 0

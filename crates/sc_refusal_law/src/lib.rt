@@ -1,7 +1,7 @@
 //! Why a replica refuses: each answer by which it turns a client away has its cause in the state
-//! that was executed when it was made, each end of waiting its own, and a client asks in turn. Laws
-//! of the tables of a replica and of a node, and of every lawful journal. Definitions and laws, no
-//! logic.
+//! that was executed when it was made, one that runs takes requests, each end of waiting has its
+//! cause, and a client asks in turn. Laws of the tables of a replica and of a node, and of every
+//! lawful journal. Definitions and laws, no logic.
 #![tactic(auto)]
 
 ghost use Rattle.sc_refusal_law.specs.Causes.{RunningReplicasTakeRequests, StepsHaveCauses};
@@ -30,8 +30,9 @@ pub fn refusals_have_causes()
 /// policy or without, or takes an order. Its mails are what the replicas that take the input send
 /// in their steps, one behind another; or the node has no replica of the group that a request is
 /// for, and answers this at its client, in the group's name, that it does not lead, and names no
-/// other. The ends of waiting that a replica has queued after the step have their cause at the
-/// replica of that group before it.
+/// other. Where a replica that runs is brought a request, none of the mails is an answer NotLeader.
+/// The ends of waiting that a replica has queued after the step have their cause at the replica of
+/// that group before it.
 pub fn nodes_have_causes()
     ensures { NodesHaveCauses }
 {}
@@ -41,10 +42,11 @@ pub fn running_replicas_take_requests()
     ensures { RunningReplicasTakeRequests }
 {}
 
-/// In every lawful journal of a valid scenario each row says so. A coordinator gives up only after
-/// as many ticks of its leadership, under the lock of that transaction, as the rows of its node
-/// tell; at most one call of each client waits in a queue; and a client sends its requests one
-/// after another, each again while it waits, and ends only with the last.
+/// In every lawful journal of a valid scenario each row says so: each answer has its cause, and a
+/// row that brings a request to a replica that runs sends no answer NotLeader. A coordinator gives
+/// up only after as many ticks of its leadership, under the lock of that transaction, as the rows
+/// of its node tell; at most one call of each client waits in a queue; and a client sends its
+/// requests one after another, each again while it waits, and ends only with the last.
 pub fn valid_journals_refuse_with_cause()
     ensures { ValidJournalsRefuseWithCause }
 {

@@ -1,7 +1,8 @@
 -- How given rows stand with the walk.
-use Rattle.std.proofs.Common.{◌≡◌, ℕ, suc, ◌+◌, ◌-◌, ◌<◌, ◌≤◌, ◌^◌, List, [], ◌∷◌, ◌++◌, length, Bool, true, false, not, cond, eqb, drop, drop-cons, get_or, refl, sym, ◌∙◌, ap, subst, arith, add-one, append-nil, append_assoc, length-append, Option, None, Some, ◌||◌}
+use Rattle.std.proofs.Common.{◌≡◌, ℕ, suc, ◌+◌, ◌-◌, ◌<◌, ◌≤◌, ◌^◌, List, [], ◌∷◌, ◌++◌, length, Bool, true, false, not, cond, eqb, take, drop, drop-cons, get_or, refl, sym, ◌∙◌, ap, subst, arith, add-one, append-nil, append_assoc, length-append, Option, None, Some, ◌||◌}
 use Rattle.std.specs.Prelude.{is_none, option_and_then}
 use Rattle.std.proofs.Math.ListN.{drop_of_length-le}
+use Rattle.std.proofs.Math.Seq.{take-append_seam}
 use Rattle.std.proofs.lemmas.Bool.{ne_eqb, false≢true}
 use Rattle.std.proofs.lemmas.Option.{same_Some}
 use Rattle.sc_actor.specs.declared.rows.Row.{Row}
@@ -12,14 +13,14 @@ use Rattle.sc_actor.specs.Mail.{mails, has_crashed}
 use Rattle.sc_actor.specs.System.{System, acts, numbers_of, waiting, kth, network, has_gone}
 use Rattle.sc_actor.specs.Walk.{Task, Once, WalkPlace, Allows, IsLawful, IsNext, is_over, is_quiet, rest_of_task, line_row, first_of}
 use Rattle.sc_actor.proofs.ReplayLemmas.{mails-append}
-use Rattle.sc_actor.proofs.WalkLemmas.{Stands-at, Stands-allows, Stands-ended, Stands-whole, lawful-prefix, lawful-last}
+use Rattle.sc_actor.proofs.WalkLemmas.{Stands-at, Stands-allows, Stands-ended, Stands-whole, lawful-last}
 use Rattle.sc_replay.specs.declared.stages.Stage.{Stage}
 use Rattle.sc_replay.specs.declared.stages.Action.{Action}
 use Rattle.sc_replay.specs.Actions.{is_of_network, is_number, can_act, row_made, line_action, lowest_action, chosen_action}
 use Rattle.sc_replay.specs.Opens.{opens_of}
 use Rattle.sc_replay.specs.Moves.{IsStageAt, Rules, with_births, StageGoes, many}
 use Rattle.sc_replay.specs.Checks.{Follows, IsTaking, DidWithRow, Misses, Ends, Breaks}
-use Rattle.sc_replay.specs.Replays.{HasReplayed}
+use Rattle.sc_replay.specs.Replays.{HasReplayed, IsBadRow}
 use Rattle.sc_replay.proofs.ActionLemmas.{acts-some, line_row-action, line_action-can, lowest-action, quiet_is, of_delivery}
 use Rattle.sc_replay.proofs.Steps.{IsStageAt-did, made, or_is, line-at, lowest-at, numbers-at}
 
@@ -54,11 +55,22 @@ room_mails taken rows row follows lt is few =
     let last : length (mails (row ∷ [])) ≡ length row.sent = ap length (append-nil row.sent) in
     omega (arith, all, first, last, few)
 
--- in lawful rows the next one may come next
-next_of : {A M O : Type 0} (s : System A M O) (lines : List (Line O)) (taken rows : List (Row M O)) (row : Row M O) → Follows taken rows → length taken < length rows → row ≡ get_or rows (length taken) row → IsLawful s lines rows → IsNext s lines taken row
-next_of s lines taken rows row follows lt is lawful =
+-- the next row is the first that is not lawful, where it may not come next
+bad_next : {A M O : Type 0} (s : System A M O) (lines : List (Line O)) (taken rows : List (Row M O)) (row : Row M O) → Follows taken rows → length taken < length rows → row ≡ get_or rows (length taken) row → IsLawful s lines taken → (IsNext s lines taken row → ⊥) →
+    IsBadRow s lines rows (length taken + 1)
+bad_next s lines taken rows row follows lt is lawful never =
     let whole = split_rows taken rows row follows lt is in
-    lawful-last s lines taken row (lawful-prefix s lines (taken ++ row ∷ []) (drop (length taken + 1) rows) (subst (IsLawful s lines) whole lawful))
+    let before : take (length taken) rows ≡ taken = ap (take (length taken)) follows ∙ take-append_seam taken (drop (length taken) rows) in
+    let one_more : length (taken ++ row ∷ []) ≡ length taken + 1 = length-append taken (row ∷ []) in
+    let with : take (length taken + 1) rows ≡ taken ++ row ∷ [] =
+    ap (λ n. take n rows) (sym one_more) ∙ ap (take (length (taken ++ row ∷ []))) whole ∙ take-append_seam (taken ++ row ∷ []) (drop (length taken + 1) rows) in
+    let places : length taken ≡ length taken + 1 - 1 = omega arith in
+    record {
+      first = omega arith;
+      within = omega (arith, lt);
+      before = subst (λ n. IsLawful s lines (take n rows)) places (subst (IsLawful s lines) (sym before) lawful);
+      not_with = λ more. never (lawful-last s lines taken row (subst (IsLawful s lines) with more));
+    }
 
 module _ {A M O : Type 0} (r : Rules A M O) (words : ℕ → ℕ → ℕ × ℕ) (births : List (Seat A)) (lines : List (Line O)) (old : Stage A M O) (rows : List (Row M O)) where
   -- the rows end before the first task makes its row
@@ -85,26 +97,27 @@ module _ {A M O : Type 0} (r : Rules A M O) (words : ℕ → ℕ → ℕ × ℕ)
 
   -- a row that the first task does not allow
   IsStageAt-wrong : (task : Task O) (rest : List (Task O)) (row : Row M O) → IsStageAt (with_births r words births) lines old (task ∷ rest) → is_over (with_births r words births) old.rows task ≡ false → Follows old.rows rows → length old.rows < length rows → row ≡ get_or rows (length old.rows) row →
-      (Allows (with_births r words births) old.rows task row → ⊥) → IsLawful (with_births r words births) lines rows → ⊥
-  IsStageAt-wrong task rest row at opens follows lt is never lawful =
+      (Allows (with_births r words births) old.rows task row → ⊥) → IsBadRow (with_births r words births) lines rows (length old.rows + 1)
+  IsStageAt-wrong task rest row at opens follows lt is never =
       let s = with_births r words births in
-      never (Stands-allows s lines old.rows task rest old.skipped old.unsettled row (record { lawful = at.lawful; place = at.place }) opens (next_of s lines old.rows rows row follows lt is lawful))
+      bad_next s lines old.rows rows row follows lt is at.lawful (λ next. never (Stands-allows s lines old.rows task rest old.skipped old.unsettled row (record { lawful = at.lawful; place = at.place }) opens next))
 
   -- rows after the end
-  pub IsStageAt-late : (row : Row M O) → IsStageAt (with_births r words births) lines old [] → Follows old.rows rows → length old.rows < length rows → row ≡ get_or rows (length old.rows) row → IsLawful (with_births r words births) lines rows → ⊥
-  IsStageAt-late row at follows lt is lawful =
+  pub IsStageAt-late : (row : Row M O) → IsStageAt (with_births r words births) lines old [] → Follows old.rows rows → length old.rows < length rows → row ≡ get_or rows (length old.rows) row → IsBadRow (with_births r words births) lines rows (length old.rows + 1)
+  IsStageAt-late row at follows lt is =
       let s = with_births r words births in
-      Stands-ended s lines old.rows old.skipped old.unsettled row (record { lawful = at.lawful; place = at.place }) (next_of s lines old.rows rows row follows lt is lawful)
+      bad_next s lines old.rows rows row follows lt is at.lawful (λ next. Stands-ended s lines old.rows old.skipped old.unsettled row (record { lawful = at.lawful; place = at.place }) next)
 
   -- the row of the task's action is another one
-  pub IsStageAt-misses : (task : Task O) (rest : List (Task O)) (d : Action O) (row : Row M O) → IsStageAt (with_births r words births) lines old (task ∷ rest) → can_act (numbers_of old.seats.items) d ≡ true → Misses r old d row →
+  pub IsStageAt-misses : (new : Stage A M O) (task : Task O) (rest : List (Task O)) (d : Action O) (row : Row M O) → IsStageAt (with_births r words births) lines old (task ∷ rest) → can_act (numbers_of old.seats.items) d ≡ true → Misses r old new d row →
       ((x : Row M O) → row_made (with_births r words births) old.rows d ≡ Some x → is_over (with_births r words births) old.rows task ≡ false) →
       (Allows (with_births r words births) old.rows task row → row_made (with_births r words births) old.rows d ≡ Some row) →
-      Follows old.rows rows → length old.rows < length rows → row ≡ get_or rows (length old.rows) row → IsLawful (with_births r words births) lines rows → ⊥
-  IsStageAt-misses task rest d row at can misses opens decides follows lt is lawful =
+      Follows old.rows rows → length old.rows < length rows → row ≡ get_or rows (length old.rows) row → IsBadRow (with_births r words births) lines rows (length new.rows + 1)
+  IsStageAt-misses new task rest d row at can misses opens decides follows lt is =
       let s = with_births r words births in
       let m = made s old.rows old.seats.items misses.seats d misses.made at.seats at.apart misses.makes can in
-      IsStageAt-wrong task rest row at (opens misses.made m.row_is) follows lt is (λ allows. misses.differs (same_Some misses.made row (sym m.row_is ∙ decides allows))) lawful
+      subst (λ xs. IsBadRow s lines rows (length xs + 1)) (sym misses.rows)
+      (IsStageAt-wrong task rest row at (opens misses.made m.row_is) follows lt is (λ allows. misses.differs (same_Some misses.made row (sym m.row_is ∙ decides allows))))
 
 module _ {A M O : Type 0} (s : System A M O) (rows : List (Row M O)) where
   not_over : (free : Bool) (left : ℕ) → 0 < left → is_quiet s rows ≡ false → is_over s rows (many free left) ≡ false
@@ -156,24 +169,24 @@ module _ {A M O : Type 0} (r : Rules A M O) (old new : Stage A M O) (rows : List
       IsStageAt-open r words births lines old rows (many free left) rest at (not_over s old.rows free left more (loud-at words births lines (many free left ∷ rest) at loud)) follows le
 
   -- a line of one row
-  pub Breaks-line : (line : Line O) (d : Action O) (row : Row M O) → line_action r.receiver (numbers_of old.seats.items) old.rows line ≡ Some d → Misses r old d row → Follows old.rows rows → length old.rows < length rows → row ≡ get_or rows (length old.rows) row → Breaks r old (Once line ∷ []) rows
+  pub Breaks-line : (line : Line O) (d : Action O) (row : Row M O) → line_action r.receiver (numbers_of old.seats.items) old.rows line ≡ Some d → Misses r old new d row → Follows old.rows rows → length old.rows < length rows → row ≡ get_or rows (length old.rows) row → Breaks r old (Once line ∷ []) new rows
   Breaks-line line d row is misses follows lt at_row = λ words births lines rest at.
       let s = with_births r words births in
       let here : line_action r.receiver (numbers_of births) old.rows line ≡ Some d = line-at r old old line words births lines (Once line ∷ rest) at ∙ is in
       let same : line_row s old.rows line ≡ row_made s old.rows d = line_row-action s old.rows line ∙ ap (option_and_then (row_made s old.rows)) here in
-      IsStageAt-misses r words births lines old rows (Once line) rest d row at (line_action-can r.receiver old.seats.items old.rows line d is) misses
+      IsStageAt-misses r words births lines old rows new (Once line) rest d row at (line_action-can r.receiver old.seats.items old.rows line d is) misses
       (λ x made_x. ap is_none (same ∙ made_x)) (λ allows. sym same ∙ allows) follows lt at_row
 
   -- a line of many deliveries
-  pub Breaks-many : (free : Bool) (left : ℕ) (d : Action O) (row : Row M O) → chosen_action r.receiver (numbers_of old.seats.items) old.rows free row.who ≡ Some d → can_act (numbers_of old.seats.items) d ≡ true → 0 < left → is_none (lowest_action {O = O} r.receiver (numbers_of old.seats.items) old.rows) ≡ false → Misses r old d row → Follows old.rows rows → length old.rows < length rows → row ≡ get_or rows (length old.rows) row → Breaks r old (many free left ∷ []) rows
+  pub Breaks-many : (free : Bool) (left : ℕ) (d : Action O) (row : Row M O) → chosen_action r.receiver (numbers_of old.seats.items) old.rows free row.who ≡ Some d → can_act (numbers_of old.seats.items) d ≡ true → 0 < left → is_none (lowest_action {O = O} r.receiver (numbers_of old.seats.items) old.rows) ≡ false → Misses r old new d row → Follows old.rows rows → length old.rows < length rows → row ≡ get_or rows (length old.rows) row → Breaks r old (many free left ∷ []) new rows
   Breaks-many free left d row is can more loud misses follows lt at_row = λ words births lines rest at.
       let s = with_births r words births in
-      IsStageAt-misses r words births lines old rows (many free left) rest d row at can misses
+      IsStageAt-misses r words births lines old rows new (many free left) rest d row at can misses
       (λ x made_x. not_over s old.rows free left more (loud-at words births lines (many free left ∷ rest) at loud))
       (λ allows. sym (ap (option_and_then (row_made s old.rows)) (chosen-at words births lines (many free left ∷ rest) free row.who at ∙ is)) ∙ chosen_decides s old.rows free left row allows) follows lt at_row
 
   -- a row where the line of many has none to make
-  pub Breaks-none : (free : Bool) (left : ℕ) (row : Row M O) → chosen_action {O = O} r.receiver (numbers_of old.seats.items) old.rows free row.who ≡ None → 0 < left → is_none (lowest_action {O = O} r.receiver (numbers_of old.seats.items) old.rows) ≡ false → Follows old.rows rows → length old.rows < length rows → row ≡ get_or rows (length old.rows) row → Breaks r old (many free left ∷ []) rows
+  pub Breaks-none : (free : Bool) (left : ℕ) (row : Row M O) → chosen_action {O = O} r.receiver (numbers_of old.seats.items) old.rows free row.who ≡ None → 0 < left → is_none (lowest_action {O = O} r.receiver (numbers_of old.seats.items) old.rows) ≡ false → Follows old.rows rows → length old.rows < length rows → row ≡ get_or rows (length old.rows) row → Breaks r old (many free left ∷ []) old rows
   Breaks-none free left row none more loud follows lt at_row = λ words births lines rest at.
       let s = with_births r words births in
       IsStageAt-wrong r words births lines old rows (many free left) rest row at (not_over s old.rows free left more (loud-at words births lines (many free left ∷ rest) at loud)) follows lt at_row
@@ -205,8 +218,8 @@ module _ {A M O : Type 0} (r : Rules A M O) where
   Ends-then first second third a b rows p q = λ words births lines rest at. q words births lines rest (p words births lines rest at)
 
   -- what breaks after a move breaks before it
-  pub Breaks-then : (first second : Stage A M O) (a b : List (Task O)) (rows : List (Row M O)) → StageGoes r first a second b → Breaks r second b rows → Breaks r first a rows
-  Breaks-then first second a b rows p q = λ words births lines rest at. q words births lines rest (p words births lines rest at)
+  pub Breaks-then : (first second third : Stage A M O) (a b : List (Task O)) (rows : List (Row M O)) → StageGoes r first a second b → Breaks r second b third rows → Breaks r first a third rows
+  Breaks-then first second third a b rows p q = λ words births lines rest at. q words births lines rest (p words births lines rest at)
 
 -- the stage after one more row
 pub taking_next : {A M O : Type 0} (r : Rules A M O) (old new : Stage A M O) (d : Action O) (row : Row M O) (rows : List (Row M O)) → IsTaking r.receiver old rows → length old.rows < length rows → row ≡ get_or rows (length old.rows) row → DidWithRow r old new d row → IsTaking r.receiver new rows

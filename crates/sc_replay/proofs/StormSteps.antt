@@ -95,10 +95,10 @@ module _ {A M O : Type 0} (r : Rules A M O) (old new : Stage A M O) (rows : List
         IsStageAt-open r words births lines old rows (Storms step) rest at (ap is_none (same_row words births lines (Storms step ∷ rest) at ∙ row.1)) follows le
 
     -- a row that is not that of the step
-    pub Breaks-step : (row : Row M O) → Misses r old d row → Follows old.rows rows → length old.rows < length rows → row ≡ get_or rows (length old.rows) row → Breaks r old (Storms step ∷ []) rows
+    pub Breaks-step : (row : Row M O) → Misses r old new d row → Follows old.rows rows → length old.rows < length rows → row ≡ get_or rows (length old.rows) row → Breaks r old (Storms step ∷ []) new rows
     Breaks-step row misses follows lt at_row = λ words births lines rest at.
         let same = same_row words births lines (Storms step ∷ rest) at in
-        IsStageAt-misses r words births lines old rows (Storms step) rest d row at can misses
+        IsStageAt-misses r words births lines old rows new (Storms step) rest d row at can misses
         (λ x made_x. ap is_none (same ∙ made_x)) (λ allows. sym same ∙ allows) follows lt at_row
 
 module _ {A M O : Type 0} (r : Rules A M O) (first old new : Stage A M O) (rows : List (Row M O)) (words : ℕ → ℕ × ℕ) (most done : ℕ) (lt : done < most)
@@ -116,7 +116,7 @@ module _ {A M O : Type 0} (r : Rules A M O) (first old new : Stage A M O) (rows 
       (subst (λ ts. IsStageAt (with_births r draws births) lines old (ts ++ rest)) (steps_left words most done lt) (goes draws births lines rest at))
 
   -- a step's row is another one
-  pub Breaks-storm : Breaks r old (Storms (words done) ∷ []) rows → Breaks r first (storm_steps words 0 most) rows
+  pub Breaks-storm : Breaks r old (Storms (words done) ∷ []) new rows → Breaks r first (storm_steps words 0 most) new rows
   Breaks-storm step = λ draws births lines rest at.
       step draws births lines (storm_steps words (done + 1) (most - (done + 1)) ++ rest)
       (subst (λ ts. IsStageAt (with_births r draws births) lines old (ts ++ rest)) (steps_left words most done lt) (goes draws births lines rest at))

@@ -1,17 +1,17 @@
 -- How given rows stand with the walk of a schedule.
-use Rattle.std.specs.Prelude.{◌≡◌, ℕ, ◌^◌, ◌<◌, List, [], ◌++◌, length, drop}
+use Rattle.std.specs.Prelude.{◌≡◌, ℕ, ◌+◌, ◌^◌, ◌<◌, List, [], ◌++◌, length, drop}
 use Rattle.sc_actor.specs.declared.rows.Row.{Row}
 use Rattle.sc_actor.specs.declared.actors.Seat.{Seat}
 use Rattle.sc_actor.specs.declared.schedules.Line.{Line}
 use Rattle.sc_actor.specs.Mail.{mails}
-use Rattle.sc_actor.specs.Walk.{Task, IsLawful}
+use Rattle.sc_actor.specs.Walk.{Task}
 use Rattle.sc_replay.specs.declared.stages.Stage.{Stage}
 use Rattle.sc_replay.specs.declared.stages.Action.{Action}
 use Rattle.sc_replay.specs.declared.checked.Checked.{Checked}
 use Rattle.sc_replay.specs.declared.checked.Checked.TheVariants.{On, Ended, Wrong}
 use Rattle.sc_replay.specs.Stages.{IsUpToDate, Makes}
 use Rattle.sc_replay.specs.Moves.{IsStageAt, Rules, with_births, Did, StageGoes}
-use Rattle.sc_replay.specs.Replays.{HasReplayed}
+use Rattle.sc_replay.specs.Replays.{HasReplayed, IsBadRow}
 
 -- these rows were taken from the front of those
 abbrev pub Follows : {M O : Type 0} → List (Row M O) → List (Row M O) → Type 0
@@ -30,12 +30,13 @@ pub record DidWithRow {A M O : Type 0} (r : Rules A M O) (old new : Stage A M O)
   pub same : did.row ≡ row
   pub kept : IsUpToDate r.receiver new
 
--- the row of an action is another one
-pub record Misses {A M O : Type 0} (r : Rules A M O) (old : Stage A M O) (action : Action O) (row : Row M O) : Type 0 where
+-- the row of an action is another one, and none was taken
+pub record Misses {A M O : Type 0} (r : Rules A M O) (old new : Stage A M O) (action : Action O) (row : Row M O) : Type 0 where
   pub made : Row M O
   pub seats : List (Seat A)
   pub makes : Makes r.table (mails old.rows) old.seats.items seats action made
   pub differs : made ≡ row → ⊥
+  pub rows : new.rows ≡ old.rows
 
 -- the rows end here, wherever the walk stands at the old stage with these tasks: they are lawful, and the new stage is what they leave
 abbrev pub Ends : {A M O : Type 0} → Rules A M O → Stage A M O → List (Task O) → Stage A M O → List (Row M O) → Type 0
@@ -43,14 +44,14 @@ Ends {A} {M} {O} r old before new rows =
     (words : ℕ → ℕ → ℕ × ℕ) (births : List (Seat A)) (lines : List (Line O)) (rest : List (Task O)) →
     IsStageAt (with_births r words births) lines old (before ++ rest) → (new.rows ≡ rows) × HasReplayed (with_births r words births) lines rows new.unsettled new.skipped new.seats.items
 
--- the rows are not lawful
-abbrev pub Breaks : {A M O : Type 0} → Rules A M O → Stage A M O → List (Task O) → List (Row M O) → Type 0
-Breaks {A} {M} {O} r old before rows =
+-- the first row that is not lawful is the one after those that the new stage has taken
+abbrev pub Breaks : {A M O : Type 0} → Rules A M O → Stage A M O → List (Task O) → Stage A M O → List (Row M O) → Type 0
+Breaks {A} {M} {O} r old before new rows =
     (words : ℕ → ℕ → ℕ × ℕ) (births : List (Seat A)) (lines : List (Line O)) (rest : List (Task O)) →
-    IsStageAt (with_births r words births) lines old (before ++ rest) → IsLawful (with_births r words births) lines rows → ⊥
+    IsStageAt (with_births r words births) lines old (before ++ rest) → IsBadRow (with_births r words births) lines rows (length new.rows + 1)
 
 -- what the answer of a check says
 abbrev pub IsChecked : {A M O : Type 0} → Rules A M O → Stage A M O → List (Task O) → Stage A M O → List (Row M O) → Checked → Type 0
 IsChecked r old before new rows On = StageGoes r old before new [] × IsTaking r.receiver new rows
 IsChecked r old before new rows Ended = Ends r old before new rows × IsTaking r.receiver new rows
-IsChecked r old before new rows Wrong = Breaks r old before rows
+IsChecked r old before new rows Wrong = Breaks r old before new rows

@@ -1,5 +1,5 @@
--- What is left where rows were replayed.
-use Rattle.std.specs.Prelude.{◌≡◌, ℕ, List, Bool, Option, None, Some}
+-- What a replay says of rows: what they leave, or the first that is not lawful.
+use Rattle.std.specs.Prelude.{◌≡◌, ◌≤◌, ◌-◌, ℕ, List, length, take, Bool, true, false}
 use Rattle.sc_actor.specs.declared.rows.Row.{Row}
 use Rattle.sc_actor.specs.declared.actors.Seat.{Seat}
 use Rattle.sc_actor.specs.declared.schedules.Line.{Line}
@@ -7,6 +7,8 @@ use Rattle.sc_actor.specs.Replay.{values}
 use Rattle.sc_actor.specs.System.{System}
 use Rattle.sc_actor.specs.Walk.{IsLawful, skipped, unsettled, is_quiet}
 use Rattle.sc_replay.specs.declared.judging.Replayed.{Replayed}
+use Rattle.sc_replay.specs.declared.judging.Verdict.{Verdict}
+use Rattle.sc_replay.specs.declared.judging.Verdict.TheVariants.{Lawful, BadRow}
 
 -- The rows are lawful, the counts are the walk's, and each actor is its replay.
 pub record HasReplayed {A M O : Type 0} (s : System A M O) (lines : List (Line O)) (rows : List (Row M O)) (cut : Bool) (skips : ℕ) (seats : List (Seat A)) : Type 0 where
@@ -20,7 +22,19 @@ pub record Leaves {A M O : Type 0} (s : System A M O) (lines : List (Line O)) (r
   pub replayed : HasReplayed s lines rows left.unsettled left.skipped left.seats.items
   pub quiet_now : left.quiet ≡ is_quiet s rows
 
--- rows are replayed exactly where they are lawful
-abbrev pub IsReplayed : {A M O : Type 0} → System A M O → List (Line O) → List (Row M O) → Option (Replayed A) → Type 0
-IsReplayed s lines rows None = IsLawful s lines rows → ⊥
-IsReplayed s lines rows (Some left) = Leaves s lines rows left
+-- The row at a place, from 1, is the first that is not lawful: those before it are, and with it they are not.
+pub record IsBadRow {A M O : Type 0} (s : System A M O) (lines : List (Line O)) (rows : List (Row M O)) (at : ℕ) : Type 0 where
+  pub first : 1 ≤ at
+  pub within : at ≤ length rows
+  pub before : IsLawful s lines (take (at - 1) rows)
+  pub not_with : IsLawful s lines (take at rows) → ⊥
+
+-- rows are lawful and leave this, or this is the first that is not lawful
+abbrev pub IsReplayed : {A M O : Type 0} → System A M O → List (Line O) → List (Row M O) → Verdict A → Type 0
+IsReplayed s lines rows (Lawful left) = Leaves s lines rows left
+IsReplayed s lines rows (BadRow at) = IsBadRow s lines rows at
+
+-- whether a replay says that rows are lawful
+abbrev pub says_lawful : {A : Type 0} → Verdict A → Bool
+says_lawful (Lawful left) = true
+says_lawful (BadRow at) = false

@@ -36,7 +36,7 @@ where
     requires mails { length (mails stage.old.rows) + length row.now.sent < 2 ^ 31 }
     ensures took { IfOk result (λ same. MatchBool same
         (DidWithRow (rules_of A.table A.Mail.receiver) stage.old stage.new action row.now)
-        (Misses (rules_of A.table A.Mail.receiver) stage.old action row.now)) }
+        (Misses (rules_of A.table A.Mail.receiver) stage.old stage.new action row.now)) }
     ensures skipped { OnOk result (stage.new.skipped ≡ stage.old.skipped) }
 {
     let made = make_row(alloc, &mut stage.seats, &stage.mails, action)?;

@@ -1,10 +1,10 @@
-//! What a journal leaves of its actors, if it is lawful.
+//! What a journal leaves of its actors, or its first row that is not lawful.
 ghost use Rattle.std.specs.Prelude.{◌≡◌, ◌<◌, ◌^◌, ◌↔◌, [], None, true, false, length, IfOk, IsTrue, is_none};
 ghost use Rattle.sc_actor.specs.Mail.{mails, pending};
 ghost use Rattle.sc_actor.specs.System.{are_apart, system, numbers_of, kth};
 ghost use Rattle.sc_actor.specs.Walk.{IsLawful};
 ghost use Rattle.sc_chance.specs.Words.{two_words};
-ghost use Rattle.sc_replay.specs.Replays.{IsReplayed};
+ghost use Rattle.sc_replay.specs.Replays.{IsReplayed, says_lawful};
 ghost use Rattle.sc_replay.specs.Stages.{IsUpToDate};
 
 use crate::checked::Checked;
@@ -23,6 +23,15 @@ pub struct Replayed<A> {
     pub quiet: bool,
     pub skipped: u64,
     pub unsettled: bool,
+}
+
+/// What a replay says of rows.
+#[derive(Drop)]
+pub enum Verdict<A> {
+    /// They are lawful, and leave this.
+    Lawful(Replayed<A>),
+    /// The row at this place, from 1, is the first that is not lawful.
+    BadRow { at: usize },
 }
 
 // What a stage leaves.
@@ -69,8 +78,9 @@ fn begun<A, M, O>(alloc: Global, seats: Vec<Seat<A>>) -> Stage<A, M, O>
     }
 }
 
-/// Replays rows of a schedule of these actors, from their births, row by row. Nothing is left where
-/// they are not lawful. They may end before the schedule does.
+/// Replays rows of a schedule of these actors, from their births, row by row, and stops at the
+/// first that the schedule does not allow: what they leave where they are lawful, and else which
+/// row, from 1, is the first that is not. They may end before the schedule does.
 ///
 /// The actors have different numbers, and there are fewer than 2^31 rows and mails.
 pub fn replay<A: Actor>(
@@ -78,7 +88,7 @@ pub fn replay<A: Actor>(
     seats: Vec<Seat<A>>,
     lines: &[Line<A::Order>],
     rows: &[Row<A::Mail, A::Order>],
-) -> Result<Option<Replayed<A>>, OutOfMemory>
+) -> Result<Verdict<A>, OutOfMemory>
 where
     A::Mail: Same,
     A::Order: Same,
@@ -86,49 +96,38 @@ where
     requires few_rows { length rows.now < 2 ^ 31 }
     requires few_mails { length (mails rows.now) < 2 ^ 31 }
     ensures { IfOk result
-        (λ replayed.
+        (λ verdict.
         IsReplayed (system A.table A.Mail.receiver two_words seats.items) lines.now rows.now
-        replayed) }
+        verdict) }
 {
     let mut stage = begun(alloc, seats);
     for line in lines {
         match check_line(alloc, &mut stage, line, rows)? {
             Checked::On => {}
-            Checked::Ended => return Ok(Some(left_by(stage))),
-            Checked::Wrong => return Ok(None),
+            Checked::Ended => return Ok(Verdict::Lawful(left_by(stage))),
+            Checked::Wrong => {
+                return Ok(Verdict::BadRow {
+                    at: stage.rows.len() + 1,
+                });
+            }
         }
     }
-    if stage.rows.len() != rows.len() {
-        return Ok(None);
+    if stage.rows.len() < rows.len() {
+        return Ok(Verdict::BadRow {
+            at: stage.rows.len() + 1,
+        });
     }
-    Ok(Some(left_by(stage)))
+    Ok(Verdict::Lawful(left_by(stage)))
 }
 
-/// How many rows a replay takes before it meets one that it does not make, or the end of the rows
-/// or of the schedule. So it is where to look for the first row that is not lawful; that this is
-/// the place, is not said.
-///
-/// There are fewer than 2^31 rows and mails.
-pub fn rows_replayed<A: Actor>(
-    alloc: Global,
-    seats: Vec<Seat<A>>,
-    lines: &[Line<A::Order>],
-    rows: &[Row<A::Mail, A::Order>],
-) -> Result<usize, OutOfMemory>
-where
-    A::Mail: Same,
-    A::Order: Same,
-    requires few_rows { length rows.now < 2 ^ 31 }
-    requires few_mails { length (mails rows.now) < 2 ^ 31 }
+// Whether rows are lawful by what a replay says of them.
+fn says_lawful<A>(verdict: &Verdict<A>) -> bool
+    ensures { result ≡ says_lawful verdict.now }
 {
-    let mut stage = begun(alloc, seats);
-    for line in lines {
-        match check_line(alloc, &mut stage, line, rows)? {
-            Checked::On => {}
-            Checked::Ended | Checked::Wrong => return Ok(stage.rows.len()),
-        }
+    match verdict {
+        Verdict::Lawful(_) => true,
+        Verdict::BadRow { .. } => false,
     }
-    Ok(stage.rows.len())
 }
 
 /// Whether rows are lawful for a schedule of these actors, as `replay` says.
@@ -149,6 +148,6 @@ where
         IsTrue lawful ↔ IsLawful (system A.table A.Mail.receiver two_words seats.items) lines.now
         rows.now) }
 {
-    let left = replay(alloc, seats, lines, rows)?;
-    Ok(left.is_some())
+    let verdict = replay(alloc, seats, lines, rows)?;
+    Ok(says_lawful(&verdict))
 }

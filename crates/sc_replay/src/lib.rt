@@ -1,5 +1,5 @@
-//! What rows leave of the actors of a schedule, if they are lawful, and plain functions that look a
-//! journal over.
+//! What rows leave of the actors of a schedule, or the first of them that is not lawful, and plain
+//! functions that look a journal over.
 #![tactic(auto)]
 
 mod actions;
@@ -12,5 +12,5 @@ mod making;
 mod pending;
 mod stages;
 
-pub use judging::{Replayed, is_lawful, replay, rows_replayed};
+pub use judging::{Replayed, Verdict, is_lawful, replay};
 pub use looking::pending_of;

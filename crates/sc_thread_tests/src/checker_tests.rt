@@ -4,7 +4,7 @@ use crate::notes::Note;
 use crate::players::Player;
 use sc_actor::{Event, Journal, Line, Row, Seat, are_apart, are_few};
 use sc_base::Sequence;
-use sc_replay::{Replayed, is_lawful, pending_of, replay, rows_replayed};
+use sc_replay::{Replayed, Verdict, is_lawful, pending_of, replay};
 use std::alloc::Global;
 use std::mem::forget;
 use std::process::Abort;
@@ -94,14 +94,20 @@ fn lawful(rt: &impl Abort, alloc: Global, lines: &[Line<u32>], acts: &[Act]) -> 
     is_lawful
 }
 
-// How many rows a replay takes before the first that it does not make.
-fn taken(rt: &impl Abort, alloc: Global, lines: &[Line<u32>], acts: &[Act]) -> usize {
+// Which row, from 1, is the first that is not lawful, or 0 where all are.
+fn bad_row(rt: &impl Abort, alloc: Global, lines: &[Line<u32>], acts: &[Act]) -> usize {
     let rows = journal(rt, alloc, acts);
     let seats = pair(rt, alloc);
-    assert!(rt; are_few(rows.as_slice()));
-    let taken = rows_replayed(alloc, seats, lines, rows.as_slice()).expect(rt, "memory");
+    assert!(rt; are_apart(&seats) && are_few(rows.as_slice()));
+    let bad = match replay(alloc, seats, lines, rows.as_slice()).expect(rt, "memory") {
+        Verdict::Lawful(left) => {
+            forget(left);
+            0
+        }
+        Verdict::BadRow { at } => at,
+    };
     forget(rows);
-    taken
+    bad
 }
 
 // How many first parts of rows are lawful, all of them among these.
@@ -115,17 +121,17 @@ fn lawful_parts(rt: &impl Abort, alloc: Global, lines: &[Line<u32>], acts: &[Act
     parts
 }
 
-// Lines, rows, how many first parts of these are lawful, and how many rows a replay takes, where
-// that is asked.
+// Lines, rows, how many first parts of these are lawful, and which row is the first that is not
+// lawful, or 0, where that is asked.
 type Case = (&'static [Line<u32>], &'static [Act], usize, Option<usize>);
 
 fn is_so(rt: &impl Abort, alloc: Global, case: Case) -> bool {
-    let (lines, acts, parts, rows) = case;
-    let takes = match rows {
-        Some(rows) => taken(rt, alloc, lines, acts) == rows,
+    let (lines, acts, parts, bad) = case;
+    let is_named = match bad {
+        Some(bad) => bad_row(rt, alloc, lines, acts) == bad,
         None => true,
     };
-    takes && lawful_parts(rt, alloc, lines, acts) == parts
+    is_named && lawful_parts(rt, alloc, lines, acts) == parts
 }
 
 fn are_so(rt: &impl Abort, alloc: Global, cases: &[Case]) {
@@ -159,10 +165,10 @@ fn is_left(left: &Replayed<Player>, wanted: Left) -> bool {
     }
 }
 
-fn is_told(left: &Option<Replayed<Player>>, wanted: Option<Left>) -> bool {
-    match (left, wanted) {
-        (Some(left), Some(wanted)) => is_left(left, wanted),
-        (None, None) => true,
+fn is_told(verdict: &Verdict<Player>, wanted: Option<Left>) -> bool {
+    match (verdict, wanted) {
+        (Verdict::Lawful(left), Some(wanted)) => is_left(left, wanted),
+        (Verdict::BadRow { .. }, None) => true,
         _ => false,
     }
 }
@@ -178,9 +184,9 @@ fn leave(
     let rows = journal(rt, alloc, acts);
     let seats = pair(rt, alloc);
     assert!(rt; are_apart(&seats) && are_few(rows.as_slice()));
-    let left = replay(alloc, seats, lines, rows.as_slice()).expect(rt, "memory");
-    let is_so = is_told(&left, wanted);
-    forget(left);
+    let verdict = replay(alloc, seats, lines, rows.as_slice()).expect(rt, "memory");
+    let is_so = is_told(&verdict, wanted);
+    forget(verdict);
     forget(rows);
     is_so
 }
@@ -250,7 +256,7 @@ const GO_AND_TWO: &[Line<u32>] = &[Line::Go { who: 1 }, Line::Settle { most: 2 }
 const OTHER_GOES: &[Line<u32>] = &[Line::Go { who: 2 }, Line::Settle { most: 10 }];
 
 const LAWFUL: &[Case] = &[
-    (GO_AND_SETTLE, &SETTLED, 6, Some(5)),
+    (GO_AND_SETTLE, &SETTLED, 6, Some(0)),
     (GO_AND_FREE, &SETTLED, 6, None),
     (GO_AND_TWO, &SETTLED, 4, None),
     (OTHER_GOES, &SETTLED, 1, None),
@@ -285,13 +291,13 @@ const ONE_MORE: [Act; 5] = [
 ];
 
 const CHANGED: &[Case] = &[
-    (GO_AND_SETTLE, &LEFT_OUT, 2, Some(1)),
-    (GO_AND_SETTLE, &TWICE, 2, Some(1)),
-    (GO_AND_SETTLE, &BY_ANOTHER, 2, Some(1)),
-    (GO_AND_SETTLE, &TO_ANOTHER, 2, Some(1)),
-    (GO_AND_SETTLE, &WITHOUT_NOTE, 2, Some(1)),
-    (GO_AND_SETTLE, &AT_ANOTHER, 2, Some(1)),
-    (GO_AND_SETTLE, &ONE_MORE, 5, Some(4)),
+    (GO_AND_SETTLE, &LEFT_OUT, 2, Some(2)),
+    (GO_AND_SETTLE, &TWICE, 2, Some(2)),
+    (GO_AND_SETTLE, &BY_ANOTHER, 2, Some(2)),
+    (GO_AND_SETTLE, &TO_ANOTHER, 2, Some(2)),
+    (GO_AND_SETTLE, &WITHOUT_NOTE, 2, Some(2)),
+    (GO_AND_SETTLE, &AT_ANOTHER, 2, Some(2)),
+    (GO_AND_SETTLE, &ONE_MORE, 5, Some(5)),
 ];
 
 #[test]

@@ -9,7 +9,7 @@ use crate::notes::Note;
 use crate::players::{Open, Player, go, seats};
 use sc_actor::{Line, Played, Row, Seat, are_few};
 use sc_drive::{Company, close, drive, goers_are_spared, open};
-use sc_replay::replay;
+use sc_replay::{Verdict, replay};
 use sc_workers::{Way, gather};
 use std::alloc::Global;
 use std::mem::forget;
@@ -100,8 +100,8 @@ fn replayed(
 ) -> Option<u32> {
     assert!(rt; are_few(rows));
     match replay(alloc, seats(rt, alloc, 2, 7, 0), lines, rows).expect(rt, "memory") {
-        None => None,
-        Some(left) => {
+        Verdict::BadRow { .. } => None,
+        Verdict::Lawful(left) => {
             let digits = seated(&left.seats);
             forget(left);
             Some(digits)

@@ -1,5 +1,5 @@
 -- What a world stands for, and what it holds of it.
-use Rattle.std.specs.Prelude.{◌≡◌, ℕ, ◌<◌, ◌^◌, Bool, List, length, Option, Some, None}
+use Rattle.std.specs.Prelude.{◌≡◌, ℕ, ◌<◌, ◌^◌, Bool, List, length}
 use Rattle.sc_cmd.specs.declared.orders.OrderLine.{OrderLine}
 use Rattle.sc_mail.specs.declared.bodies.Mail.{Mail}
 use Rattle.sc_actor.specs.declared.rows.Row.{Row}
@@ -16,10 +16,11 @@ pub record Standing : Type 0 where
   pub scenario : Scenario
   pub rows : List (Row Mail OrderLine)
 
--- what a world holds: rows that are lawful and of which each first part is sound, fewer than 2^31 as are their mails, the parties as these leave them, how many lines were skipped, and whether no mail is pending
+-- what a world holds: rows that are lawful, of which each first part is sound and whose refusals have causes, fewer than 2^31 as are their mails, the parties as these leave them, how many lines were skipped, and whether no mail is pending
 pub record WorldHolds (scenario : Scenario) (rows : List (Row Mail OrderLine)) (left : List Player) (skips : ℕ) (quiet : Bool) : Type 0 where
   pub lawful : Lawful as_nodes two_words scenario rows
   pub sound : IsSoundThroughout as_nodes scenario rows
+  pub refuses : RefusesWithCause as_nodes scenario rows
   pub few_rows : length rows < 2 ^ 31
   pub few_mails : length (mails rows) < 2 ^ 31
   pub parties_are : left ≡ parties as_nodes scenario rows
@@ -33,8 +34,3 @@ pub record StandsFor (scenario : Scenario) (rows : List (Row Mail OrderLine)) (w
   pub refuses : RefusesWithCause as_nodes scenario rows
   pub scenario_is : world.scenario ≡ scenario
   pub rows_are : world.rows ≡ rows
-
--- there is a world exactly where the rows are lawful
-abbrev pub MayReplay : Scenario → List (Row Mail OrderLine) → Option Standing → Type 0
-MayReplay scenario rows None = Lawful as_nodes two_words scenario rows → ⊥
-MayReplay scenario rows (Some world) = StandsFor scenario rows world

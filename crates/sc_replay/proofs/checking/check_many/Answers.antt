@@ -30,7 +30,7 @@ returns-in_default-clause-is g c =
     let quiet = quiet_is {O = _} g.A.Mail.Parcel.receiver c.loop-done.stage.seats.items c.loop-done.stage.rows in
     let r = rules_of g.A.Actor.table g.A.Mail.Parcel.receiver in
     let next = next_row c.loop-done.stage.rows c.args.rows.now c.index-rows-at.result c.len-at.result c.len-at.ensures c.if-at-rows.false c.index-rows-at.is in
-    Breaks-then r c.args.stage.now c.loop-done.stage (many c.args.free c.args.most ∷ []) (many c.args.free (c.args.most - c.loop-done.done) ∷ []) c.args.rows.now c.loop-done.invariant.0
+    Breaks-then r c.args.stage.now c.loop-done.stage c.loop-done.stage (many c.args.free c.args.most ∷ []) (many c.args.free (c.args.most - c.loop-done.done) ∷ []) c.args.rows.now c.loop-done.invariant.0
     (Breaks-none r c.loop-done.stage c.loop-done.stage c.args.rows.now c.args.free (c.args.most - c.loop-done.done) c.index-rows-at.result (sym c.in_default.ensures.is) (omega arith) (sym (c.is_quiet.ensures ∙ quiet) ∙ c.if-is_quiet.false) c.loop-done.invariant.1.follows next.more next.is)
 
 pub take_row-requires-clause-mails : goal.take_row-requires-clause-mails
@@ -43,16 +43,16 @@ returns-then-not-branch-clause-is g c =
     let quiet = quiet_is {O = _} g.A.Mail.Parcel.receiver c.loop-done.stage.seats.items c.loop-done.stage.rows in
     let r = rules_of g.A.Actor.table g.A.Mail.Parcel.receiver in
     let next = next_row c.loop-done.stage.rows c.args.rows.now c.index-rows-at.result c.len-at.result c.len-at.ensures c.if-at-rows.false c.index-rows-at.is in
-    let misses = MatchBool-at_false (DidWithRow r c.loop-done.stage c.take_row.new.stage c.in-Some.action c.index-rows-at.result) (Misses r c.loop-done.stage c.in-Some.action c.index-rows-at.result) c.if-not-branch.true c.in_ok-take_row.ensures.took in
-    Breaks-then r c.args.stage.now c.loop-done.stage (many c.args.free c.args.most ∷ []) (many c.args.free (c.args.most - c.loop-done.done) ∷ []) c.args.rows.now c.loop-done.invariant.0
-    (Breaks-many r c.loop-done.stage c.loop-done.stage c.args.rows.now c.args.free (c.args.most - c.loop-done.done) c.in-Some.action c.index-rows-at.result (sym c.in-Some.ensures.is) c.in-Some.ensures.can (omega arith) (sym (c.is_quiet.ensures ∙ quiet) ∙ c.if-is_quiet.false) misses c.loop-done.invariant.1.follows next.more next.is)
+    let misses = MatchBool-at_false (DidWithRow r c.loop-done.stage c.take_row.new.stage c.in-Some.action c.index-rows-at.result) (Misses r c.loop-done.stage c.take_row.new.stage c.in-Some.action c.index-rows-at.result) c.if-not-branch.true c.in_ok-take_row.ensures.took in
+    Breaks-then r c.args.stage.now c.loop-done.stage c.take_row.new.stage (many c.args.free c.args.most ∷ []) (many c.args.free (c.args.most - c.loop-done.done) ∷ []) c.args.rows.now c.loop-done.invariant.0
+    (Breaks-many r c.loop-done.stage c.take_row.new.stage c.args.rows.now c.args.free (c.args.most - c.loop-done.done) c.in-Some.action c.index-rows-at.result (sym c.in-Some.ensures.is) c.in-Some.ensures.can (omega arith) (sym (c.is_quiet.ensures ∙ quiet) ∙ c.if-is_quiet.false) misses c.loop-done.invariant.1.follows next.more next.is)
 
 pub loop-done-preserved : goal.loop-done-preserved
 loop-done-preserved g c =
     let quiet = quiet_is {O = _} g.A.Mail.Parcel.receiver c.loop-done.stage.seats.items c.loop-done.stage.rows in
     let r = rules_of g.A.Actor.table g.A.Mail.Parcel.receiver in
     let next = next_row c.loop-done.stage.rows c.args.rows.now c.index-rows-at.result c.len-at.result c.len-at.ensures c.if-at-rows.false c.index-rows-at.is in
-    let took = MatchBool-at_true (DidWithRow r c.loop-done.stage c.take_row.new.stage c.in-Some.action c.index-rows-at.result) (Misses r c.loop-done.stage c.in-Some.action c.index-rows-at.result) c.if-not-branch.false c.in_ok-take_row.ensures.took in
+    let took = MatchBool-at_true (DidWithRow r c.loop-done.stage c.take_row.new.stage c.in-Some.action c.index-rows-at.result) (Misses r c.loop-done.stage c.take_row.new.stage c.in-Some.action c.index-rows-at.result) c.if-not-branch.false c.in_ok-take_row.ensures.took in
     let less : c.args.most - c.loop-done.done - 1 ≡ c.args.most - (c.loop-done.done + 1) = omega arith in (
       StageGoes-then r c.args.stage.now c.loop-done.stage c.take_row.new.stage (many c.args.free c.args.most ∷ []) (many c.args.free (c.args.most - c.loop-done.done) ∷ []) (many c.args.free (c.args.most - (c.loop-done.done + 1)) ∷ []) c.loop-done.invariant.0
           (StageGoes-count r c.loop-done.stage c.take_row.new.stage c.args.free (c.args.most - c.loop-done.done) (c.args.most - c.loop-done.done - 1) (c.args.most - (c.loop-done.done + 1)) less

@@ -22,7 +22,7 @@ pub returns-then-branch-clause-is : goal.returns-then-branch-clause-is
 returns-then-branch-clause-is g c =
     let r = rules_of g.A.Actor.table g.A.Mail.Parcel.receiver in
     let next = next_row c.args.stage.now.rows c.args.rows.now c.index-rows-at.result c.len-at.result c.len-at.ensures c.if-at-rows.false c.index-rows-at.is in
-    let took = MatchBool-at_true (DidWithRow r c.args.stage.now c.take_row.new.stage c.in-Some.action c.index-rows-at.result) (Misses r c.args.stage.now c.in-Some.action c.index-rows-at.result) c.if-branch.true c.in_ok-take_row.ensures.took in (
+    let took = MatchBool-at_true (DidWithRow r c.args.stage.now c.take_row.new.stage c.in-Some.action c.index-rows-at.result) (Misses r c.args.stage.now c.take_row.new.stage c.in-Some.action c.index-rows-at.result) c.if-branch.true c.in_ok-take_row.ensures.took in (
       StageGoes-line r c.args.stage.now c.take_row.new.stage c.args.line.now c.in-Some.action (sym c.in_ok-action.ensures.is ∙ c.in-Some.is) took.did,
       taking_next r c.args.stage.now c.take_row.new.stage c.in-Some.action c.index-rows-at.result c.args.rows.now c.requires.taking next.more next.is took,
     )
@@ -31,8 +31,8 @@ pub returns-else-branch-clause-is : goal.returns-else-branch-clause-is
 returns-else-branch-clause-is g c =
     let r = rules_of g.A.Actor.table g.A.Mail.Parcel.receiver in
     let next = next_row c.args.stage.now.rows c.args.rows.now c.index-rows-at.result c.len-at.result c.len-at.ensures c.if-at-rows.false c.index-rows-at.is in
-    let misses = MatchBool-at_false (DidWithRow r c.args.stage.now c.take_row.new.stage c.in-Some.action c.index-rows-at.result) (Misses r c.args.stage.now c.in-Some.action c.index-rows-at.result) c.if-branch.false c.in_ok-take_row.ensures.took in
-    Breaks-line r c.args.stage.now c.args.stage.now c.args.rows.now c.args.line.now c.in-Some.action c.index-rows-at.result (sym c.in_ok-action.ensures.is ∙ c.in-Some.is) misses c.requires.taking.follows next.more next.is
+    let misses = MatchBool-at_false (DidWithRow r c.args.stage.now c.take_row.new.stage c.in-Some.action c.index-rows-at.result) (Misses r c.args.stage.now c.take_row.new.stage c.in-Some.action c.index-rows-at.result) c.if-branch.false c.in_ok-take_row.ensures.took in
+    Breaks-line r c.args.stage.now c.take_row.new.stage c.args.rows.now c.args.line.now c.in-Some.action c.index-rows-at.result (sym c.in_ok-action.ensures.is ∙ c.in-Some.is) misses c.requires.taking.follows next.more next.is
 
 pub returns-then-at-rows-clause-is : goal.returns-then-at-rows-clause-is
 returns-then-at-rows-clause-is g c =

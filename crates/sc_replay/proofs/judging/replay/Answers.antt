@@ -1,7 +1,8 @@
-use Rattle.std.proofs.Common.{sym, ◌∙◌, ap, subst, arith}
+use Rattle.std.proofs.Common.{◌+◌, sym, ap, subst, arith}
 use Rattle.sc_replay.specs.declared.checked.Checked.TheVariants.{On, Ended}
 use Rattle.sc_replay.specs.Checks.{IsChecked}
-use Rattle.sc_replay.specs.Moves.{rules_of}
+use Rattle.sc_replay.specs.Moves.{rules_of, with_births}
+use Rattle.sc_replay.specs.Replays.{IsBadRow}
 use Rattle.sc_actor.specs.Walk.{tasks_of}
 use Rattle.sc_chance.specs.Words.{two_words}
 use Rattle.sc_replay.proofs.Checks.{taking_begin}
@@ -24,11 +25,19 @@ returns-in-Ended g c =
     let has = judged_ends r two_words c.args.seats.items c.args.lines.now c.loop-line.stage c.args.rows.now c.check_line.new.stage c.loop-line.line-index c.line-item.result c.loop-line-test.true c.line-item.is c.loop-line.invariant.0 ended.0 in
     leaves r two_words c.args.seats.items c.args.lines.now c.check_line.new.stage c.args.rows.now has.0 has.1 c.left_by.result c.left_by.ensures
 
+pub overflow_add-result : goal.overflow_add-result
+overflow_add-result g c =
+    let r = rules_of g.A.Actor.table g.A.Mail.Parcel.receiver in
+    let bad = judged_breaks r two_words c.args.seats.items c.args.lines.now c.loop-line.stage c.args.rows.now c.check_line.new.stage c.loop-line.line-index c.line-item.result c.loop-line-test.true c.line-item.is c.loop-line.invariant.0
+    (subst (IsChecked r c.loop-line.stage (tasks_of two_words c.line-item.result) c.check_line.new.stage c.args.rows.now) c.in-Wrong.is c.in_ok-check_line.ensures.is) in
+    omega (arith, c.len.ensures, bad.within, c.requires.few_rows)
+
 pub returns-in-Wrong : goal.returns-in-Wrong
 returns-in-Wrong g c =
     let r = rules_of g.A.Actor.table g.A.Mail.Parcel.receiver in
-    judged_breaks r two_words c.args.seats.items c.args.lines.now c.loop-line.stage c.args.rows.now c.loop-line.line-index c.line-item.result c.loop-line-test.true c.line-item.is c.loop-line.invariant.0
-    (subst (IsChecked r c.loop-line.stage (tasks_of two_words c.line-item.result) c.check_line.new.stage c.args.rows.now) c.in-Wrong.is c.in_ok-check_line.ensures.is)
+    let bad = judged_breaks r two_words c.args.seats.items c.args.lines.now c.loop-line.stage c.args.rows.now c.check_line.new.stage c.loop-line.line-index c.line-item.result c.loop-line-test.true c.line-item.is c.loop-line.invariant.0
+    (subst (IsChecked r c.loop-line.stage (tasks_of two_words c.line-item.result) c.check_line.new.stage c.args.rows.now) c.in-Wrong.is c.in_ok-check_line.ensures.is) in
+    subst (λ n. IsBadRow (with_births r two_words c.args.seats.items) c.args.lines.now c.args.rows.now (n + 1)) (sym c.len.ensures) bad
 
 pub loop-line-preserved : goal.loop-line-preserved
 loop-line-preserved g c =
@@ -42,15 +51,16 @@ loop-line-preserved g c =
 pub returns-then-len-rows : goal.returns-then-len-rows
 returns-then-len-rows g c =
     let r = rules_of g.A.Actor.table g.A.Mail.Parcel.receiver in
-    late r two_words c.args.seats.items c.args.lines.now c.loop-line.stage c.args.rows.now
-    (λ same. absurd (c.if-len-rows.true (c.len.ensures ∙ same)))
+    let bad = late r two_words c.args.seats.items c.args.lines.now c.loop-line.stage c.args.rows.now
+    (omega (arith, c.len-2.ensures, c.if-len-rows.true))
     (IsStageAt-end r two_words c.args.seats.items c.args.lines.now c.loop-line.stage c.loop-line.line-index (omega (arith, c.loop-line-test.false)) c.loop-line.invariant.0)
-    c.loop-line.invariant.1.follows
+    c.loop-line.invariant.1.follows in
+    subst (λ n. IsBadRow (with_births r two_words c.args.seats.items) c.args.lines.now c.args.rows.now (n + 1)) (sym c.len-then-len-rows.ensures) bad
 
 pub returns : goal.returns
 returns g c =
     let r = rules_of g.A.Actor.table g.A.Mail.Parcel.receiver in
-    let has = judged_all r two_words c.args.seats.items c.args.lines.now c.loop-line.stage c.args.rows.now (sym c.len.ensures ∙ c.if-len-rows.false)
+    let has = judged_all r two_words c.args.seats.items c.args.lines.now c.loop-line.stage c.args.rows.now (omega (arith, c.len-2.ensures, c.if-len-rows.false))
     (IsStageAt-end r two_words c.args.seats.items c.args.lines.now c.loop-line.stage c.loop-line.line-index (omega (arith, c.loop-line-test.false)) c.loop-line.invariant.0)
     c.loop-line.invariant.1.follows in
     leaves r two_words c.args.seats.items c.args.lines.now c.loop-line.stage c.args.rows.now has.0 has.1 c.left_by-2.result c.left_by-2.ensures
