@@ -10,7 +10,7 @@ use Rattle.sc_actor.specs.declared.rows.Row.{Row}
 use Rattle.sc_actor.specs.Mail.{mails}
 
 -- first rows have sent no more mails than all
-pub fewer_mails : (count : ℕ) (rows : List (Row Mail OrderLine)) → length (mails (take count rows)) ≤ length (mails rows)
+fewer_mails : (count : ℕ) (rows : List (Row Mail OrderLine)) → length (mails (take count rows)) ≤ length (mails rows)
 fewer_mails count rows =
     let sent : Row Mail OrderLine → List Mail = λ row. row.sent in
     let parts : mails rows ≡ mails (take count rows) ++ mails (drop count rows) =

@@ -78,7 +78,8 @@ pub fn replay_rows<'a>(
 {
     valid_journals_are_sound();
     valid_journals_refuse_with_cause();
-    match taken(alloc, scenario, rows.as_slice())? {
+    let verdict = taken(alloc, scenario, rows.as_slice())?;
+    match verdict {
         Verdict::BadRow { at } => Err(ReplayFault::BadRow { at: at as u32 }),
         Verdict::Lawful(left) => {
             let parties = parties_of(alloc, left.seats)?;

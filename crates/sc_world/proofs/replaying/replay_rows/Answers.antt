@@ -9,7 +9,7 @@ pub invariant_of-result : goal.invariant_of-result
 invariant_of-result c =
     let s = system_of as_nodes two_words c.args.scenario.now in
     let lines = schedule c.args.scenario.now in
-    let leaves : Leaves s lines c.as_slice.result.now c.in-Lawful.left = subst (IsReplayed s lines c.as_slice.result.now) c.in-Lawful.is c.in_ok-taken.ensures in
+    let leaves : Leaves s lines c.as_slice.result.now c.in-Lawful.left = subst (IsReplayed s lines c.as_slice.result.now) c.in-Lawful.is c.in_ok-verdict.ensures in
     let here : Leaves s lines c.args.rows.now c.in-Lawful.left = subst (λ rows. Leaves s lines rows c.in-Lawful.left) c.as_slice.ensures leaves in
     let sound = c.valid_journals_are_sound.ensures as_nodes refl two_words c.args.scenario.now c.requires.valid c.args.rows.now here.replayed.lawful in
     let refuses = c.valid_journals_refuse_with_cause.ensures as_nodes refl two_words c.args.scenario.now c.requires.valid c.args.rows.now here.replayed.lawful in
@@ -19,7 +19,7 @@ pub returns-in_ok-parties-in-Lawful : goal.returns-in_ok-parties-in-Lawful
 returns-in_ok-parties-in-Lawful c =
     let s = system_of as_nodes two_words c.args.scenario.now in
     let lines = schedule c.args.scenario.now in
-    let leaves : Leaves s lines c.as_slice.result.now c.in-Lawful.left = subst (IsReplayed s lines c.as_slice.result.now) c.in-Lawful.is c.in_ok-taken.ensures in
+    let leaves : Leaves s lines c.as_slice.result.now c.in-Lawful.left = subst (IsReplayed s lines c.as_slice.result.now) c.in-Lawful.is c.in_ok-verdict.ensures in
     let here : Leaves s lines c.args.rows.now c.in-Lawful.left = subst (λ rows. Leaves s lines rows c.in-Lawful.left) c.as_slice.ensures leaves in
     record {
       lawful = here.replayed.lawful;
@@ -33,5 +33,5 @@ pub returns-in-BadRow : goal.returns-in-BadRow
 returns-in-BadRow c =
     let s = system_of as_nodes two_words c.args.scenario.now in
     let lines = schedule c.args.scenario.now in
-    let bad : IsBadRow s lines c.as_slice.result.now c.in-BadRow.at = subst (IsReplayed s lines c.as_slice.result.now) c.in-BadRow.is c.in_ok-taken.ensures in
+    let bad : IsBadRow s lines c.as_slice.result.now c.in-BadRow.at = subst (IsReplayed s lines c.as_slice.result.now) c.in-BadRow.is c.in_ok-verdict.ensures in
     subst (λ rows. IsBadRow s lines rows c.in-BadRow.at) c.as_slice.ensures bad
