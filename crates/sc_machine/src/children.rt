@@ -1,5 +1,5 @@
 //! The child that an entry makes.
-ghost use Rattle.std.specs.Prelude.{◌≡◌, IfOk, Some, None, if◌then◌else◌};
+ghost use Rattle.std.specs.Prelude.{◌≡◌, IfOk, IsOk, Some, None, false, if◌then◌else◌};
 ghost use Rattle.sc_cmd.specs.declared.commands.Command.TheVariants.{Split};
 ghost use Rattle.sc_machine_table.specs.Orders.{refusal_of, split_refused};
 ghost use Rattle.sc_machine_table.specs.Plans.{can_split};
@@ -31,7 +31,8 @@ impl Machine {
     /// The record of the child that a command makes of the group, if it makes one: a split at once
     /// does, and a watcher's Yes that lets a split go. To be taken before the command is applied.
     pub fn child_by(&self, command: &Command) -> Result<Option<Base>, OutOfMemory>
-        ensures { IfOk result (λ child. child ≡ child_by self.now command.now) }
+        ensures child { IfOk result (λ child. child ≡ child_by self.now command.now) }
+        ensures none { child_by self.now command.now ≡ None → IsOk result }
     {
         match command {
             Command::Split { at, child, order } => self.split_child(command, *at, *child, *order),
@@ -59,8 +60,10 @@ impl Machine {
         order: u32,
     ) -> Result<Option<Base>, OutOfMemory>
         requires { command.now ≡ Split at child order }
-        ensures { IfOk result
+        ensures child { IfOk result
             (λ base. base ≡ split_child (refusal_of self.now.core command.now) self.now at child) }
+        ensures none { split_child (refusal_of self.now.core command.now) self.now at child ≡ None
+            → IsOk result }
     {
         if has_named(&self.core, child) || self.core.gone.is_some() {
             return Ok(None);
@@ -75,7 +78,8 @@ impl Machine {
     #[tactic(auto, using(crate::proofs::Accepted::can_split))]
     fn lone_child(&self, at: u32, child: Draw) -> Result<Option<Base>, OutOfMemory>
         requires { split_refused self.now.core at ≡ None }
-        ensures { IfOk result (λ base. base ≡ ordered_child None None self.now at child) }
+        ensures child { IfOk result (λ base. base ≡ ordered_child None None self.now at child) }
+        ensures none { ordered_child None None self.now at child ≡ None → IsOk result }
     {
         if !self.core.is_alone() {
             return Ok(None);
@@ -86,8 +90,10 @@ impl Machine {
 
     // Of a watcher's vote on the transaction that the group coordinates.
     fn watched_child(&self, tx: Draw, vote: &Past) -> Result<Option<Base>, OutOfMemory>
-        ensures { IfOk result
+        ensures child { IfOk result
             (λ base. base ≡ watched_child self.now.core.lock self.now tx vote.now) }
+        ensures none { watched_child self.now.core.lock self.now tx vote.now ≡ None
+            → IsOk result }
     {
         match &self.core.lock {
             Lock::Coordinating {
@@ -106,7 +112,8 @@ impl Machine {
 
     // Only a Yes carries the split out.
     fn answered_child(&self, vote: &Past, body: &Body) -> Result<Option<Base>, OutOfMemory>
-        ensures { IfOk result (λ base. base ≡ answered_child vote.now body.now self.now) }
+        ensures child { IfOk result (λ base. base ≡ answered_child vote.now body.now self.now) }
+        ensures none { answered_child vote.now body.now self.now ≡ None → IsOk result }
     {
         match vote {
             Past::Yes => self.released_child(body),
@@ -115,7 +122,8 @@ impl Machine {
     }
 
     fn released_child(&self, body: &Body) -> Result<Option<Base>, OutOfMemory>
-        ensures { IfOk result (λ base. base ≡ released_child body.now self.now) }
+        ensures child { IfOk result (λ base. base ≡ released_child body.now self.now) }
+        ensures none { released_child body.now self.now ≡ None → IsOk result }
     {
         match body {
             Body::Split { at, child } => self.planned_child(*at, *child),
@@ -125,10 +133,11 @@ impl Machine {
 
     // Of a split that can be made.
     fn planned_child(&self, at: u32, child: Draw) -> Result<Option<Base>, OutOfMemory>
-        ensures { IfOk result
+        ensures child { IfOk result
             (λ base.
             base
             ≡ (if can_split self.now.core at then Some (child_of self.now at child) else None)) }
+        ensures none { can_split self.now.core at ≡ false → IsOk result }
     {
         if !can_split(&self.core, at) {
             return Ok(None);

@@ -1,3 +1,4 @@
+mod ChildRuns
 mod Counting
 mod Making
 mod Naming

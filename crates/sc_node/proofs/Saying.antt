@@ -8,7 +8,7 @@ use Rattle.sc_node_table.specs.declared.Before.{Before}
 use Rattle.sc_node_table.specs.Replica.{Place}
 use Rattle.sc_node_table.specs.Spoken.{told_begun, went_on, spoken_mails, spoken}
 use Rattle.sc_node_table.specs.Execute.{answer_of, told_call, told_effect, order_result, announced}
-use Rattle.sc_node.specs.Calls.{is_call}
+use Rattle.sc_replica_parts.specs.Calls.{is_call}
 
 -- of a call nothing is said but its answer
 pub nothing_of_calls : (counted : Bool) (before : Before) (effect : Effect) (c : Command) (place : Place) → is_call c ≡ true

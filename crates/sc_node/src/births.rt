@@ -1,5 +1,5 @@
 //! The children that a step makes.
-ghost use Rattle.std.specs.Prelude.{◌≡◌, ◌++◌, OnOk};
+ghost use Rattle.std.specs.Prelude.{◌≡◌, ◌++◌, [], OnOk, IsOk};
 ghost use Rattle.sc_node_table.specs.Execute.{child_at, next_child};
 
 use sc_base::{OutOfMemory, Sequence};
@@ -9,7 +9,8 @@ use sc_replica::Replica;
 /// A child is put behind those that are there, where the node is one of its members.
 #[tactic(auto, using(crate::proofs::Making::making))]
 fn keep_child(me: u16, child: Option<Base>, made: &mut Sequence<Base>) -> Result<(), OutOfMemory>
-    ensures { OnOk result (made.new ≡ made.old ++ child_at me child) }
+    ensures made { OnOk result (made.new ≡ made.old ++ child_at me child) }
+    ensures none { child_at me child ≡ [] → IsOk result }
 {
     let Some(child) = child else {
         return Ok(());

@@ -3,7 +3,7 @@
 ghost use Rattle.std.specs.Prelude.{◌≡◌, true, false, OnOk};
 ghost use Rattle.sc_node_table.specs.Execute.{order_result, told_effect, announced};
 ghost use Rattle.sc_node_table.specs.Spoken.{spoken};
-ghost use Rattle.sc_node.specs.Calls.{is_call};
+ghost use Rattle.sc_replica_parts.specs.Calls.{is_call};
 
 use sc_base::{OutOfMemory, Sequence};
 use sc_cmd::{Command, Effect, ToldResult};

@@ -1,5 +1,5 @@
 //! Lists of nodes.
-ghost use Rattle.std.specs.Prelude.{◌≡◌, ◌≤◌, filter, not, IfOk};
+ghost use Rattle.std.specs.Prelude.{◌≡◌, ◌≤◌, filter, not, true, All, IfOk, IsOk};
 ghost use Rattle.sc_base.specs.Limits.{most_nodes};
 ghost use Rattle.sc_base.specs.Roster.{is_member};
 ghost use Rattle.sc_paxos_words.specs.Votes.{has_counted};
@@ -12,8 +12,9 @@ use std::alloc::Global;
 
 /// The nodes that are not in a set.
 pub fn not_among(alloc: Global, nodes: &[u16], set: &Members) -> Result<Vec<u16>, OutOfMemory>
-    ensures { IfOk result
+    ensures others { IfOk result
         (λ others. others.items ≡ filter (λ node. not (is_member set.now node)) nodes.now) }
+    ensures none { All (λ node. is_member set.now node ≡ true) nodes.now → IsOk result }
 {
     let mut others = Vec::new(alloc);
     for node in nodes {
@@ -31,9 +32,11 @@ pub fn uncounted<V>(
     slot: u32,
     set: &Members,
 ) -> Result<Vec<u16>, OutOfMemory>
-    ensures { IfOk result
+    ensures nodes { IfOk result
         (λ nodes.
         nodes.items ≡ filter (λ node. not (has_counted slot node leader.now)) set.now) }
+    ensures none { All (λ node. has_counted slot node leader.now ≡ true) set.now
+        → IsOk result }
 {
     let mut nodes = Vec::new(alloc);
     for node in set.as_slice() {

@@ -1,7 +1,8 @@
 //! Mails: each function puts some behind those that are there.
-ghost use Rattle.std.specs.Prelude.{◌≡◌, OnOk};
+ghost use Rattle.std.specs.Prelude.{◌≡◌, [], false, OnOk, IsOk};
 ghost use Rattle.sc_cmd.specs.declared.orders.ToldResult.TheVariants.{Refused};
 ghost use Rattle.sc_cmd.specs.declared.orders.OrderRefusal.TheVariants.{NotLeader};
+ghost use Rattle.sc_replica_parts.specs.Calls.{is_call};
 ghost use Rattle.sc_node_table.specs.Mails.{sent, answer_to, answered, told_desk, order_number, told_order, dismissed, dismissed_all};
 
 use sc_base::{Draw, Dup, OutOfMemory, Sequence};
@@ -51,7 +52,8 @@ pub fn answer_command(
     command: &Command,
     out: &mut Sequence<Mail>,
 ) -> Result<(), OutOfMemory>
-    ensures { OnOk result (out.new ≡ answered me group body.now command.now out.old) }
+    ensures mails { OnOk result (out.new ≡ answered me group body.now command.now out.old) }
+    ensures others { is_call command.now ≡ false → IsOk result }
 {
     match command {
         Command::Call { client, seq, .. } => {
@@ -109,7 +111,8 @@ pub fn tell_order(
     told: ToldResult,
     out: &mut Sequence<Mail>,
 ) -> Result<(), OutOfMemory>
-    ensures { OnOk result (out.new ≡ told_order me number told out.old) }
+    ensures mails { OnOk result (out.new ≡ told_order me number told out.old) }
+    ensures untold { number ≡ 0 → IsOk result }
 {
     if !is_told(number) {
         return Ok(());
@@ -129,7 +132,9 @@ fn dismiss(
     command: &Command,
     out: &mut Sequence<Mail>,
 ) -> Result<(), OutOfMemory>
-    ensures { OnOk result (out.new ≡ dismissed me group hint body.now command.now out.old) }
+    ensures mails { OnOk result (out.new ≡ dismissed me group hint body.now command.now out.old) }
+    ensures untold { is_call command.now ≡ false → order_number command.now ≡ 0 →
+        IsOk result }
 {
     match command {
         Command::Call { client, seq, .. } => {
@@ -153,8 +158,9 @@ pub fn dismiss_all(
     commands: &VecDeque<Command>,
     out: &mut Sequence<Mail>,
 ) -> Result<(), OutOfMemory>
-    ensures { OnOk result
+    ensures mails { OnOk result
         (out.new ≡ dismissed_all me group hint body.now commands.now.items out.old) }
+    ensures none { commands.now.items ≡ [] → IsOk result }
 {
     for i in 0..commands.len() {
         dismiss(alloc, me, group, hint, body, &commands[i], out)?;

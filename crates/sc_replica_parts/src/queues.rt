@@ -1,5 +1,5 @@
 //! The waiting commands, in queues of std.
-ghost use Rattle.std.specs.Prelude.{◌≡◌, ◌<◌, ◌∷◌, ◌++◌, [], length, is_none, remove, OnOk};
+ghost use Rattle.std.specs.Prelude.{◌≡◌, ℕ, ◌<◌, ◌≤◌, ◌∷◌, ◌++◌, [], length, is_none, remove, OnOk, IsOk};
 ghost use Rattle.std.specs.Option.{option_copied};
 ghost use Rattle.sc_cmd.specs.declared.commands.Command.TheVariants.{Call};
 ghost use Rattle.sc_node_table.specs.Slots.{rest_of};
@@ -116,9 +116,11 @@ pub fn put_call(
     seq: u32,
     command: Command,
 ) -> Result<(), OutOfMemory>
-    ensures { OnOk result
+    ensures calls { OnOk result
         (calls.new.items
         ≡ call_before (call_of calls.old.items client) client seq command calls.old.items) }
+    ensures later { (other : ℕ) → call_of calls.old.items client ≡ Some other → seq ≤ other →
+        IsOk result }
 {
     match call_of(calls, client) {
         None => push_front(calls, command),

@@ -1,5 +1,5 @@
 //! One mail to one or to each of several nodes.
-ghost use Rattle.std.specs.Prelude.{◌≡◌, OnOk};
+ghost use Rattle.std.specs.Prelude.{◌≡◌, [], All, OnOk, IsOk};
 ghost use Rattle.sc_mail.specs.declared.bodies.MailBody.TheVariants.{Prepare, Accept, Learn, Install};
 ghost use Rattle.sc_node_table.specs.Mails.{sent, sent_all, sent_others};
 
@@ -19,8 +19,9 @@ pub fn send_prepares(
     from_slot: u32,
     out: &mut Sequence<Mail>,
 ) -> Result<(), OutOfMemory>
-    ensures { OnOk result
+    ensures mails { OnOk result
         (out.new ≡ sent_all me nodes.now (Prepare group ballot from_slot) out.old) }
+    ensures none { nodes.now ≡ [] → IsOk result }
 {
     for node in nodes {
         send(
@@ -49,8 +50,9 @@ pub fn send_accepts(
     command: &Command,
     out: &mut Sequence<Mail>,
 ) -> Result<(), OutOfMemory>
-    ensures { OnOk result
+    ensures mails { OnOk result
         (out.new ≡ sent_all me nodes.now (Accept group ballot slot command.now) out.old) }
+    ensures none { nodes.now ≡ [] → IsOk result }
 {
     for node in nodes {
         send(
@@ -103,8 +105,9 @@ pub fn send_learns(
     command: &Command,
     out: &mut Sequence<Mail>,
 ) -> Result<(), OutOfMemory>
-    ensures { OnOk result
+    ensures mails { OnOk result
         (out.new ≡ sent_others me nodes.now (Learn group slot command.now) out.old) }
+    ensures alone { All (λ node. node ≡ me) nodes.now → IsOk result }
 {
     for node in nodes {
         if *node != me {

@@ -5,5 +5,5 @@ use Rattle.sc_chosen.proofs.known.step.Goals as goal
 pub returns-in-None : goal.returns-in-None
 returns-in-None c = (
   c.in_ok-execute.ensures,
-  λ calm. ap (λ child. option_to_list child ++ []) (sym (c.births_are_children.ensures c.args.state.now c.args.command.now) ∙ sym c.in_ok-child.ensures ∙ c.in-None.is),
+  λ calm. ap (λ child. option_to_list child ++ []) (sym (c.births_are_children.ensures c.args.state.now c.args.command.now) ∙ sym c.in_ok-child.ensures.child ∙ c.in-None.is),
 )

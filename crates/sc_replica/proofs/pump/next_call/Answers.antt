@@ -18,34 +18,34 @@ returns c =
 pub loop-alloc-preserved-in_ok-answer_command-in-Some-turned_down : goal.loop-alloc-preserved-in_ok-answer_command-in-Some-turned_down
 loop-alloc-preserved-in_ok-answer_command-in-Some-turned_down c =
     next_call-goes c.args.me c.args.idle c.args.core.now c.loop-alloc.calls.items c.take_head.new.queue.items c.loop-alloc.out _
-    c.in-Some.command c.in-Some-turned_down.body c.take_head.ensures.rest c.in_ok-answer_command-in-Some-turned_down.ensures
+    c.in-Some.command c.in-Some-turned_down.body c.take_head.ensures.rest c.in_ok-answer_command-in-Some-turned_down.ensures.mails
     (sym c.head_waits.ensures ∙ c.loop-alloc-test.true) (sym c.in-Some.is ∙ c.take_head.ensures.head) (sym c.turned_down.ensures ∙ c.in-Some-turned_down.is)
     ∙ c.loop-alloc.invariant
 
 pub loop-alloc-preserved-in_ok-answer_command-in-Some-turned_down-2 : goal.loop-alloc-preserved-in_ok-answer_command-in-Some-turned_down-2
 loop-alloc-preserved-in_ok-answer_command-in-Some-turned_down-2 c =
     next_call-goes c.args.me c.args.idle c.args.core.now c.loop-alloc.calls.items c.take_head.new.queue.items c.loop-alloc.out _
-    c.in-Some.command c.in-Some-turned_down.body c.take_head.ensures.rest c.in_ok-answer_command-in-Some-turned_down.ensures
+    c.in-Some.command c.in-Some-turned_down.body c.take_head.ensures.rest c.in_ok-answer_command-in-Some-turned_down.ensures.mails
     (sym c.head_waits.ensures ∙ c.loop-alloc-test.true) (sym c.in-Some.is ∙ c.take_head.ensures.head) (sym c.turned_down.ensures ∙ c.in-Some-turned_down.is)
     ∙ c.loop-alloc.invariant
 
 pub loop-alloc-preserved-in_ok-answer_command-in-Some-turned_down-3 : goal.loop-alloc-preserved-in_ok-answer_command-in-Some-turned_down-3
 loop-alloc-preserved-in_ok-answer_command-in-Some-turned_down-3 c =
     next_call-goes c.args.me c.args.idle c.args.core.now c.loop-alloc.calls.items c.take_head.new.queue.items c.loop-alloc.out _
-    c.in-Some.command c.in-Some-turned_down.body c.take_head.ensures.rest c.in_ok-answer_command-in-Some-turned_down.ensures
+    c.in-Some.command c.in-Some-turned_down.body c.take_head.ensures.rest c.in_ok-answer_command-in-Some-turned_down.ensures.mails
     (sym c.head_waits.ensures ∙ c.loop-alloc-test.true) (sym c.in-Some.is ∙ c.take_head.ensures.head) (sym c.turned_down.ensures ∙ c.in-Some-turned_down.is)
     ∙ c.loop-alloc.invariant
 
 pub loop-alloc-preserved-in_ok-answer_command-in-Some-turned_down-4 : goal.loop-alloc-preserved-in_ok-answer_command-in-Some-turned_down-4
 loop-alloc-preserved-in_ok-answer_command-in-Some-turned_down-4 c =
     next_call-goes c.args.me c.args.idle c.args.core.now c.loop-alloc.calls.items c.take_head.new.queue.items c.loop-alloc.out _
-    c.in-Some.command c.in-Some-turned_down.body c.take_head.ensures.rest c.in_ok-answer_command-in-Some-turned_down.ensures
+    c.in-Some.command c.in-Some-turned_down.body c.take_head.ensures.rest c.in_ok-answer_command-in-Some-turned_down.ensures.mails
     (sym c.head_waits.ensures ∙ c.loop-alloc-test.true) (sym c.in-Some.is ∙ c.take_head.ensures.head) (sym c.turned_down.ensures ∙ c.in-Some-turned_down.is)
     ∙ c.loop-alloc.invariant
 
 pub loop-alloc-preserved-in_ok-answer_command-in-Some-turned_down-5 : goal.loop-alloc-preserved-in_ok-answer_command-in-Some-turned_down-5
 loop-alloc-preserved-in_ok-answer_command-in-Some-turned_down-5 c =
     next_call-goes c.args.me c.args.idle c.args.core.now c.loop-alloc.calls.items c.take_head.new.queue.items c.loop-alloc.out _
-    c.in-Some.command c.in-Some-turned_down.body c.take_head.ensures.rest c.in_ok-answer_command-in-Some-turned_down.ensures
+    c.in-Some.command c.in-Some-turned_down.body c.take_head.ensures.rest c.in_ok-answer_command-in-Some-turned_down.ensures.mails
     (sym c.head_waits.ensures ∙ c.loop-alloc-test.true) (sym c.in-Some.is ∙ c.take_head.ensures.head) (sym c.turned_down.ensures ∙ c.in-Some-turned_down.is)
     ∙ c.loop-alloc.invariant

@@ -8,5 +8,5 @@ pub returns : goal.returns
 returns c = λ group is.
     let read = c.index-groups-at.is ∙ get_or_from_slice_get c.args.groups.now c.args.at group c.index-groups-at.result is in (
       c.in_ok-core.ensures ∙ c.core.ensures ∙ ap (λ (g : Group). g.core) read,
-      c.in_ok-child.ensures ∙ ap (λ (g : Group). child_by g c.args.command.now) read ∙ c.births_are_children.ensures group c.args.command.now,
+      c.in_ok-child.ensures.child ∙ ap (λ (g : Group). child_by g c.args.command.now) read ∙ c.births_are_children.ensures group c.args.command.now,
     )
