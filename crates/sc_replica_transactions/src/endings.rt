@@ -1,5 +1,6 @@
 //! What a coordinator tells of its decision.
-ghost use Rattle.std.specs.Prelude.{◌≡◌, OnOk, Option, Some};
+ghost use Rattle.std.specs.Prelude.{◌≡◌, false, OnOk, IsOk, Option, Some};
+ghost use Rattle.sc_cmd.specs.declared.votes.No.{No};
 ghost use Rattle.sc_cmd.specs.declared.votes.Outcome.TheVariants.{Abort};
 ghost use Rattle.sc_cmd.specs.Effects.{decided_in};
 ghost use Rattle.sc_mail.specs.declared.bodies.MailBody.TheVariants.{TxOutcome};
@@ -50,7 +51,8 @@ fn abort_watcher(
     heard: &Option<(u16, Link)>,
     out: &mut Sequence<Mail>,
 ) -> Result<(), OutOfMemory>
-    ensures { OnOk result (out.new ≡ aborted_watcher me tx heard.now out.old) }
+    ensures mails { OnOk result (out.new ≡ aborted_watcher me tx heard.now out.old) }
+    ensures none { heard.now ≡ None → IsOk result }
 {
     match heard {
         None => Ok(()),
@@ -67,8 +69,9 @@ pub(crate) fn give_up(
     tx: Draw,
     out: &mut Sequence<Mail>,
 ) -> Result<(), OutOfMemory>
-    ensures { OnOk result
+    ensures mails { OnOk result
         (out.new ≡ given_up_by (decided_in effect.now) me before.now tx out.old) }
+    ensures undecided { decided_in effect.now ≡ None → IsOk result }
 {
     if !effect.has_outcome() {
         return Ok(());
@@ -88,8 +91,10 @@ pub(crate) fn answer_vote(
     by: u16,
     out: &mut Sequence<Mail>,
 ) -> Result<(), OutOfMemory>
-    ensures { OnOk result
+    ensures mails { OnOk result
         (out.new ≡ vote_answered (decided_in effect.now) vote.now me before.now tx by out.old) }
+    ensures undecided { decided_in effect.now ≡ None → IsOk result }
+    ensures no { (why : No) → vote.now ≡ Vote.No why → IsOk result }
 {
     let Some(outcome) = effect.outcome() else {
         return Ok(());
@@ -135,8 +140,11 @@ pub(crate) fn answer_watch(
     by: u16,
     out: &mut Sequence<Mail>,
 ) -> Result<(), OutOfMemory>
-    ensures { OnOk result
+    ensures mails { OnOk result
         (out.new ≡ watch_answered_by (decided_in effect.now) vote.now me before.now tx by out.old) }
+    ensures undecided { decided_in effect.now ≡ None → IsOk result }
+    ensures ended { vote.now ≡ Past.Ended → IsOk result }
+    ensures no { (why : No) → vote.now ≡ Past.No why → before.now.merges ≡ false → IsOk result }
 {
     let Some(outcome) = effect.outcome() else {
         return Ok(());

@@ -1,7 +1,11 @@
 //! What a coordinator asks, and whom.
-ghost use Rattle.std.specs.Prelude.{◌≡◌, IfOk, OnOk};
+ghost use Rattle.std.specs.Prelude.{◌≡◌, false, IfOk, OnOk, IsOk};
 ghost use Rattle.sc_mail.specs.declared.bodies.MailBody.TheVariants.{TxPrepare};
 ghost use Rattle.sc_base.specs.Roster.{least_of};
+ghost use Rattle.sc_machine_table.specs.Plans.{can_split};
+ghost use Rattle.sc_machine_table.specs.Orders.{locked_in};
+ghost use Rattle.sc_machine_table.specs.Splits.{is_locked_in};
+ghost use Rattle.sc_replica_transactions.specs.Quiet.{coordinates};
 ghost use Rattle.sc_node_table.specs.Mails.{sent, sent_all};
 ghost use Rattle.sc_node_table.specs.Questions.{offer_of, heard_link, watcher_link, or_successor, asked_link, watch_of, child_link, both_link, split_watch, union_watch, heard_question, question, asked_node, asked_least, asked_all, asked_first};
 ghost use Rattle.sc_node_table.specs.Transactions.{next_asked, asked_next};
@@ -79,7 +83,8 @@ fn watch_of(me: u16, core: &Core, watcher: &Link, old: Draw, next: Link) -> Watc
 /// The child with the members that go to it; a group that cannot be split there, which is never
 /// asked for it, names its own.
 fn child_link(alloc: Global, core: &Core, at: u32, child: Draw) -> Result<Link, OutOfMemory>
-    ensures { IfOk result (λ link. link ≡ child_link core.now at child) }
+    ensures link { IfOk result (λ link. link ≡ child_link core.now at child) }
+    ensures whole { can_split core.now at ≡ false → IsOk result }
 {
     if !can_split(core, at) {
         return Ok(Link {
@@ -118,7 +123,8 @@ fn split_watch(
     at: u32,
     child: Draw,
 ) -> Result<Watch, OutOfMemory>
-    ensures { IfOk result (λ watch. watch ≡ split_watch me core.now at child) }
+    ensures watch { IfOk result (λ watch. watch ≡ split_watch me core.now at child) }
+    ensures whole { can_split core.now at ≡ false → IsOk result }
 {
     let next = child_link(alloc, core, at, child)?;
     Ok(watch_of(me, core, &core.succ, core.id, next))
@@ -261,7 +267,8 @@ pub(crate) fn ask_first(
     core: &Core,
     out: &mut Sequence<Mail>,
 ) -> Result<(), OutOfMemory>
-    ensures { OnOk result (out.new ≡ asked_first core.now.lock me core.now out.old) }
+    ensures mails { OnOk result (out.new ≡ asked_first core.now.lock me core.now out.old) }
+    ensures unasked { coordinates core.now.lock ≡ false → IsOk result }
 {
     match &core.lock {
         Lock::Coordinating {
@@ -314,7 +321,10 @@ pub fn ask_next(
     hint: Option<u16>,
     out: &mut Sequence<Mail>,
 ) -> Result<(), OutOfMemory>
-    ensures { OnOk result (out.new ≡ asked_next core.now.lock me core.now from tx hint out.old) }
+    ensures mails { OnOk result
+        (out.new ≡ asked_next core.now.lock me core.now from tx hint out.old) }
+    ensures unasked { coordinates core.now.lock ≡ false → IsOk result }
+    ensures others { is_locked_in (locked_in core.now.lock) tx ≡ false → IsOk result }
 {
     match &core.lock {
         Lock::Coordinating {

@@ -1,5 +1,5 @@
 //! What the desk is told of splits and transactions, and mails of one line.
-ghost use Rattle.std.specs.Prelude.{◌≡◌, OnOk};
+ghost use Rattle.std.specs.Prelude.{◌≡◌, OnOk, IsOk};
 ghost use Rattle.sc_mail.specs.declared.bodies.MailBody.TheVariants.{TxElsewhere};
 ghost use Rattle.sc_node_table.specs.Mails.{sent};
 ghost use Rattle.sc_node_table.specs.Transactions.{told_outcome};
@@ -80,7 +80,9 @@ fn tell_result(
     number: u32,
     out: &mut Sequence<Mail>,
 ) -> Result<(), OutOfMemory>
-    ensures { OnOk result (out.new ≡ told_result me told number out.old) }
+    ensures mails { OnOk result (out.new ≡ told_result me told number out.old) }
+    ensures none { told ≡ None → IsOk result }
+    ensures untold { number ≡ 0 → IsOk result }
 {
     match told {
         None => Ok(()),
@@ -97,7 +99,10 @@ pub(crate) fn tell_begun(
     command: &Command,
     out: &mut Sequence<Mail>,
 ) -> Result<(), OutOfMemory>
-    ensures { OnOk result (out.new ≡ told_begun me before.now effect.now command.now out.old) }
+    ensures mails { OnOk result
+        (out.new ≡ told_begun me before.now effect.now command.now out.old) }
+    ensures none { begun_result before.now.alone effect.now command.now ≡ None → IsOk result }
+    ensures untold { spoken_number before.now.order command.now ≡ 0 → IsOk result }
 {
     let told = begun_result(before.alone, effect, command);
     tell_result(me, told, spoken_number(before.order, command), out)
