@@ -2,11 +2,11 @@
 use Rattle.std.proofs.Common.{◌≡◌, ◌≢◌, ℕ, zero, suc, Bool, true, false, true≢false, List, [], ◌∷◌, ◌++◌, length, set, sym, refl, ap, ◌∙◌, subst, ⊎_elim, MatchBool}
 use mathlib.Core.Option.{some, some-injective, some-ne-none}
 use lib.ListN.{get_elem?}
-use Rattle.crossbeam_queue.specs.Fifo.{Pushes, Pops, Forks}
+use Rattle.crossbeam_queue.specs.Fifo.{Pushes, Pops, Forks, Learns}
 use Rattle.crossbeam_queue.proofs.Lists.{at_set, at_snoc, at_longer, at_last}
 use Rattle.sc_lend.specs.declared.rule.Loan.{Loan}
 use Rattle.sc_lend.specs.declared.rule.Clerk.{Clerk}
-use Rattle.sc_lend.specs.Lending.{lender, helper, with_lent, with_held, IsLoan, AllLoans, Knows, Lent, Taken, MayGiveBack, Finished, IsLeft}
+use Rattle.sc_lend.specs.Lending.{lender, helper, with_lent, with_held, IsLoan, AllLoans, Knows, Lent, HoldsLent, Taken, MayGiveBack, Finished, IsLeft}
 
 module _ {T : Type 0} (leaves : T → T → Type 0) where
   loans_append : (lent : List T) (xs ys : List (Loan T)) → AllLoans leaves lent xs → AllLoans leaves lent ys → AllLoans leaves lent (xs ++ ys)
@@ -61,6 +61,10 @@ module _ {T : Type 0} (leaves : T → T → Type 0) where
         },
         refl,
       )
+
+  -- and learns that what is in the queue is what it has lent
+  pub holds_lent : (pass : ℕ) (v : Clerk T) → Learns (Lent leaves) pass v (HoldsLent leaves v)
+  holds_lent pass v items views k at may = subst (λ l. AllLoans leaves l items) (sym ((k.knows pass v at).lends may).1) k.loans
 
   -- one takes the first
   pub takes : (pass : ℕ) (v : Clerk T) → Pops (Lent leaves) pass v (Taken leaves v)

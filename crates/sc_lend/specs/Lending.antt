@@ -58,6 +58,10 @@ module _ {T : Type 0} (leaves : T → T → Type 0) where
     pub loans : AllLoans lent items
     pub knows : (pass : ℕ) (v : Clerk T) → get_elem? views pass ≡ some v → Knows writer lent pass v
 
+  -- what the queue holds is what the one that lends has lent
+  abbrev pub HoldsLent : Clerk T → List (Loan T) → Type 0
+  HoldsLent v items = v.lends ≡ true → AllLoans v.lent items
+
   -- what was taken is held, and to the one that lends it is one of its loans
   abbrev pub Taken : Clerk T → Loan T → Clerk T → Type 0
   Taken v x w = (w ≡ with_held v x) × (v.lends ≡ true → IsLoan v.lent x)

@@ -1,10 +1,12 @@
 -- What a clause says of an office, and of those who lend and help there.
-use Rattle.std.specs.Prelude.{List}
-use Rattle.crossbeam_queue.specs.Passes.{Pass, view, IsPassOf}
+use Rattle.std.specs.Prelude.{◌≡◌, ℕ, ◌+◌, ◌^◌, ◌⊎◌, List, length}
+use Rattle.crossbeam_queue.specs.Fifo.{Held}
+use Rattle.crossbeam_queue.specs.Passes.{Pass, view, IsPassOf, ruled_capacity}
 use Rattle.sc_lend.specs.declared.rule.Loan.{Loan}
 use Rattle.sc_lend.specs.declared.rule.Clerk.{Clerk}
 use Rattle.sc_lend.specs.declared.office.Office.{Office}
 use Rattle.sc_lend.specs.declared.lender.Lender.{Lender}
+use Rattle.sc_lend.specs.Lending.{AllLoans}
 
 module _ {T : Type 0} where
   -- all that was lent, in the order of its numbers
@@ -18,3 +20,16 @@ module _ {T : Type 0} where
   -- it helps at this office
   abbrev pub IsHelperOf : Office T → Pass (Loan T) (Clerk T) → Type 0
   IsHelperOf office p = IsPassOf office.bench p
+
+  -- how much may be lent here at one time
+  abbrev pub room_of : Office T → ℕ
+  room_of office = ruled_capacity office.bench
+
+  -- the flag that was set is the office's, by which those who help end
+  abbrev pub IsClosed : Office T → ℕ → Type 0
+  IsClosed office flag = flag ≡ office.closed.id
+
+module _ {T : Type 0} (leaves : T → T → Type 0) where
+  -- why nothing can be lent: no number is left, or at one moment the queue held as much as there is room for, and each of it was what the lender had lent
+  abbrev pub IsFull : Office T → Lender T → Type 0
+  IsFull office l = (length (lent_by l) + 1 ≡ 2 ^ 64) ⊎ Held (room_of office) (AllLoans leaves (lent_by l))

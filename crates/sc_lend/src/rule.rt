@@ -55,7 +55,7 @@ impl<T> Split<Clerk<T>> for Hire<T> {
     ghost right = { λ _. helper };
 }
 
-/// A loan.
+/// A loan, at which what is in the queue is what this pass has lent.
 pub struct Lends<T> {
     marker: PhantomData<T>,
 }
@@ -67,10 +67,10 @@ impl<T> Outcome<Loan<T>, Clerk<T>> for Lends<T> {
     ghost then = { λ v x w. w ≡ with_lent v x.work };
 }
 
-impl<T> Lesson<Loan<T>, Clerk<T>> for Lends<T> {
-    ghost use Rattle.std.specs.Prelude.{⊤};
+impl<T: Labour> Lesson<Loan<T>, Clerk<T>> for Lends<T> {
+    ghost use Rattle.sc_lend.specs.Lending.{HoldsLent};
 
-    ghost fact = { λ _ _. ⊤ };
+    ghost fact = { HoldsLent T.leaves };
 }
 
 /// A take, at which the one that lends learns of what it lent.
