@@ -1,12 +1,10 @@
 -- What a clause says of an office, and of those who lend and help there.
-use Rattle.std.specs.Prelude.{◌≡◌, ℕ, ◌+◌, ◌^◌, ◌⊎◌, List, length}
-use Rattle.crossbeam_queue.specs.Fifo.{Held}
+use Rattle.std.specs.Prelude.{◌≡◌, ℕ, ◌+◌, ◌^◌, ◌≤◌, ◌⊎◌, List, length}
 use Rattle.crossbeam_queue.specs.Passes.{Pass, view, IsPassOf, ruled_capacity}
 use Rattle.sc_lend.specs.declared.rule.Loan.{Loan}
 use Rattle.sc_lend.specs.declared.rule.Clerk.{Clerk}
 use Rattle.sc_lend.specs.declared.office.Office.{Office}
 use Rattle.sc_lend.specs.declared.lender.Lender.{Lender}
-use Rattle.sc_lend.specs.Lending.{AllLoans}
 
 module _ {T : Type 0} where
   -- all that was lent, in the order of its numbers
@@ -29,7 +27,10 @@ module _ {T : Type 0} where
   abbrev pub IsClosed : Office T → ℕ → Type 0
   IsClosed office flag = flag ≡ office.closed.id
 
-module _ {T : Type 0} (leaves : T → T → Type 0) where
-  -- why nothing can be lent: no number is left, or at one moment the queue held as much as there is room for, and each of it was what the lender had lent
+  -- how much the lender has taken back
+  abbrev pub collected_by : Lender T → ℕ
+  collected_by l = (view l.pass).out
+
+  -- why nothing can be lent: as much is lent and not taken back as there is room for, or no number is left
   abbrev pub IsFull : Office T → Lender T → Type 0
-  IsFull office l = (length (lent_by l) + 1 ≡ 2 ^ 64) ⊎ Held (room_of office) (AllLoans leaves (lent_by l))
+  IsFull office l = (room_of office + collected_by l ≤ length (lent_by l)) ⊎ (length (lent_by l) + 1 ≡ 2 ^ 64)

@@ -1,9 +1,9 @@
 //! Lending, helping and taking back.
-ghost use Rattle.std.specs.Prelude.{◌≡◌, ◌<◌, ◌++◌, [], ◌∷◌, All, true, length, vec_len, IfOk, IfErr, IfSome};
+ghost use Rattle.std.specs.Prelude.{◌≡◌, ◌<◌, ◌+◌, ◌++◌, [], ◌∷◌, All, true, length, vec_len, IfOk, IfErr, IfSome, MatchOption};
 ghost use Rattle.std.specs.Fn.{FnReturns};
 ghost use Rattle.crossbeam_queue.specs.Passes.{view, IsPassOf};
-ghost use Rattle.sc_lend.specs.Lending.{MayGiveBack, Finished, IsLeft};
-ghost use Rattle.sc_lend.specs.Offices.{IsLenderOf, IsHelperOf, IsClosed, IsFull, lent_by, room_of};
+ghost use Rattle.sc_lend.specs.Lending.{MayGiveBack, Finished, IsLeft, with_back};
+ghost use Rattle.sc_lend.specs.Offices.{IsLenderOf, IsHelperOf, IsClosed, IsFull, collected_by, lent_by, room_of};
 
 use crate::lender::Lender;
 use crate::rule::{Clerk, GivesBack, Hire, Labour, Lending, Lends, Loan, Takes};
@@ -60,8 +60,9 @@ fn give_back<T: Labour, R: Wait>(
 )
     requires pass { IsPassOf bench.now pass.old }
     requires may { MayGiveBack T.leaves (view pass.old) loan }
+    requires out { 0 < (view pass.old).out }
     ensures pass { IsPassOf bench.now pass.new }
-    ensures same { view pass.new ≡ view pass.old }
+    ensures back { view pass.new ≡ with_back (view pass.old) }
 {
     let mut next = loan;
     for _ in rt.forever() {
@@ -179,7 +180,8 @@ impl<T: Labour> Office<T> {
         ensures ok { IfOk result (λ number. (number ≡ length (lent_by lender.old))
             × (lent_by lender.new ≡ lent_by lender.old ++ work ∷ [])) }
         ensures err { IfErr result (λ back. (back ≡ work) × (lent_by lender.new ≡ lent_by lender.old)) }
-        ensures full { IfErr result (λ _. IsFull T.leaves self.now lender.old) }
+        ensures collected { collected_by lender.new ≡ collected_by lender.old }
+        ensures full { IfErr result (λ _. IsFull self.now lender.old) }
     {
         let number = lender.next;
         if number == u64::MAX {
@@ -232,6 +234,8 @@ impl<T: Labour> Office<T> {
         requires pass { IsLenderOf self.now lender.old }
         ensures pass { IsLenderOf self.now lender.new }
         ensures same { lent_by lender.new ≡ lent_by lender.old }
+        ensures collected { MatchOption result (collected_by lender.new ≡ collected_by lender.old)
+            (λ _. collected_by lender.new ≡ collected_by lender.old + 1) }
         ensures left { IfSome result
             (λ left. IsLeft T.leaves (lent_by lender.old) wanted left) }
     {
@@ -264,6 +268,8 @@ impl<T: Labour> Office<T> {
         requires pass { IsLenderOf self.now lender.old }
         ensures pass { IsLenderOf self.now lender.new }
         ensures same { lent_by lender.new ≡ lent_by lender.old }
+        ensures collected { MatchOption result (collected_by lender.new ≡ collected_by lender.old)
+            (λ _. collected_by lender.new ≡ collected_by lender.old + 1) }
         ensures left { IfSome result
             (λ left. IsLeft T.leaves (lent_by lender.old) wanted left) }
     {
@@ -289,6 +295,7 @@ impl<T: Labour> Office<T> {
         requires pass { IsLenderOf self.now lender.old }
         ensures pass { IsLenderOf self.now lender.new }
         ensures same { lent_by lender.new ≡ lent_by lender.old }
+        ensures collected { collected_by lender.new ≡ collected_by lender.old + 1 }
         ensures left { IsLeft T.leaves (lent_by lender.old) wanted result }
     {
         for _ in rt.forever() {
@@ -348,7 +355,8 @@ pub fn open<T: Labour>(
 ) -> Result<(Office<T>, Lender<T>, Vec<Helper<T>>), AllocError>
     requires { 0 < room }
     ensures pass { IfOk result (λ o. IsLenderOf o.0 o.1) }
-    ensures fresh { IfOk result (λ o. (room_of o.0 ≡ room) × (lent_by o.1 ≡ [])) }
+    ensures fresh { IfOk result
+        (λ o. (room_of o.0 ≡ room) × (lent_by o.1 ≡ []) × (collected_by o.1 ≡ 0)) }
     ensures helpers { IfOk result
         (λ o. (vec_len o.2 ≡ helpers) × All (λ p. IsHelperOf o.0 p) o.2.items) }
 {
