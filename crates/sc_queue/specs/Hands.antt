@@ -85,3 +85,8 @@ module _ {T : Type 0} where
   abbrev pub works : List (Item T) → List T
   works [] = []
   works (x ∷ xs) = x.work ∷ works xs
+
+  -- What a pass knows of a queue that is worked off: it put these, each once and at its place, and each was taken once, however they are weighed.
+  pub record IsWorkedOff (all : List T) (v : Hand T) : Type 0 where
+    pub put : v.put ≡ numbered 0 all
+    pub taken : (h : Item T → ℕ) → weigh h v.taken ≡ weigh h v.put
