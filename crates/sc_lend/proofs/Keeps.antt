@@ -1,12 +1,55 @@
 -- Each step of a pass keeps the rule.
-use Rattle.std.proofs.Common.{◌≡◌, ◌≢◌, ℕ, zero, suc, Bool, true, false, true≢false, List, [], ◌∷◌, ◌++◌, length, set, sym, refl, ap, ◌∙◌, subst, ⊎_elim, MatchBool}
+use Rattle.std.proofs.Common.{◌≡◌, ◌≢◌, ℕ, zero, suc, Bool, true, false, true≢false, ◌+◌, ◌-◌, ◌<◌, ◌≤◌, sum_by, arith, List, [], ◌∷◌, ◌++◌, length, length-append, set, sym, refl, ap, ◌∙◌, subst, ⊎_elim, MatchBool}
+use Rattle.std.proofs.lemmas.List.Sums.{sum_by-cons, sum_by-append}
 use mathlib.Core.Option.{some, some-injective, some-ne-none}
 use lib.ListN.{get_elem?}
-use Rattle.crossbeam_queue.specs.Fifo.{Pushes, Pops, Forks}
+use Rattle.crossbeam_queue.specs.Fifo.{Pushes, Pops, Forks, Learns}
 use Rattle.crossbeam_queue.proofs.Lists.{at_set, at_snoc, at_longer, at_last}
 use Rattle.sc_lend.specs.declared.rule.Loan.{Loan}
 use Rattle.sc_lend.specs.declared.rule.Clerk.{Clerk}
-use Rattle.sc_lend.specs.Lending.{lender, helper, with_lent, with_held, IsLoan, AllLoans, Knows, Lent, Taken, MayGiveBack, Finished, IsLeft}
+use Rattle.sc_lend.specs.Lending.{lender, helper, with_lent, with_held, with_back, IsLoan, AllLoans, Knows, Lent, IsOut, Taken, MayGiveBack, Finished, IsLeft}
+
+module _ {X : Type 0} (f : X → ℕ) where
+  -- the sum after one element is another
+  sum_set : (xs : List X) (i : ℕ) (x y : X) → get_elem? xs i ≡ some x → sum_by f (set xs i y) + f x ≡ sum_by f xs + f y
+  sum_set [] i x y e = absurd (some-ne-none x (sym e))
+  sum_set (z ∷ xs) zero x y e = let same : f z ≡ f x = ap f (some-injective z x e) in omega (arith, same, sum_by-cons f z xs, sum_by-cons f y xs)
+  sum_set (z ∷ xs) (suc i) x y e = omega (arith, sum_set xs i x y e, sum_by-cons f z xs, sum_by-cons f z (set xs i y))
+
+  -- no element is more than the sum
+  sum_part : (xs : List X) (i : ℕ) (x : X) → get_elem? xs i ≡ some x → f x ≤ sum_by f xs
+  sum_part [] i x e = absurd (some-ne-none x (sym e))
+  sum_part (z ∷ xs) zero x e = let same : f z ≡ f x = ap f (some-injective z x e) in omega (arith, same, sum_by-cons f z xs)
+  sum_part (z ∷ xs) (suc i) x e = omega (arith, sum_part xs i x e, sum_by-cons f z xs)
+
+module _ {T : Type 0} where
+  -- one loan more is out
+  out_more : (items : List (Loan T)) (x : Loan T) (lent : List T) (work : T) (views : List (Clerk T)) (pass : ℕ) (v w : Clerk T) → get_elem? views pass ≡ some v → w.out ≡ v.out → length items + sum_by (λ u. u.out) views ≡ length lent
+      → length (items ++ x ∷ []) + sum_by (λ u. u.out) (set views pass w) ≡ length (lent ++ work ∷ [])
+  out_more items x lent work views pass v w at same count =
+      let s = sum_set (λ (u : Clerk T). u.out) views pass v w at in
+      omega (arith, s, same, count, length-append items (x ∷ []), length-append lent (work ∷ []))
+
+  -- one is taken
+  out_taken : (items : List (Loan T)) (lent : List T) (views : List (Clerk T)) (pass : ℕ) (v w : Clerk T) → get_elem? views pass ≡ some v → w.out ≡ v.out + 1 → suc (length items) + sum_by (λ u. u.out) views ≡ length lent
+      → length items + sum_by (λ u. u.out) (set views pass w) ≡ length lent
+  out_taken items lent views pass v w at same count =
+      let s = sum_set (λ (u : Clerk T). u.out) views pass v w at in
+      omega (arith, s, same, count)
+
+  -- and given back
+  out_back : (items : List (Loan T)) (x : Loan T) (lent : List T) (views : List (Clerk T)) (pass : ℕ) (v w : Clerk T) → get_elem? views pass ≡ some v → 0 < v.out → w.out ≡ v.out - 1 → length items + sum_by (λ u. u.out) views ≡ length lent
+      → length (items ++ x ∷ []) + sum_by (λ u. u.out) (set views pass w) ≡ length lent
+  out_back items x lent views pass v w at some_out same count =
+      let s = sum_set (λ (u : Clerk T). u.out) views pass v w at in
+      omega (arith, s, same, some_out, count, length-append items (x ∷ []))
+
+  -- who comes has none
+  out_helper : (items : List (Loan T)) (lent : List T) (views : List (Clerk T)) (pass : ℕ) (v : Clerk T) → get_elem? views pass ≡ some v → length items + sum_by (λ u. u.out) views ≡ length lent
+      → length items + sum_by (λ u. u.out) (set views pass v ++ helper ∷ []) ≡ length lent
+  out_helper items lent views pass v at count =
+      let s = sum_set (λ (u : Clerk T). u.out) views pass v v at in
+      omega (arith, s, count, sum_by-append (λ (u : Clerk T). u.out) (set views pass v) (helper ∷ []))
 
 module _ {T : Type 0} (leaves : T → T → Type 0) where
   loans_append : (lent : List T) (xs ys : List (Loan T)) → AllLoans leaves lent xs → AllLoans leaves lent ys → AllLoans leaves lent (xs ++ ys)
@@ -32,6 +75,7 @@ module _ {T : Type 0} (leaves : T → T → Type 0) where
     lent = [];
     writer = 0;
     loans = tt;
+    count = refl;
     knows = know_set 0 [] (lender ∷ []) 0 lender (record { lends = λ _. (refl, refl); held = tt }) (λ j u other e. absurd (other (only j u e)));
   }
     where
@@ -52,6 +96,7 @@ module _ {T : Type 0} (leaves : T → T → Type 0) where
           lent = k.lent ++ x.work ∷ [];
           writer = k.writer;
           loans = loans_append (k.lent ++ x.work ∷ []) items (x ∷ []) (loans_more k.lent (x.work ∷ []) items k.loans) (new, tt);
+          count = out_more items x k.lent x.work views pass v w at refl k.count;
           knows = know_set k.writer (k.lent ++ x.work ∷ []) views pass w
               (record { lends = λ _. ((mine.lends may).0, ap (λ l. l ++ x.work ∷ []) is); held = loans_more k.lent (x.work ∷ []) v.held mine.held })
               (λ j u other e. let theirs = k.knows j u e in record {
@@ -61,6 +106,14 @@ module _ {T : Type 0} (leaves : T → T → Type 0) where
         },
         refl,
       )
+
+  -- and learns that no more is in the queue than it has lent and not taken back
+  pub is_out : (pass : ℕ) (v : Clerk T) → Learns (Lent leaves) pass v (IsOut v)
+  is_out pass v items views k at may =
+      let part = sum_part (λ (u : Clerk T). u.out) views pass v at in
+      let all = k.count in
+      let is : length v.lent ≡ length k.lent = ap length ((k.knows pass v at).lends may).1 in
+      omega (arith, part, all, is)
 
   -- one takes the first
   pub takes : (pass : ℕ) (v : Clerk T) → Pops (Lent leaves) pass v (Taken leaves v)
@@ -72,6 +125,7 @@ module _ {T : Type 0} (leaves : T → T → Type 0) where
           lent = k.lent;
           writer = k.writer;
           loans = k.loans.1;
+          count = out_taken items k.lent views pass v w at refl k.count;
           knows = know_set k.writer k.lent views pass w
               (record { lends = mine.lends; held = loans_append k.lent v.held (x ∷ []) mine.held (k.loans.0, tt) })
               (λ j u other e. k.knows j u e);
@@ -80,15 +134,17 @@ module _ {T : Type 0} (leaves : T → T → Type 0) where
       )
 
   -- one gives back what it may
-  pub gives_back : (n pass : ℕ) (v : Clerk T) (x : Loan T) → MayGiveBack leaves v x → Pushes (Lent leaves) n pass v x (λ w. w ≡ v)
-  gives_back n pass v x may items views room k at =
+  pub gives_back : (n pass : ℕ) (v : Clerk T) (x : Loan T) → MayGiveBack leaves v x → 0 < v.out → Pushes (Lent leaves) n pass v x (λ w. w ≡ with_back v)
+  gives_back n pass v x may some_out items views room k at =
+      let w : Clerk T = with_back v in
       let mine = k.knows pass v at in (
-        v,
+        w,
         record {
           lent = k.lent;
           writer = k.writer;
           loans = loans_append k.lent items (x ∷ []) k.loans (may k.lent mine.held, tt);
-          knows = know_set k.writer k.lent views pass v mine (λ j u other e. k.knows j u e);
+          count = out_back items x k.lent views pass v w at some_out refl k.count;
+          knows = know_set k.writer k.lent views pass w (record { lends = mine.lends; held = mine.held }) (λ j u other e. k.knows j u e);
         },
         refl,
       )
@@ -101,6 +157,7 @@ module _ {T : Type 0} (leaves : T → T → Type 0) where
         lent = k.lent;
         writer = k.writer;
         loans = k.loans;
+        count = out_helper items k.lent views pass v at k.count;
         knows = λ j u e. ⊎_elim (λ x. old j u x)
             (λ (is : helper ≡ u). subst (Knows leaves k.writer k.lent j) is (record { lends = λ p. absurd (true≢false (sym p)); held = tt })) (at_snoc vs helper u j e);
       }

@@ -1,5 +1,5 @@
 -- What one more loan leaves under the numbers of loans.
-use Rattle.std.proofs.Common.{◌≡◌, ℕ, List, [], ◌∷◌, ◌++◌, length, subst, sym, ap}
+use Rattle.std.proofs.Common.{◌≡◌, ℕ, List, [], ◌∷◌, ◌++◌, length, subst, sym}
 use Rattle.crossbeam_queue.proofs.Lists.{at_last, at_longer}
 use Rattle.sc_lend.specs.Lending.{IsLentUnder, IsLonger}
 

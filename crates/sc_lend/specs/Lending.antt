@@ -1,30 +1,38 @@
 -- What those who use a queue of loans know of it.
-use Rattle.std.specs.Prelude.{◌≡◌, ℕ, Bool, true, false, List, [], ◌∷◌, ◌++◌, ⊤, MatchBool}
+use Rattle.std.specs.Prelude.{◌≡◌, ℕ, ◌+◌, ◌-◌, ◌≤◌, Bool, true, false, List, [], ◌∷◌, ◌++◌, length, sum_by, ⊤, MatchBool}
 use mathlib.Core.Option.{some}
 use lib.ListN.{get_elem?}
 use Rattle.sc_lend.specs.declared.rule.Loan.{Loan}
 use Rattle.sc_lend.specs.declared.rule.Clerk.{Clerk}
 
 module _ {T : Type 0} where
-  -- what a pass knows: whether it lends, what it lent, and what it took
-  abbrev pub clerk : Bool → List T → List (Loan T) → Clerk T
-  clerk lends lent held = record { lends = lends; lent = lent; held = held }
+  -- what a pass knows: whether it lends, what it lent, what it took, and how much of that it did not give back
+  abbrev pub clerk : Bool → List T → List (Loan T) → ℕ → Clerk T
+  clerk lends lent held out = record { lends = lends; lent = lent; held = held; out = out }
 
   -- the first pass
   abbrev pub lender : Clerk T
-  lender = clerk true [] []
+  lender = clerk true [] [] 0
 
   -- a new pass, which lends nothing
   abbrev pub helper : Clerk T
-  helper = clerk false [] []
+  helper = clerk false [] [] 0
 
   -- one that has lent one more
   abbrev pub with_lent : Clerk T → T → Clerk T
-  with_lent v x = clerk v.lends (v.lent ++ x ∷ []) v.held
+  with_lent v x = clerk v.lends (v.lent ++ x ∷ []) v.held v.out
 
   -- one that has taken one more
   abbrev pub with_held : Clerk T → Loan T → Clerk T
-  with_held v x = clerk v.lends v.lent (v.held ++ x ∷ [])
+  with_held v x = clerk v.lends v.lent (v.held ++ x ∷ []) (v.out + 1)
+
+  -- one that has given back one
+  abbrev pub with_back : Clerk T → Clerk T
+  with_back v = clerk v.lends v.lent v.held (v.out - 1)
+
+  -- no more is in the queue than the one that lends has lent and not taken back
+  abbrev pub IsOut : Clerk T → List (Loan T) → Type 0
+  IsOut v items = v.lends ≡ true → length items + v.out ≤ length v.lent
 
   -- it was lent under this number
   abbrev pub IsLentUnder : List T → ℕ → T → Type 0
@@ -51,11 +59,12 @@ module _ {T : Type 0} (leaves : T → T → Type 0) where
     pub lends : v.lends ≡ true → (pass ≡ writer) × (v.lent ≡ lent)
     pub held : AllLoans lent v.held
 
-  -- The rule. What lies in the queue are loans.
+  -- The rule. What lies in the queue are loans. It and what was taken and not given back is as much as was lent.
   pub record Lent (items : List (Loan T)) (views : List (Clerk T)) : Type 0 where
     pub lent : List T
     pub writer : ℕ
     pub loans : AllLoans lent items
+    pub count : length items + sum_by (λ v. v.out) views ≡ length lent
     pub knows : (pass : ℕ) (v : Clerk T) → get_elem? views pass ≡ some v → Knows writer lent pass v
 
   -- what was taken is held, and to the one that lends it is one of its loans

@@ -1,6 +1,6 @@
 -- What a clause says of an office, and of those who lend and help there.
-use Rattle.std.specs.Prelude.{List}
-use Rattle.crossbeam_queue.specs.Passes.{Pass, view, IsPassOf}
+use Rattle.std.specs.Prelude.{◌≡◌, ℕ, ◌+◌, ◌^◌, ◌≤◌, ◌⊎◌, List, length}
+use Rattle.crossbeam_queue.specs.Passes.{Pass, view, IsPassOf, ruled_capacity}
 use Rattle.sc_lend.specs.declared.rule.Loan.{Loan}
 use Rattle.sc_lend.specs.declared.rule.Clerk.{Clerk}
 use Rattle.sc_lend.specs.declared.office.Office.{Office}
@@ -18,3 +18,19 @@ module _ {T : Type 0} where
   -- it helps at this office
   abbrev pub IsHelperOf : Office T → Pass (Loan T) (Clerk T) → Type 0
   IsHelperOf office p = IsPassOf office.bench p
+
+  -- how much may be lent here at one time
+  abbrev pub room_of : Office T → ℕ
+  room_of office = ruled_capacity office.bench
+
+  -- the flag that was set is the office's, by which those who help end
+  abbrev pub IsClosed : Office T → ℕ → Type 0
+  IsClosed office flag = flag ≡ office.closed.id
+
+  -- how much the lender has taken back
+  abbrev pub collected_by : Lender T → ℕ
+  collected_by l = (view l.pass).out
+
+  -- why nothing can be lent: as much is lent and not taken back as there is room for, or no number is left
+  abbrev pub IsFull : Office T → Lender T → Type 0
+  IsFull office l = (room_of office + collected_by l ≤ length (lent_by l)) ⊎ (length (lent_by l) + 1 ≡ 2 ^ 64)

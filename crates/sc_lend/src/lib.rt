@@ -6,5 +6,5 @@ mod office;
 mod rule;
 
 pub use lender::Lender;
-pub use office::{Helper, Office, help_all, open};
+pub use office::{Closed, Helper, Office, help_all, open};
 pub use rule::{Clerk, Labour, Loan};

@@ -1,16 +1,16 @@
 //! Lending, helping and taking back.
-ghost use Rattle.std.specs.Prelude.{◌≡◌, ◌<◌, ◌++◌, [], ◌∷◌, All, true, length, vec_len, IfOk, IfErr, IfSome};
+ghost use Rattle.std.specs.Prelude.{◌≡◌, ◌<◌, ◌+◌, ◌++◌, [], ◌∷◌, All, true, length, vec_len, IfOk, IfErr, IfSome, MatchOption};
 ghost use Rattle.std.specs.Fn.{FnReturns};
 ghost use Rattle.crossbeam_queue.specs.Passes.{view, IsPassOf};
-ghost use Rattle.sc_lend.specs.Lending.{MayGiveBack, Finished, IsLeft};
-ghost use Rattle.sc_lend.specs.Offices.{IsLenderOf, IsHelperOf, lent_by};
+ghost use Rattle.sc_lend.specs.Lending.{MayGiveBack, Finished, IsLeft, with_back};
+ghost use Rattle.sc_lend.specs.Offices.{IsLenderOf, IsHelperOf, IsClosed, IsFull, collected_by, lent_by, room_of};
 
 use crate::lender::Lender;
 use crate::rule::{Clerk, GivesBack, Hire, Labour, Lending, Lends, Loan, Takes};
 use crossbeam_queue::{Pass, RuledArrayQueue};
 use std::alloc::{AllocError, Global};
-use std::sync::Wait;
 use std::sync::atomic::{AtomicU64, Ordering};
+use std::sync::{OnceLock, OnceToken, Wait};
 use std::thread;
 use std::thread::Threads;
 
@@ -26,6 +26,9 @@ pub type Bench<T> = RuledArrayQueue<Loan<T>, Clerk<T>, Lending<T>>;
 
 /// A pass of one that helps.
 pub type Helper<T> = Pass<Loan<T>, Clerk<T>>;
+
+/// What shows that an office is closed. It has no bytes.
+pub type Closed<'a> = OnceToken<'a, ()>;
 
 // What working leaves of a loan, which may have been worked before.
 fn finished<T: Labour, F: Fn(T) -> T>(f: &F, loan: Loan<T>) -> Loan<T>
@@ -57,8 +60,9 @@ fn give_back<T: Labour, R: Wait>(
 )
     requires pass { IsPassOf bench.now pass.old }
     requires may { MayGiveBack T.leaves (view pass.old) loan }
+    requires out { 0 < (view pass.old).out }
     ensures pass { IsPassOf bench.now pass.new }
-    ensures same { view pass.new ≡ view pass.old }
+    ensures back { view pass.new ≡ with_back (view pass.old) }
 {
     let mut next = loan;
     for _ in rt.forever() {
@@ -78,15 +82,15 @@ fn low(count: u64) -> u32 {
     (count % (1 << 32)) as u32
 }
 
-/// A place where work is lent: the queue, and two bells. One is rung when more is lent and at the
-/// end, the other when something is given back. The bells and the counts of those who sleep carry
-/// no fact: they only save looks.
+/// A place where work is lent: the queue, a flag that is set once, when it is closed, and two bells.
+/// One is rung when more is lent and at the end, the other when something is given back. The bells
+/// and the counts of those who sleep carry no fact: they only save looks.
 #[derive(Drop)]
 pub struct Office<T: Labour> {
     pub(crate) bench: Bench<T>,
     bell: AtomicU64,
     asleep: AtomicU64,
-    closed: AtomicU64,
+    pub(crate) closed: OnceLock<()>,
     returns: AtomicU64,
     awaited: AtomicU64,
 }
@@ -136,15 +140,16 @@ impl<T: Labour> Office<T> {
     }
 
     // Helps until the office is closed, and sleeps where there is nothing to be worked.
-    fn help<F: Fn(T) -> T, R: Wait>(&self, rt: &R, f: &F, mut helper: Helper<T>)
+    fn help<F: Fn(T) -> T, R: Wait>(&self, rt: &R, f: &F, mut helper: Helper<T>) -> Closed<'_>
         requires calls { F.IsAlwaysCallable f.now }
         requires leaves { (x y : T) → FnReturns F.Fn f.now (x, tt) y → T.leaves x y }
         requires pass { IsHelperOf self.now helper }
+        ensures closed { IsClosed self.now result.of }
     {
         for _ in rt.forever() {
             let rung = self.bell.load(Ordering::SeqCst);
-            if self.closed.load(Ordering::SeqCst) != 0 {
-                return;
+            if let Some(closed) = self.closed.witness() {
+                return closed;
             }
             if !self.help_some(rt, f, &mut helper) {
                 self.asleep.fetch_add(1, Ordering::SeqCst);
@@ -155,21 +160,28 @@ impl<T: Labour> Office<T> {
         unreachable!()
     }
 
-    /// Nothing is lent any more, and those who help end.
-    pub fn close(&self) {
-        self.closed.store(1, Ordering::SeqCst);
+    /// Closes the office for good, and wakes those who help, who then end. Answers what shows that
+    /// it is closed, which is what each that helps needs to end.
+    pub fn close<R: Wait>(&self, rt: &R) -> Closed<'_>
+        ensures closed { IsClosed self.now result.of }
+    {
+        let closed = self.closed.init(rt, || ());
         self.bell.fetch_add(1, Ordering::SeqCst);
         self.bell.wake_all();
+        closed
     }
 
     /// Lends a piece of work, behind all that was lent before, and answers its number there, from 0 on;
-    /// or hands it back, where no more can be lent, and lends nothing.
+    /// or hands it back, and lends nothing. That is only where the queue is full of what was lent, or
+    /// no number is left.
     pub fn lend<R: Wait>(&self, rt: &R, lender: &mut Lender<T>, work: T) -> Result<u64, T>
         requires pass { IsLenderOf self.now lender.old }
         ensures pass { IsLenderOf self.now lender.new }
         ensures ok { IfOk result (λ number. (number ≡ length (lent_by lender.old))
             × (lent_by lender.new ≡ lent_by lender.old ++ work ∷ [])) }
         ensures err { IfErr result (λ back. (back ≡ work) × (lent_by lender.new ≡ lent_by lender.old)) }
+        ensures collected { collected_by lender.new ≡ collected_by lender.old }
+        ensures full { IfErr result (λ _. IsFull self.now lender.old) }
     {
         let number = lender.next;
         if number == u64::MAX {
@@ -222,6 +234,8 @@ impl<T: Labour> Office<T> {
         requires pass { IsLenderOf self.now lender.old }
         ensures pass { IsLenderOf self.now lender.new }
         ensures same { lent_by lender.new ≡ lent_by lender.old }
+        ensures collected { MatchOption result (collected_by lender.new ≡ collected_by lender.old)
+            (λ _. collected_by lender.new ≡ collected_by lender.old + 1) }
         ensures left { IfSome result
             (λ left. IsLeft T.leaves (lent_by lender.old) wanted left) }
     {
@@ -254,6 +268,8 @@ impl<T: Labour> Office<T> {
         requires pass { IsLenderOf self.now lender.old }
         ensures pass { IsLenderOf self.now lender.new }
         ensures same { lent_by lender.new ≡ lent_by lender.old }
+        ensures collected { MatchOption result (collected_by lender.new ≡ collected_by lender.old)
+            (λ _. collected_by lender.new ≡ collected_by lender.old + 1) }
         ensures left { IfSome result
             (λ left. IsLeft T.leaves (lent_by lender.old) wanted left) }
     {
@@ -279,6 +295,7 @@ impl<T: Labour> Office<T> {
         requires pass { IsLenderOf self.now lender.old }
         ensures pass { IsLenderOf self.now lender.new }
         ensures same { lent_by lender.new ≡ lent_by lender.old }
+        ensures collected { collected_by lender.new ≡ collected_by lender.old + 1 }
         ensures left { IsLeft T.leaves (lent_by lender.old) wanted result }
     {
         for _ in rt.forever() {
@@ -295,18 +312,20 @@ impl<T: Labour> Office<T> {
 }
 
 /// Those who help, each in a thread of its own where one can be made, until the office is closed.
-/// Without memory none helps.
-pub fn help_all<T: Labour + Send, F: Fn(T) -> T + Sync, R: Threads + Wait + Sync>(
+/// Answers for each what shows that it is. Without memory none may help.
+pub fn help_all<'a, T: Labour + Send, F: Fn(T) -> T + Sync, R: Threads + Wait + Sync>(
     rt: &R,
-    office: &Office<T>,
+    office: &'a Office<T>,
     f: &F,
     helpers: Vec<Helper<T>>,
-)
+) -> Result<Vec<Closed<'a>>, AllocError>
     requires calls { F.IsAlwaysCallable f.now }
     requires leaves { (x y : T) → FnReturns F.Fn f.now (x, tt) y → T.leaves x y }
     requires passes { All (λ p. IsHelperOf office.now p) helpers.items }
+    ensures len { IfOk result (λ v. vec_len v ≡ vec_len helpers) }
+    ensures closed { IfOk result (λ v. All (λ c. IsClosed office.now c.of) v.items) }
 {
-    let _ = thread::map_vec(rt, helpers, &|helper| office.help(rt, f, helper));
+    thread::map_vec(rt, helpers, &|helper| office.help(rt, f, helper))
 }
 
 // So many passes of those who help.
@@ -336,6 +355,8 @@ pub fn open<T: Labour>(
 ) -> Result<(Office<T>, Lender<T>, Vec<Helper<T>>), AllocError>
     requires { 0 < room }
     ensures pass { IfOk result (λ o. IsLenderOf o.0 o.1) }
+    ensures fresh { IfOk result
+        (λ o. (room_of o.0 ≡ room) × (lent_by o.1 ≡ []) × (collected_by o.1 ≡ 0)) }
     ensures helpers { IfOk result
         (λ o. (vec_len o.2 ≡ helpers) × All (λ p. IsHelperOf o.0 p) o.2.items) }
 {
@@ -345,7 +366,7 @@ pub fn open<T: Labour>(
         bench,
         bell: AtomicU64::new(0),
         asleep: AtomicU64::new(0),
-        closed: AtomicU64::new(0),
+        closed: OnceLock::new(),
         returns: AtomicU64::new(0),
         awaited: AtomicU64::new(0),
     };

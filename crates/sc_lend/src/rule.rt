@@ -26,10 +26,13 @@ pub struct Clerk<T> {
     pub lent: LinkedList<T>,
     /// What it took, which it may give back.
     pub held: LinkedList<Loan<T>>,
+    /// How much it took and did not give back.
+    pub out: u64,
 }
 
 /// The rule. Between any two steps each loan in the queue is what was lent under its number, or,
-/// where it is done, what working may leave of that.
+/// where it is done, what working may leave of that; and what lies there and what was taken and not
+/// given back is as much as was lent.
 pub struct Lending<T> {
     marker: PhantomData<T>,
 }
@@ -55,7 +58,7 @@ impl<T> Split<Clerk<T>> for Hire<T> {
     ghost right = { λ _. helper };
 }
 
-/// A loan.
+/// A loan, at which no more is in the queue than this pass has lent and not taken back.
 pub struct Lends<T> {
     marker: PhantomData<T>,
 }
@@ -68,9 +71,9 @@ impl<T> Outcome<Loan<T>, Clerk<T>> for Lends<T> {
 }
 
 impl<T> Lesson<Loan<T>, Clerk<T>> for Lends<T> {
-    ghost use Rattle.std.specs.Prelude.{⊤};
+    ghost use Rattle.sc_lend.specs.Lending.{IsOut};
 
-    ghost fact = { λ _ _. ⊤ };
+    ghost fact = { IsOut };
 }
 
 /// A take, at which the one that lends learns of what it lent.
@@ -97,8 +100,9 @@ pub struct GivesBack<T> {
 
 impl<T> Outcome<Loan<T>, Clerk<T>> for GivesBack<T> {
     ghost use Rattle.std.specs.Prelude.{◌≡◌};
+    ghost use Rattle.sc_lend.specs.Lending.{with_back};
 
-    ghost then = { λ v _ w. w ≡ v };
+    ghost then = { λ v _ w. w ≡ with_back v };
 }
 
 impl<T> Lesson<Loan<T>, Clerk<T>> for GivesBack<T> {

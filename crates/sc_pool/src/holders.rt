@@ -4,7 +4,7 @@ ghost use Rattle.sc_shell.specs.declared.shells.Shell.{Shell};
 ghost use Rattle.sc_queue.specs.declared.rule.Hand.{Hand};
 ghost use Rattle.sc_queue.specs.declared.rule.Item.{Item};
 ghost use Rattle.sc_queue.specs.Hands.{Kept};
-ghost use Rattle.sc_pool.specs.Holders.{put_of, queued_of, taken_of, HasOneHolder};
+ghost use Rattle.sc_workers.specs.Holders.{put_of, queued_of, taken_of, HasOneHolder};
 
 use sc_actor::Actor;
 

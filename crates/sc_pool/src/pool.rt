@@ -2,6 +2,7 @@
 ghost use Rattle.std.specs.Prelude.{◌≤◌, Some};
 ghost use Rattle.sc_workers.specs.Crews.{AreLater, IsCrew, crew_numbers};
 ghost use Rattle.sc_workers.specs.Ends.{IsEnd, IfHeld};
+ghost use Rattle.sc_workers.specs.Holders.{PhasesHaveOneHolder};
 
 use sc_actor::{Actor, Gate};
 use sc_exchange::Port;
@@ -37,6 +38,7 @@ pub fn pool_rounds<A: Actor, G: Gate, R: Threads + Wait + Sync>(
         (AreLater net.old net.new shells.old.items shells.new.items) }
     ensures end { IsEnd result net.new shells.old.items shells.new.items (crew_numbers shells.old.items)
         limit }
+    ensures holders { PhasesHaveOneHolder shells.old.items }
 {
     rounds_by(rt, alloc, Way::Queue, net, shells, workers, limit, gate)
 }

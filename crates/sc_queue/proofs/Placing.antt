@@ -11,12 +11,16 @@ use Rattle.crossbeam_queue.specs.Fifo.{Held}
 use Rattle.sc_queue.specs.declared.rule.Item.{Item}
 use Rattle.sc_queue.specs.declared.rule.Hand.{Hand}
 use Rattle.sc_queue.proofs.Keeps.{worked_append}
-use Rattle.sc_queue.specs.Hands.{all_parts, hand, with_all, weigh, numbered, AllPlaced, KnowsWhole}
+use Rattle.sc_queue.specs.Hands.{all_parts, hand, with_all, weigh, numbered, AllPlaced, KnowsWhole, IsWorkedOff}
 use Rattle.sc_queue.specs.Working.{AllWorked, AllInside, AllGiven, IsRight, AllFree, Did, Gathers, filled}
 
 -- 1 for an item with this place
 abbrev pub at_place : {X : Type 0} → ℕ → Item X → ℕ
 at_place k y = cond (eqb y.place k) 1 0
+
+nothing : {X : Type 0} (h : X → ℕ) (xs : List X) → length xs ≡ 0 → weigh h xs ≡ 0
+nothing h [] e = refl
+nothing h (x ∷ xs) e = absurd (omega (arith, e))
 
 module _ {T : Type 0} where
   -- an item of numbered elements has its element
@@ -122,10 +126,18 @@ module _ {F T X : Type 0} (g : Shared F (T × Unit {0}) X) (f : F) where
             let none : weigh (at_place k) whole.0 ≡ 0 = nothing (at_place k) whole.0 whole.1 in
             omega (arith, there, even, none));
       }
-    where
-      nothing : (h : Item T → ℕ) (xs : List (Item T)) → length xs ≡ 0 → weigh h xs ≡ 0
-      nothing h [] e = refl
-      nothing h (x ∷ xs) e = absurd (omega (arith, e))
+
+  -- so the one that puts knows that each was put and taken once
+  pub worked_off : (all : List T) (v w : Hand T) (first rest : List (Item X)) (parts : ℕ) → Gathers g f parts (numbered 0 all) v first → parts ≡ all_parts → Did g f v w rest → Held 0 (KnowsWhole w) → IsWorkedOff all w
+  worked_off all v w first rest parts a full d whole =
+      let view_is : w ≡ hand parts true (numbered 0 all) (a.taken ++ d.taken) = d.view_is ∙ ap (λ (u : Hand T). with_all u d.taken) a.view_is in
+      let knows = whole.2 (ap (λ (u : Hand T). u.puts) view_is) (ap (λ (u : Hand T). u.parts) view_is ∙ full) in record {
+        put = ap (λ (u : Hand T). u.put) view_is;
+        taken = λ h.
+            (let none : weigh h whole.0 ≡ 0 = nothing h whole.0 whole.1 in
+            let even = knows.0 h in
+            omega (arith, even, none));
+      }
 
   -- at the start nothing was gathered
   pub gathers_none : (parts : ℕ) (all : List T) (v w : Hand T) (kept : List (Item X)) → v ≡ hand all_parts true (numbered 0 all) [] → w ≡ hand parts v.puts v.put v.taken → kept ≡ [] → Gathers g f parts (numbered 0 all) w kept

@@ -2,6 +2,7 @@
 use Rattle.std.specs.Prelude.{◌≡◌, ℕ, ◌+◌, ◌-◌, ◌≤◌, Bool, true, false, List, [], ◌∷◌, ◌++◌, length, ⊤}
 use mathlib.Core.Option.{some}
 use lib.ListN.{get_elem?}
+use Rattle.crossbeam_queue.specs.Passes.{Pass, view}
 use Rattle.sc_queue.specs.declared.rule.Item.{Item}
 use Rattle.sc_queue.specs.declared.rule.Hand.{Hand}
 
@@ -85,3 +86,12 @@ module _ {T : Type 0} where
   abbrev pub works : List (Item T) → List T
   works [] = []
   works (x ∷ xs) = x.work ∷ works xs
+
+  -- What a pass knows of a queue that is worked off: it put these, each once and at its place, and each was taken once, however they are weighed.
+  pub record IsWorkedOff (all : List T) (v : Hand T) : Type 0 where
+    pub put : v.put ≡ numbered 0 all
+    pub taken : (h : Item T → ℕ) → weigh h v.taken ≡ weigh h v.put
+
+  -- what the one that put knows
+  abbrev pub known : Pass (Item T) (Hand T) → Hand T
+  known holder = view holder

@@ -2,7 +2,7 @@
 ghost use Rattle.std.specs.Prelude.{◌≡◌, ◌<◌, ◌≤◌, ◌-◌, ◌+◌, true, [], List, length, map, All, vec_len, ℕ, IfOk, OnOk, slice_set};
 ghost use Rattle.crossbeam_queue.specs.Fifo.{Held};
 ghost use Rattle.crossbeam_queue.specs.Passes.{view, IsPassOf, ruled_capacity};
-ghost use Rattle.sc_queue.specs.Hands.{all_parts, hand, opener, taker, numbered, works, with_put, KnowsWhole};
+ghost use Rattle.sc_queue.specs.Hands.{all_parts, hand, opener, taker, numbered, works, with_put, KnowsWhole, IsWorkedOff};
 ghost use Rattle.sc_queue.specs.Working.{AllGiven, AllInside, AllFree, AllThere, Did, Gathers, filled};
 
 use crate::rule::{Cut, Hand, Item, OneHolder, Puts, Takes};
@@ -15,8 +15,8 @@ use std::thread::Threads;
 /// A queue under the rule.
 pub(crate) type Bench<T> = RuledArrayQueue<Item<T>, Hand<T>, OneHolder<T>>;
 
-/// One of the passes to it.
-pub(crate) type Holder<T> = Pass<Item<T>, Hand<T>>;
+/// One of the passes to it. It has no bytes, and shows what was put and taken by it.
+pub type Holder<T> = Pass<Item<T>, Hand<T>>;
 
 // Puts one more. There is room, since no more is in the queue than this pass has put.
 fn put<T: Drop, R: Wait>(rt: &R, bench: &Bench<T>, pass: &mut Holder<T>, work: T, place: usize)
@@ -238,6 +238,14 @@ fn gather<T: Drop, X: Drop, F: Fn(T) -> X>(
     Ok(())
 }
 
+/// What calls gave with the elements of a list, in their order, and the pass that put them into the
+/// queue and took in all that took from it.
+#[derive(Drop)]
+pub struct WorkedOff<T, X> {
+    pub given: Vec<X>,
+    pub holder: Holder<T>,
+}
+
 // The one that puts, which has all parts again, works what is left, and puts all into order.
 fn finish<T: Drop, X: Drop, F: Fn(T) -> X, R: Wait>(
     rt: &R,
@@ -247,14 +255,15 @@ fn finish<T: Drop, X: Drop, F: Fn(T) -> X, R: Wait>(
     pass: Holder<T>,
     mut kept: Vec<Item<X>>,
     many: usize,
-) -> Result<Vec<X>, AllocError>
+) -> Result<WorkedOff<T, X>, AllocError>
     requires calls { F.IsAlwaysCallable f.now }
     requires pass { IsPassOf bench.now pass }
     requires many { many ≡ length (works (view pass).put) }
     requires gathered { Gathers F.Fn f.now all_parts (numbered 0 (works (view pass).put))
         (view pass) kept.items }
-    ensures len { IfOk result (λ v. vec_len v ≡ length (works (view pass).put)) }
-    ensures each { IfOk result (λ v. AllGiven F.Fn f.now (works (view pass).put) v.items) }
+    ensures len { IfOk result (λ o. vec_len o.given ≡ length (works (view pass).put)) }
+    ensures each { IfOk result (λ o. AllGiven F.Fn f.now (works (view pass).put) o.given.items) }
+    ensures once { IfOk result (λ o. IsWorkedOff (works (view pass).put) (view o.holder)) }
 {
     let mut slots = vacant(alloc, many)?;
     let last = work(rt, alloc, bench, f, pass);
@@ -262,18 +271,19 @@ fn finish<T: Drop, X: Drop, F: Fn(T) -> X, R: Wait>(
         return Err(AllocError);
     }
     let Done {
-        pass: _,
+        pass: holder,
         kept: mut rest,
         whole: _,
     } = last;
     kept.append(&mut rest)?;
     fill(&mut slots, kept);
-    let ordered = unwrapped(alloc, slots)?;
-    Ok(ordered)
+    let given = unwrapped(alloc, slots)?;
+    Ok(WorkedOff { given, holder })
 }
 
-/// What calls of `f` give with these, in their order. Each is put into one queue, from which so
-/// many threads take, the caller's among them: each is taken once, by one of them.
+/// What calls of `f` give with these, in their order. Each is put into one queue, once, from which so
+/// many threads take, the caller's among them: each is taken once, by one of them. The pass that
+/// comes back shows so: what was put is each of these, at its place, and it was taken once.
 ///
 /// Where no thread can be made, the calls run one after another. Without memory for the queue, its
 /// passes or what the calls give it is an error, and what was not worked yet is dropped.
@@ -283,22 +293,26 @@ pub fn work_off<T: Send + Drop, X: Send + Drop, F: Fn(T) -> X + Sync, R: Threads
     all: Vec<T>,
     threads: usize,
     f: &F,
-) -> Result<Vec<X>, AllocError>
+) -> Result<WorkedOff<T, X>, AllocError>
     requires calls { F.IsAlwaysCallable f.now }
     requires threads { threads < all_parts }
-    ensures len { IfOk result (λ v. vec_len v ≡ vec_len all) }
-    ensures each { IfOk result (λ v. AllGiven F.Fn f.now all.items v.items) }
+    ensures len { IfOk result (λ o. vec_len o.given ≡ vec_len all) }
+    ensures each { IfOk result (λ o. AllGiven F.Fn f.now all.items o.given.items) }
+    ensures once { IfOk result (λ o. IsWorkedOff all.items (view o.holder)) }
 {
     let many = all.len();
+    let (bench, mut pass) = Bench::ruled(alloc, many.max(1))?;
+    put_all(rt, &bench, &mut pass, all);
     if many == 0 {
-        return Ok(Vec::new(alloc));
+        return Ok(WorkedOff {
+            given: Vec::new(alloc),
+            holder: pass,
+        });
     }
     let mut kept = Vec::new(alloc);
-    let (bench, mut pass) = Bench::ruled(alloc, many)?;
-    put_all(rt, &bench, &mut pass, all);
     let passes = cut(alloc, &bench, &mut pass, threads)?;
     let done = by_threads(rt, alloc, &bench, f, passes)?;
     gather(&bench, f, &mut pass, &mut kept, done)?;
-    let ordered = finish(rt, alloc, &bench, f, pass, kept, many)?;
-    Ok(ordered)
+    let off = finish(rt, alloc, &bench, f, pass, kept, many)?;
+    Ok(off)
 }

@@ -4,5 +4,5 @@
 mod hands;
 mod rule;
 
-pub use hands::work_off;
+pub use hands::{Holder, WorkedOff, work_off};
 pub use rule::{Hand, Item};

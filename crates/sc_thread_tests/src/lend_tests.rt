@@ -3,12 +3,15 @@ ghost use Rattle.std.specs.Prelude.{◌≡◌, ◌/◌, All};
 ghost use Rattle.std.specs.Thread.{IsSync};
 ghost use Rattle.sc_lend.specs.Offices.{IsHelperOf, IsLenderOf};
 
+use crate::watches::{pause, watch};
 use sc_lend::{Helper, Labour, Lender, Office, help_all, open};
 use std::alloc::Global;
 use std::mem;
 use std::process::Abort;
 use std::sync::Wait;
-use std::thread::{Threads, join_mut};
+use std::sync::atomic::{AtomicU64, Ordering};
+use std::thread::{Threads, join, join_mut};
+use std::time::Clock;
 
 // A number that is to be halved.
 #[derive(Drop)]
@@ -32,7 +35,7 @@ fn halved(half: Half) -> Half
 fn help<R: Threads + Wait + Sync>(rt: &R, office: &Office<Half>, helpers: Vec<Helper<Half>>)
     requires { All (λ p. IsHelperOf office.now p) helpers.items }
 {
-    help_all(
+    let _ = help_all(
         rt,
         office,
         &|half: Half| -> Half
@@ -70,7 +73,7 @@ fn lend_three<R: Wait>(rt: &R, office: &Office<Half>, lender: &mut Lender<Half>)
     let third = collect(rt, office, lender, third);
     let second = collect(rt, office, lender, second);
     let first = collect(rt, office, lender, first);
-    office.close();
+    let _ = office.close(rt);
     [first, second, third]
 }
 
@@ -106,4 +109,74 @@ fn what_is_lent_comes_back_worked(rt: HostRuntime) {
     for hands in [0, 1, 2, 3] {
         assert!(rt; three(&rt, rt.alloc(), hands) == [5, 10, 15]);
     }
+}
+
+// Helps, and counts with how much.
+fn help_counting<R: Threads + Wait + Sync>(
+    rt: &R,
+    office: &Office<Half>,
+    helpers: Vec<Helper<Half>>,
+    helped: &AtomicU64,
+)
+    requires { All (λ p. IsHelperOf office.now p) helpers.items }
+{
+    let _ = help_all(
+        rt,
+        office,
+        &|half: Half| -> Half
+            ensures { result.number ≡ half.number / 2 }
+        {
+            helped.fetch_add(1, Ordering::SeqCst);
+            halved(half)
+        },
+        helpers,
+    );
+}
+
+// Lends to one that sleeps by then, waits until it has helped, and closes the office when it sleeps
+// again.
+fn lend_to_a_sleeper<R: Wait + Abort + Clock>(
+    rt: &R,
+    office: &Office<Half>,
+    lender: &mut Lender<Half>,
+    helped: &AtomicU64,
+)
+    requires { IsLenderOf office.now lender.old }
+{
+    pause(rt);
+    let _ = office.lend(rt, lender, Half { number: 10 });
+    watch(rt, helped, "the one that helps was not woken by what was lent");
+    pause(rt);
+    let _ = office.close(rt);
+}
+
+fn by_a_sleeper<R: Threads + Wait + Abort + Clock + Sync>(
+    rt: &R,
+    office: &Office<Half>,
+    lender: &mut Lender<Half>,
+    helpers: Vec<Helper<Half>>,
+)
+    requires lender { IsLenderOf office.now lender.old }
+    requires helpers { All (λ p. IsHelperOf office.now p) helpers.items }
+{
+    let helped = AtomicU64::new(0);
+    let ended = AtomicU64::new(0);
+    join(
+        rt,
+        || watch(rt, &ended, "the one that helps was not woken by the end"),
+        || {
+            join(
+                rt,
+                || help_counting(rt, office, helpers, &helped),
+                || lend_to_a_sleeper(rt, office, lender, &helped),
+            );
+            ended.store(1, Ordering::SeqCst);
+        },
+    );
+}
+
+#[test]
+fn one_that_sleeps_is_woken_by_a_loan_and_by_the_end(rt: HostRuntime) {
+    let (office, mut lender, helpers) = open::<Half>(rt.alloc(), 3, 1).expect(&rt, "memory");
+    by_a_sleeper(&rt, &office, &mut lender, helpers);
 }

@@ -31,4 +31,6 @@ mod storm_tests;
 #[cfg(test)]
 mod turn_tests;
 #[cfg(test)]
+mod watches;
+#[cfg(test)]
 mod wish_tests;

@@ -4,6 +4,7 @@ ghost use Rattle.std.specs.Thread.{IsSync};
 ghost use Rattle.sc_turn.specs.Seats.{known, OfOneStart};
 ghost use Rattle.sc_thread_tests.specs.Seated.{IsIdle};
 
+use crate::watches::watch;
 use sc_turn::{Listed, TurnSeat};
 use std::alloc::Global;
 use std::mem::forget;
@@ -11,6 +12,7 @@ use std::process::Abort;
 use std::sync::Wait;
 use std::sync::atomic::{AtomicU64, Ordering};
 use std::thread::{Threads, join, yield_now};
+use std::time::Clock;
 
 // Values, each with the number of its maker.
 #[derive(Drop)]
@@ -323,10 +325,27 @@ fn seats_of_one_thread_meet_and_join(rt: HostRuntime) {
     assert!(rt; digits == 101_200_301_400);
 }
 
-// The seat that sleeps is woken by that `leave` or never, and then this test does not end.
+// A seat leaves the turn while the other sleeps, and the other is to be woken within the time.
+fn woken<R: Threads + Wait + Abort + Clock + Sync>(rt: &R, alloc: Global) -> Log {
+    let ended = AtomicU64::new(0);
+    let (_, log) = join(
+        rt,
+        || watch(rt, &ended, "the seat that sleeps was not woken"),
+        || -> Log
+            requires { IsSync R.row }
+        {
+            let log = two_write(rt, alloc, (Part::HoldLong, Part::ComeLate));
+            ended.store(1, Ordering::SeqCst);
+            log
+        },
+    );
+    log
+}
+
+// The seat that sleeps is woken by that `leave` or never, and then this test fails after 20 seconds.
 #[test]
 fn leaving_wakes_the_seat_that_sleeps(rt: HostRuntime) {
-    let log = two_write(&rt, rt.alloc(), (Part::HoldLong, Part::ComeLate));
+    let log = woken(&rt, rt.alloc());
     let told = told(&log);
     forget(log);
     assert!(rt; told == (1, [0, 2, 0, 0]));

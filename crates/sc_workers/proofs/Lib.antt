@@ -9,3 +9,5 @@ pub mod Ending
 pub mod Joining
 pub mod Phasing
 pub mod Sending
+pub mod Holding
+pub mod Cutting

@@ -3,3 +3,4 @@ pub mod Ends
 pub mod Services
 pub mod Phases
 pub mod Runs
+pub mod Holders

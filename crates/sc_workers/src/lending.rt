@@ -1,5 +1,5 @@
 //! Runs of shells that work at the same time, lent to threads which are kept.
-ghost use Rattle.std.specs.Prelude.{◌≡◌, ◌<◌, ◌≤◌, ◌+◌, ◌++◌, All, length, vec_len, vec_capacity};
+ghost use Rattle.std.specs.Prelude.{◌≡◌, ◌<◌, ◌≤◌, ◌+◌, ◌*◌, ◌++◌, ℕ, All, length, vec_len, vec_capacity};
 ghost use Rattle.sc_lend.specs.Lending.{IsLonger};
 ghost use Rattle.sc_lend.specs.Offices.{IsHelperOf, IsLenderOf, lent_by};
 ghost use Rattle.sc_workers.specs.Crews.{AllTook};
@@ -65,6 +65,7 @@ fn send<A: Actor, G: Gate, R: Wait>(
     ensures lender { IsLenderOf desk.now lender.new }
     ensures later { IsLonger (lent_by lender.old) (lent_by lender.new) }
     ensures sent { IsSent (lent_by lender.new) run result }
+    ensures few { length (lent_by lender.new) ≤ length (lent_by lender.old) + 1 }
 {
     if !has_mail {
         return Sent::Here(run_turns(rt, alloc, gate, run));
@@ -120,6 +121,7 @@ fn last_start(many: usize, size: usize) -> usize
     requires { 0 < size }
     ensures inside { result ≤ many }
     ensures less { 0 < result → result < many }
+    ensures fewer { (k : ℕ) → many ≤ size * (k + 1) → result ≤ size * k }
 {
     let past = many % size;
     let last = if past == 0 { size } else { past };
@@ -151,6 +153,8 @@ fn apart<A: Actor, G: Gate, R: Wait>(
     ensures len { length shells.new.items ≡ length shells.old.items }
     ensures capacity { vec_capacity shells.old ≤ vec_capacity shells.new }
     ensures took { AllTook shells.old.items shells.new.items }
+    ensures few { (k : ℕ) → length shells.old.items ≤ size * (k + 1) →
+        length (lent_by lender.new) ≤ length (lent_by lender.old) + k }
 {
     let cut = last_start(shells.len(), size);
     if cut == 0 || !mail_in(waits, 0, cut) {
@@ -190,7 +194,7 @@ fn busy_runs(waits: &[bool], size: usize) -> usize
 }
 
 /// Each shell takes a turn, runs of `size` neighbours at the same time. `waits` tells for which of
-/// the shells mail waits.
+/// the shells mail waits. One run fewer is lent than there are, or fewer.
 ///
 /// No run with mail waits for another with mail, where as many help as there are others: the first
 /// takes its turns here, and the others are lent. What nobody has begun when that is done takes its
@@ -210,6 +214,8 @@ pub(crate) fn at_once<A: Actor, G: Gate, R: Wait>(
     ensures lender { IsLenderOf desk.now lender.new }
     ensures len { length shells.new.items ≡ length shells.old.items }
     ensures took { AllTook shells.old.items shells.new.items }
+    ensures few { (k : ℕ) → length shells.old.items ≤ size * (k + 1) →
+        length (lent_by lender.new) ≤ length (lent_by lender.old) + k }
 {
     if busy_runs(waits, size) < 2 {
         turns_of(rt, alloc, gate, shells);
@@ -229,7 +235,7 @@ pub(crate) fn help<A: Actor, G: Gate, R: Threads + Wait + Sync>(
 )
     requires { All (λ p. IsHelperOf desk.now p) helpers.items }
 {
-    help_all(
+    let _ = help_all(
         rt,
         desk,
         &|run: Run<A>| -> Run<A>

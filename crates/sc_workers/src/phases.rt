@@ -1,11 +1,13 @@
 //! Phases, in which workers take shells from one queue.
 ghost use Rattle.std.specs.Prelude.{◌≡◌, ◌<◌, ◌≤◌, ◌+◌, ◌*◌, ◌/◌, ◌^◌, [], length, count_by, min, max, vec_len, IfOk};
-ghost use Rattle.sc_workers.specs.Crews.{AllSound, HasPlayed};
+ghost use Rattle.sc_queue.specs.Hands.{IsWorkedOff, known};
+ghost use Rattle.sc_workers.specs.Crews.{AllSound, HasPlayed, crew_numbers};
+ghost use Rattle.sc_workers.specs.Holders.{HaveOneHolder};
 ghost use Rattle.sc_workers.specs.Phases.{IsServed, AllServed, shells_of, rows_of_all};
 
 use crate::turns::made_row;
 use sc_actor::{Actor, Gate};
-use sc_queue::work_off;
+use sc_queue::{Holder, WorkedOff, work_off};
 use sc_shell::Shell;
 use std::alloc::{AllocError, Global};
 use std::mem;
@@ -48,10 +50,11 @@ fn serve_all<A: Actor, G: Gate, R: Threads + Wait + Sync>(
     shells: Vec<Shell<A>>,
     workers: usize,
     grant: u32,
-) -> Result<Vec<Served<A>>, AllocError>
+) -> Result<WorkedOff<Shell<A>, Served<A>>, AllocError>
     requires { workers ≤ 16 }
-    ensures len { IfOk result (λ all. vec_len all ≡ vec_len shells) }
-    ensures each { IfOk result (λ all. AllServed grant shells.items all.items) }
+    ensures len { IfOk result (λ all. vec_len all.given ≡ vec_len shells) }
+    ensures each { IfOk result (λ all. AllServed grant shells.items all.given.items) }
+    ensures once { IfOk result (λ all. IsWorkedOff shells.items (known all.holder)) }
 {
     let all = work_off(
         rt,
@@ -110,9 +113,18 @@ fn workers_for(waits: &[bool], workers: u32) -> usize
     wanted.min(workers as usize).max(1)
 }
 
-/// Each shell is put into a queue, from which workers take. A worker gives a shell turns until one
+/// A phase that is over: how many rows were made in it, and the pass that put the shells into the
+/// queue, which shows what was put and taken.
+#[derive(Drop)]
+pub(crate) struct PhaseDone<A: Actor> {
+    pub(crate) did: u32,
+    pub(crate) holder: Holder<Shell<A>>,
+}
+
+/// Each shell is put into a queue, once, from which workers take. A worker gives a shell turns until one
 /// makes no row, 16 at most, and all shells together at most `left`. Then the shells are put back
-/// in their order. Answers how many rows were made.
+/// in their order. Answers how many rows were made. At each moment the shell of a number that stands
+/// among the shells once is in the queue or with one worker, which has taken it once.
 ///
 /// `waits` tells for which of the shells mail waits: there is one worker for every two such shells,
 /// and two where there are two.
@@ -125,16 +137,23 @@ pub(crate) fn phase<A: Actor, G: Gate, R: Threads + Wait + Sync>(
     shells: &mut Vec<Shell<A>>,
     workers: u32,
     left: u32,
-) -> Result<u32, AllocError>
+) -> Result<PhaseDone<A>, AllocError>
     requires workers { workers ≤ 16 }
     requires many { (0 < length shells.old.items) × (length shells.old.items ≤ left) }
     requires sound { AllSound shells.old.items }
-    ensures { IfOk result (λ did. HasPlayed left shells.old.items shells.new.items did) }
+    ensures played { IfOk result (λ p. HasPlayed left shells.old.items shells.new.items p.did) }
+    ensures once { IfOk result (λ p. IsWorkedOff shells.old.items (known p.holder)) }
+    ensures holders { IfOk result
+        (λ p. HaveOneHolder (crew_numbers shells.old.items) (known p.holder).put) }
 {
     let workers = workers_for(waits, workers);
     let grant = grant_of(left, shells.len());
     let all = mem::replace(shells, Vec::new(alloc));
-    let served = serve_all(rt, alloc, gate, all, workers, grant)?;
+    let off = serve_all(rt, alloc, gate, all, workers, grant)?;
+    let WorkedOff {
+        given: served,
+        holder,
+    } = off;
     let did = put_back(shells, served)?;
-    Ok(did)
+    Ok(PhaseDone { did, holder })
 }

@@ -1,15 +1,16 @@
 //! The rounds, and the phases.
-ghost use Rattle.std.specs.Prelude.{◌≡◌, ◌<◌, ◌≤◌, ◌+◌, All, None, Some, IfSome, vec_len};
+ghost use Rattle.std.specs.Prelude.{◌≡◌, ◌<◌, ◌≤◌, ◌+◌, ◌*◌, length, All, None, Some, IfSome, vec_len};
 ghost use Rattle.std.specs.Thread.{IsSync};
-ghost use Rattle.sc_lend.specs.Offices.{IsHelperOf, IsLenderOf};
+ghost use Rattle.sc_lend.specs.Offices.{IsHelperOf, IsLenderOf, lent_by};
 ghost use Rattle.sc_workers.specs.Ends.{IsEnd, StepEnd, RefusedEnd, IsGathered, CanBegin, IfCalm, IfHeld, IfKept};
 ghost use Rattle.sc_workers.specs.Crews.{AllOf, AllSound, AreLater, AreStill, HasPlayed, IsCrew, crew_numbers, rows_made};
+ghost use Rattle.sc_workers.specs.Holders.{PhasesHaveOneHolder};
 ghost use Rattle.sc_workers.specs.Services.{AllServe};
 
 use crate::answers::{Rounds, Way};
 use crate::lending::{Run, at_once, help};
 use crate::meetings::{gather, meet, numbers_of, vouch};
-use crate::phases::phase;
+use crate::phases::{PhaseDone, phase};
 use crate::turns::{any_of, did_in, in_order, refused_in};
 use sc_actor::{Actor, Gate};
 use sc_exchange::Port;
@@ -34,7 +35,17 @@ struct Play<'a, A: Actor> {
     desk: &'a Office<Run<A>>,
 }
 
-// One round, or one phase. Answers how many deliveries were made in it, and None where there was no
+// How many neighbours are one run, so that there are at most so many runs.
+fn run_size(many: usize, runs: u32) -> usize
+    requires { (0 < many) × (0 < runs) }
+    ensures some { 0 < result }
+    ensures few { many ≤ result * runs }
+{
+    many.div_ceil(runs as usize)
+}
+
+// One round, or one phase. In a round there are at most as many runs as workers: fewer are lent, and
+// one takes its turns here. Answers how many deliveries were made in it, and None where there was no
 // memory for a phase.
 fn play_round<A: Actor, G: Gate, R: Threads + Wait + Sync>(
     rt: &R,
@@ -52,6 +63,7 @@ fn play_round<A: Actor, G: Gate, R: Threads + Wait + Sync>(
     ensures played { IfSome result
         (λ did. HasPlayed left shells.old.items shells.new.items did) }
     ensures none { result ≡ None → play.now.way ≡ Way.Queue }
+    ensures few { length (lent_by lender.new) < length (lent_by lender.old) + play.now.workers }
 {
     let alloc = play.alloc;
     if shells.is_empty() || (left as usize) < shells.len() {
@@ -59,11 +71,17 @@ fn play_round<A: Actor, G: Gate, R: Threads + Wait + Sync>(
     }
     match play.way {
         Way::Runs => {
-            let size = shells.len().div_ceil(play.workers as usize);
+            let size = run_size(shells.len(), play.workers);
             at_once(rt, alloc, gate, play.desk, lender, waits, size, shells);
             Some(did_in(shells.as_slice()))
         }
-        Way::Queue => phase(rt, alloc, gate, waits, shells, play.workers, left).ok(),
+        Way::Queue => {
+            let Ok(over) = phase(rt, alloc, gate, waits, shells, play.workers, left) else {
+                return None;
+            };
+            let PhaseDone { did, holder: _ } = over;
+            Some(did)
+        }
     }
 }
 
@@ -239,7 +257,7 @@ fn played_out<A: Actor, G: Gate, R: Threads + Wait + Sync>(
         play.now.limit }
 {
     let end = played(rt, gate, play, lender, net, shells);
-    play.desk.close();
+    let _ = play.desk.close(rt);
     end
 }
 
@@ -306,7 +324,9 @@ fn hands_for(way: Way, workers: u32, limit: u32, many: usize) -> usize
 /// Before each of them every shell meets `net`, which is the network's port and makes no row. One in
 /// which no turn is refused makes at least one delivery, so there are at most as many as `limit`.
 /// Where fewer deliveries are left than there are shells, the shells take their turns one after the
-/// other. Without memory a phase loses shells.
+/// other. In each phase the shell of a number that stands among them once has one holder. Without
+/// memory a phase loses shells.
+#[tactic(auto, using(crate::proofs::Holding::one_holder_each))]
 pub fn rounds_by<A: Actor, G: Gate, R: Threads + Wait + Sync>(
     rt: &R,
     alloc: Global,
@@ -323,6 +343,7 @@ pub fn rounds_by<A: Actor, G: Gate, R: Threads + Wait + Sync>(
         (AreLater net.old net.new shells.old.items shells.new.items) }
     ensures end { IsEnd result net.new shells.old.items shells.new.items (crew_numbers shells.old.items)
         limit }
+    ensures holders { PhasesHaveOneHolder shells.old.items }
 {
     let hands = hands_for(way, workers, limit, shells.len());
     let Ok((desk, mut lender, mut helpers)) = open(alloc, MOST_LOANS, hands) else {
@@ -346,10 +367,14 @@ pub fn rounds_by<A: Actor, G: Gate, R: Threads + Wait + Sync>(
 /// until nothing is pending for the shells' actors, `limit` deliveries were made, or a row is
 /// refused.
 ///
-/// There are as many runs as `workers`, or fewer, and none with mail waits for another with mail.
-/// For each run but one a thread is kept until the end, which sleeps while nothing is lent to it.
-/// Where mail waits in two runs or more, the caller takes the first of them and lends the others, and
-/// takes back what nobody has begun. No shell is lost.
+/// There are as many runs as `workers`, or fewer. For each run but one a thread is kept until the end,
+/// where one can be made, which sleeps while nothing is lent to it. Where mail waits in two runs or
+/// more, the caller takes the first of them and lends the others, and takes back what nobody has
+/// begun, so a run waits for another only where it cannot be lent. No shell is lost.
+///
+/// That each shell is kept, and what its turns were, the clauses say; how many runs there are and how
+/// many threads help, those of `play_round` and `helped`. By which thread a run takes its turns, and
+/// that any does so at the same time as another, no clause says.
 pub fn rounds<A: Actor, G: Gate, R: Threads + Wait + Sync>(
     rt: &R,
     alloc: Global,

@@ -3,7 +3,7 @@ use Rattle.crossbeam_queue.specs.Passes.{view}
 use Rattle.sc_queue.specs.Hands.{all_parts, works}
 use Rattle.sc_queue.specs.Working.{AllInside, AllThere, filled}
 use Rattle.sc_queue.proofs.Keeps.{filled_length}
-use Rattle.sc_queue.proofs.Placing.{completes, right_free, all_inside, comes_there, right_there, all_given, given_length}
+use Rattle.sc_queue.proofs.Placing.{completes, worked_off, right_free, all_inside, comes_there, right_there, all_given, given_length}
 use Rattle.sc_queue.proofs.hands.finish.Goals as goal
 
 pub fill-requires : goal.fill-requires
@@ -30,7 +30,7 @@ returns-clause-len g c =
     let slots = c.in_ok-slots.slots.items in
     let kept = c.append.new.self.items in
     let len : length slots ≡ length all = sym c.in_ok-slots.slots.ok.0 ∙ (c.in_ok-slots.ensures.len ∙ c.requires.many) in
-    c.in_ok-ordered.ordered.ok.0 ∙ given_length g.F.Fn c.args.f.now all (filled slots kept) c.in_ok-ordered.ordered.items (filled_length slots kept ∙ len) (c.in_ok-ordered.ensures ∙ c.fill.ensures)
+    c.in_ok-given.given.ok.0 ∙ given_length g.F.Fn c.args.f.now all (filled slots kept) c.in_ok-given.given.items (filled_length slots kept ∙ len) (c.in_ok-given.ensures ∙ c.fill.ensures)
 
 pub returns-clause-each : goal.returns-clause-each
 returns-clause-each g c =
@@ -39,5 +39,9 @@ returns-clause-each g c =
     let slots = c.in_ok-slots.slots.items in
     let kept = c.append.new.self.items in
     let len : length slots ≡ length all = sym c.in_ok-slots.slots.ok.0 ∙ (c.in_ok-slots.ensures.len ∙ c.requires.many) in
-    all_given g.F.Fn c.args.f.now all (filled slots kept) c.in_ok-ordered.ordered.items (filled_length slots kept ∙ len) (c.in_ok-ordered.ensures ∙ c.fill.ensures)
+    all_given g.F.Fn c.args.f.now all (filled slots kept) c.in_ok-given.given.items (filled_length slots kept ∙ len) (c.in_ok-given.ensures ∙ c.fill.ensures)
     (λ k e lt. right_there g.F.Fn c.args.f.now all slots a.taken kept len a.placed a.worked (right_free g.F.Fn c.args.f.now all slots c.in_ok-slots.ensures.free) k e (omega (arith, lt, filled_length slots kept)))
+
+pub returns-clause-once : goal.returns-clause-once
+returns-clause-once g c =
+    worked_off g.F.Fn c.args.f.now (works (view c.args.pass).put) (view c.args.pass) (view c.work-last.result.pass) c.args.kept.items c.work-last.result.kept.items all_parts c.requires.gathered refl c.work-last.ensures.did (c.work-last.ensures.whole (search rules))

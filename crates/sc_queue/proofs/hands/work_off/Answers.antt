@@ -2,7 +2,7 @@ use Rattle.std.proofs.Common.{◌≡◌, ◌∙◌, ◌+◌, ◌-◌, sym, ap, L
 use Rattle.crossbeam_queue.specs.Passes.{view}
 use Rattle.sc_queue.specs.declared.rule.Item.{Item}
 use Rattle.sc_queue.specs.declared.rule.Hand.{Hand}
-use Rattle.sc_queue.specs.Hands.{all_parts, hand, numbered, works}
+use Rattle.sc_queue.specs.Hands.{all_parts, hand, numbered, works, IsWorkedOff}
 use Rattle.sc_queue.specs.Working.{Gathers, AllGiven}
 use Rattle.sc_queue.proofs.Keeps.{begins, works_numbered}
 use Rattle.sc_queue.proofs.Placing.{gathers_none}
@@ -41,11 +41,18 @@ returns-clause-len g c =
     let none = gathers_none g.F.Fn c.args.f.now (all_parts - c.args.threads) c.args.all.items (view c.put_all.new.pass) (view c.cut.new.pass) c.new-kept.result.items c.put_all.ensures.put c.in_ok-passes.ensures.left c.new-kept.ensures.items in
     let a = c.in_ok-gather.ensures.more (all_parts - c.args.threads) (numbered 0 c.args.all.items) none in
     let is = same_works (view c.gather.new.pass) c.args.all.items _ a.taken a.view_is in
-    c.in_ok-ordered.ensures.len ∙ (ap length is ∙ sym c.args.all.ok.0)
+    c.in_ok-off.ensures.len ∙ (ap length is ∙ sym c.args.all.ok.0)
 
 pub returns-clause-each : goal.returns-clause-each
 returns-clause-each g c =
     let none = gathers_none g.F.Fn c.args.f.now (all_parts - c.args.threads) c.args.all.items (view c.put_all.new.pass) (view c.cut.new.pass) c.new-kept.result.items c.put_all.ensures.put c.in_ok-passes.ensures.left c.new-kept.ensures.items in
     let a = c.in_ok-gather.ensures.more (all_parts - c.args.threads) (numbered 0 c.args.all.items) none in
     let is = same_works (view c.gather.new.pass) c.args.all.items _ a.taken a.view_is in
-    subst (λ l. AllGiven g.F.Fn c.args.f.now l c.in_ok-ordered.ordered.items) is c.in_ok-ordered.ensures.each
+    subst (λ l. AllGiven g.F.Fn c.args.f.now l c.in_ok-off.off.given.items) is c.in_ok-off.ensures.each
+
+pub returns-clause-once : goal.returns-clause-once
+returns-clause-once g c =
+    let none = gathers_none g.F.Fn c.args.f.now (all_parts - c.args.threads) c.args.all.items (view c.put_all.new.pass) (view c.cut.new.pass) c.new-kept.result.items c.put_all.ensures.put c.in_ok-passes.ensures.left c.new-kept.ensures.items in
+    let a = c.in_ok-gather.ensures.more (all_parts - c.args.threads) (numbered 0 c.args.all.items) none in
+    let is = same_works (view c.gather.new.pass) c.args.all.items _ a.taken a.view_is in
+    subst (λ l. IsWorkedOff l (view c.in_ok-off.off.holder)) is c.in_ok-off.ensures.once

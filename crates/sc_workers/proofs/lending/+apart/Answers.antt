@@ -3,6 +3,7 @@ use Rattle.sc_lend.specs.Lending.{IsLentUnder}
 use Rattle.sc_lend.specs.Offices.{lent_by}
 use Rattle.sc_workers.specs.Crews.{AllTook}
 use Rattle.sc_workers.specs.Runs.{RunTook}
+use Rattle.sc_workers.proofs.Cutting.{few_lent}
 use Rattle.sc_workers.proofs.Joining.{took_parts, parts_length}
 use Rattle.sc_workers.proofs.Sending.{sent_later}
 use Rattle.sc_workers.proofs.lending.+apart.Goals as goal
@@ -32,3 +33,9 @@ returns-clause-took g t c =
     (took_parts c.last_start-cut.result ss front back (c.apart.ensures.len ∙ ap length c.in-Ok.ensures.items)
     (subst (λ l. AllTook l front) c.in-Ok.ensures.items c.apart.ensures.took)
     (subst (λ l. AllTook l back) c.in-Ok.ensures.tail run.took))
+
+pub returns-clause-few : goal.returns-clause-few
+returns-clause-few g t c = λ k fits.
+    let same = ap length c.fetch-run.ensures.same in
+    let cut : length c.split_off.new.self.items ≡ c.last_start-cut.result = omega (arith, c.in-Ok.ensures.len, c.split_off.new.self.ok.0) in
+    omega (arith, same, few_lent k c.last_start-cut.result c.args.size (length (lent_by c.args.lender.now)) (length (lent_by c.send-sent.new.lender)) (length (lent_by c.apart.new.lender)) (omega arith) (c.last_start-cut.ensures.fewer k (omega (arith, fits, c.args.shells.now.ok.0))) (λ j less. c.apart.ensures.few j (omega (arith, less, cut))) c.send-sent.ensures.few)

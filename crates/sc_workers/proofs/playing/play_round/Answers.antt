@@ -1,4 +1,4 @@
-use Rattle.std.proofs.Common.{rules, inr, ◌≡◌, ◌+◌, sum_by, sym, ap, ◌∙◌, subst, length, arith}
+use Rattle.std.proofs.Common.{rules, inr, ◌≡◌, ◌+◌, ◌-◌, ◌*◌, ◌≤◌, sum_by, sym, ap, ◌∙◌, subst, length, arith}
 use Rattle.sc_workers.specs.Crews.{did, rows_made, HasPlayed}
 use Rattle.sc_workers.proofs.Crews.{took_rows, took_short}
 use Rattle.sc_workers.proofs.Working.{all_passed_worked}
@@ -32,3 +32,11 @@ returns-in-Runs-clause-played g c =
       whole = λ none some calm. c.at_once.ensures.took;
       short = λ r refused. omega (arith, took_short ss ts r c.at_once.ensures.len c.requires.sound c.at_once.ensures.took refused, is, c.at_once.ensures.len);
     }
+
+pub returns-in-Runs-clause-few : goal.returns-in-Runs-clause-few
+returns-in-Runs-clause-few g c =
+    let workers = c.args.play.now.workers in let size = c.run_size-size.result in
+    let same : workers - 1 + 1 ≡ workers = omega (arith, c.requires.workers.0) in
+    let fits : length c.args.shells.now.items ≤ size * workers = subst (λ n. n ≤ size * workers) (c.len.ensures ∙ c.args.shells.now.ok.0) c.run_size-size.ensures.few in
+    let most = c.at_once.ensures.few (workers - 1) (subst (λ n. length c.args.shells.now.items ≤ size * n) (sym same) fits) in
+    omega (arith, most, c.requires.workers.0)

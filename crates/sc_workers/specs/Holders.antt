@@ -1,11 +1,16 @@
--- Where a shell is, by its actor's number.
+-- Where a shell is in a phase, by its actor's number.
 use Rattle.std.specs.Prelude.{◌≡◌, ℕ, ◌==◌, List, ◌⊎◌, if◌then◌else◌}
 use Rattle.sc_actor.specs.declared.actors.Actor.{Ghosts}
 use Rattle.sc_actor.specs.declared.actors.Parcel.{Ghosts as MailGhosts}
 use Rattle.sc_shell.specs.declared.shells.Shell.{Shell}
 use Rattle.sc_queue.specs.declared.rule.Hand.{Hand}
 use Rattle.sc_queue.specs.declared.rule.Item.{Item}
-use Rattle.sc_queue.specs.Hands.{weigh}
+use Rattle.sc_queue.specs.Hands.{weigh, numbered, Kept}
+use Rattle.sc_workers.specs.Crews.{crew_numbers}
+
+-- how often a number stands in a list
+abbrev pub times : ℕ → List ℕ → ℕ
+times number numbers = weigh (λ who. if who == number then 1 else 0) numbers
 
 module _ {A M O : Type 0} {g : Ghosts A M O} {h : MailGhosts M} where
   -- 1 for the shell of this number, and else 0
@@ -31,3 +36,12 @@ module _ {A M O : Type 0} {g : Ghosts A M O} {h : MailGhosts M} where
   -- the shell of this number lies in the queue and nobody has taken it, or one holder has taken it, once
   abbrev pub HasOneHolder : ℕ → List (Item (Shell A M O g h)) → List (Hand (Shell A M O g h)) → Type 0
   HasOneHolder number items views = ((queued_of number items ≡ 1) × (taken_of number views ≡ 0)) ⊎ ((queued_of number items ≡ 0) × (taken_of number views ≡ 1))
+
+  -- What was put has each number as often as this list has it. So whatever the queue holds at any moment under its rule, the shell of a number that stands in the list once has one holder.
+  pub record HaveOneHolder (numbers : List ℕ) (put : List (Item (Shell A M O g h))) : Type 0 where
+    pub once : (number : ℕ) → put_of number put ≡ times number numbers
+    pub one : (items : List (Item (Shell A M O g h))) (views : List (Hand (Shell A M O g h))) (kept : Kept items views) → kept.put ≡ put → (number : ℕ) → times number numbers ≡ 1 → HasOneHolder number items views
+
+  -- in each phase: whatever shells of these actors are put, each at its place, the shell of each actor has one holder
+  abbrev pub PhasesHaveOneHolder : List (Shell A M O g h) → Type 0
+  PhasesHaveOneHolder start = (ss : List (Shell A M O g h)) → crew_numbers ss ≡ crew_numbers start → HaveOneHolder (crew_numbers start) (numbered 0 ss)
