@@ -1,4 +1,3 @@
-mod ChildRuns
 mod Counting
 mod Making
 mod Naming
