@@ -145,7 +145,11 @@ fn lend_to_a_sleeper<R: Wait + Abort + Clock>(
 {
     pause(rt);
     let _ = office.lend(rt, lender, Half { number: 10 });
-    watch(rt, helped, "the one that helps was not woken by what was lent");
+    watch(
+        rt,
+        helped,
+        "the one that helps was not woken by what was lent",
+    );
     pause(rt);
     let _ = office.close(rt);
 }

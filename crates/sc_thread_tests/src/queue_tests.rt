@@ -10,7 +10,10 @@ fn doubles_in_order(rt: HostRuntime) -> Result<(), Fail> {
     }
     let doubled = work_off(&rt, rt.alloc(), all, 4, &|x: u32| x / 2)?;
     assert_eq!(rt; doubled.given.len(), 40);
-    assert_eq!(rt; (doubled.given[0], doubled.given[7], doubled.given[39]), (0, 3, 19));
+    assert_eq!(rt;
+        (doubled.given[0], doubled.given[7], doubled.given[39]),
+        (0, 3, 19)
+    );
     let none = work_off(&rt, rt.alloc(), Vec::new(rt.alloc()), 4, &|x: u32| x / 2)?;
     assert_eq!(rt; none.given.len(), 0);
     Ok(())
