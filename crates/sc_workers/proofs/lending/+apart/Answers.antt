@@ -1,4 +1,4 @@
-use Rattle.std.proofs.Common.{◌∙◌, length, subst, sym, ap, arith}
+use Rattle.std.proofs.Common.{◌≡◌, ◌∙◌, length, subst, sym, ap, arith}
 use Rattle.sc_lend.specs.Lending.{IsLentUnder}
 use Rattle.sc_lend.specs.Offices.{lent_by}
 use Rattle.sc_workers.specs.Crews.{AllTook}
