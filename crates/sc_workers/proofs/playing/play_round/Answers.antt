@@ -37,6 +37,6 @@ pub returns-in-Runs-clause-few : goal.returns-in-Runs-clause-few
 returns-in-Runs-clause-few g c =
     let workers = c.args.play.now.workers in let size = c.run_size-size.result in
     let same : workers - 1 + 1 ≡ workers = omega (arith, c.requires.workers.0) in
-    let fits : length c.args.shells.now.items ≤ size * workers = subst (λ n. n ≤ size * workers) (c.len.ensures ∙ c.args.shells.now.ok.0) c.run_size-size.ensures.few in
+    let fits : length c.args.shells.now.items ≤ size * workers = subst (λ n. n ≤ size * workers) (c.len-in-Runs.ensures ∙ c.args.shells.now.ok.0) c.run_size-size.ensures.few in
     let most = c.at_once.ensures.few (workers - 1) (subst (λ n. length c.args.shells.now.items ≤ size * n) (sym same) fits) in
     omega (arith, most, c.requires.workers.0)
