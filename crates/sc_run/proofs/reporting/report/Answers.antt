@@ -3,9 +3,9 @@ use Rattle.sc_report.specs.Report.{report_lines}
 use Rattle.std.specs.Prelude.{IfSome}
 use Rattle.sc_command_line.specs.Causes.{said_by}
 use Rattle.sc_run.specs.declared.done.Text.{Text}
-use Rattle.sc_run.specs.Played.{IsPlayed}
+use Rattle.sc_run.specs.Played.{HasFilled, IsPlayed}
 use Rattle.sc_run.specs.Run.{Comes, ShowsReport, journal_limit}
-use Rattle.sc_run.proofs.Plays.{comes_ended, few}
+use Rattle.sc_run.proofs.Plays.{comes_ended, comes_full, few}
 use Rattle.sc_run.proofs.reporting.report.Goals as goal
 
 pub returns-in_ok-lines-in-Ended : goal.returns-in_ok-lines-in-Ended
@@ -25,3 +25,10 @@ pub sum_up-requires-clause-few_mails : goal.sum_up-requires-clause-few_mails
 sum_up-requires-clause-few_mails g c =
     let left = c.in_ok-left.left in let scenario = c.args.scenario.now in
     (few scenario c.in-Ended.unsettled c.in-Ended.quiet c.in-Ended.skipped left.journal left.parties (subst (IsPlayed scenario journal_limit left.journal left.parties) c.in-Ended.is c.in_ok-left.ensures)).1
+
+pub returns-in_ok-tells_full-in-Full : goal.returns-in_ok-tells_full-in-Full
+returns-in_ok-tells_full-in-Full g c =
+    let left = c.in_ok-left.left in let scenario = c.args.scenario.now in let text = c.in_ok-tells_full-in-Full.field-0 in
+    let filled : HasFilled scenario journal_limit left.journal = subst (IsPlayed scenario journal_limit left.journal left.parties) c.in-Full.is c.in_ok-left.ensures in
+    subst (λ begun. IfSome begun (λ said. Comes (ShowsReport scenario) scenario said text)) (sym (sym c.in-Some.is ∙ (c.said_by.ensures ∙ ap said_by c.in-Full.is)))
+    (comes_full (ShowsReport scenario) scenario left.journal text filled c.in_ok-tells_full-in-Full.ensures)

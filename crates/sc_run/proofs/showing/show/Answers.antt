@@ -7,12 +7,13 @@ use Rattle.sc_scan.specs.Scan.{entries_in, scan_of}
 use Rattle.sc_scan.specs.Text.{scan_lines}
 use Rattle.sc_sound.specs.GroupsOf.{entries_at, world_at}
 use Rattle.sc_sound.specs.Players.{as_nodes}
+use Rattle.sc_sound.specs.Soundness.{IsSoundThroughout}
 use Rattle.sc_command_line.specs.Causes.{said_by}
 use Rattle.sc_run.specs.declared.done.Text.{Text}
-use Rattle.sc_run.specs.Played.{IsPlayed, HasPlayedToEnd}
+use Rattle.sc_run.specs.Played.{HasFilled, HasPlayedToEnd, IsPlayed}
 use Rattle.sc_run.specs.Run.{Comes, journal_limit}
 use Rattle.sc_run.specs.Shown.{ShowsScan}
-use Rattle.sc_run.proofs.Plays.{comes_ended}
+use Rattle.sc_run.proofs.Plays.{comes_ended, comes_full}
 use Rattle.sc_run.proofs.Shown.{shows_scan}
 use Rattle.sc_run.proofs.showing.show.Goals as goal
 
@@ -30,3 +31,17 @@ returns-in_ok-lines-in-Ended g c =
     c.as_slice.ensures c.in_ok-lines-in-Ended.ensures.lines) in
     subst (λ begun. IfSome begun (λ said. Comes (ShowsScan scenario sight) scenario said text)) (sym (sym c.in-Some.is ∙ (c.said_by.ensures ∙ ap said_by c.in-Ended.is)))
     (comes_ended (ShowsScan scenario sight) scenario c.in-Ended.unsettled c.in-Ended.quiet c.in-Ended.skipped left.journal left.parties text ended shows refl refl)
+
+pub returns-in_ok-tells_full-in-Full : goal.returns-in_ok-tells_full-in-Full
+returns-in_ok-tells_full-in-Full g c =
+    let left = c.in_ok-left.left in let scenario = c.args.scenario.now in let text = c.in_ok-tells_full-in-Full.field-0 in
+    let filled : HasFilled scenario journal_limit left.journal = subst (IsPlayed scenario journal_limit left.journal left.parties) c.in-Full.is c.in_ok-left.ensures in
+    subst (λ begun. IfSome begun (λ said. Comes (ShowsScan scenario c.args.sight) scenario said text)) (sym (sym c.in-Some.is ∙ (c.said_by.ensures ∙ ap said_by c.in-Full.is)))
+    (comes_full (ShowsScan scenario c.args.sight) scenario left.journal text filled c.in_ok-tells_full-in-Full.ensures)
+
+pub lines_of-requires-clause-sound : goal.lines_of-requires-clause-sound
+lines_of-requires-clause-sound g c =
+    let left = c.in_ok-left.left in let scenario = c.args.scenario.now in
+    let ended : HasPlayedToEnd scenario journal_limit c.in-Ended.unsettled c.in-Ended.quiet c.in-Ended.skipped left.journal left.parties =
+    subst (IsPlayed scenario journal_limit left.journal left.parties) c.in-Ended.is c.in_ok-left.ensures in
+    subst (IsSoundThroughout as_nodes scenario) (sym c.as_slice.ensures) ended.sound
