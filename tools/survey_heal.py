@@ -52,25 +52,31 @@ class Open:
     """How much is open in some runs, and in how many of them."""
 
     def __init__(self, cast, outcomes):
-        self.runs = len(outcomes)
         self.requests = self.asked = self.orders = self.told = 0
-        self.request_runs = self.order_runs = 0
+        self.request_runs = self.order_runs = self.unknown = 0
         for outcome in outcomes:
-            asked = [
-                word
-                for name, word in outcome.requests.items()
-                if int(name.split(" ")[0][1:]) in cast.gone
-            ]
-            left = sum(word != "answered" for word in asked)
-            self.requests, self.asked = self.requests + left, self.asked + len(asked)
-            self.orders, self.told = self.orders + outcome.open, self.told + len(outcome.orders)
-            self.request_runs += left > 0
-            self.order_runs += outcome.open > 0
+            if outcome.status in (0, 6):
+                self.count(cast, outcome)
+            else:
+                self.unknown += 1
+
+    def count(self, cast, outcome):
+        asked = [
+            word
+            for name, word in outcome.requests.items()
+            if int(name.split(" ")[0][1:]) in cast.gone
+        ]
+        left = sum(word != "answered" for word in asked)
+        self.requests, self.asked = self.requests + left, self.asked + len(asked)
+        self.orders, self.told = self.orders + outcome.open, self.told + len(outcome.orders)
+        self.request_runs += left > 0
+        self.order_runs += outcome.open > 0
 
     def words(self):
+        unknown = f"; {self.unknown} runs have no report" if self.unknown else ""
         return (
             f"{self.requests} of {self.asked} requests, in {self.request_runs} runs;"
-            f" {self.orders} of {self.told} orders, in {self.order_runs} runs"
+            f" {self.orders} of {self.told} orders, in {self.order_runs} runs{unknown}"
         )
 
     def request_share(self):
@@ -80,23 +86,26 @@ class Open:
         return self.orders / self.told if self.told else None
 
 
+def ticked(count):
+    return f"{count} tick" if count == 1 else f"{count} ticks"
+
+
 class Healed:
     """What sweeps came to in the runs of one scenario: before them, after the one that was asked
     for, and after each of a plot."""
 
     def __init__(self, text, ticks, runs):
-        self.cast, self.ticks = Cast(text), ticks
-        ended = [run for run in runs if all(one.status in (0, 6) for one in run)]
-        self.runs = len(ended)
-        opened = [Open(self.cast, column) for column in zip(*ended)]
+        self.cast, self.ticks, self.runs = Cast(text), ticks, len(runs)
+        opened = [Open(self.cast, column) for column in zip(*runs)]
         self.after, self.before = opened[:2] if opened else (Open(self.cast, []),) * 2
         self.over = opened[2:]
 
     def tell(self):
         """Prints what was open, and what the sweeps healed."""
-        nodes, clients = len(self.cast.living), len(self.cast.clients)
-        print(f"sweep: {self.ticks} ticks of each of {nodes} living nodes, then {clients} clients")
+        nodes = " ".join(f"n{node}" for node in self.cast.living) or "no node"
+        clients = " ".join(f"c{client}" for client in self.cast.clients) or "no client"
+        print(f"sweep: {ticked(self.ticks)} of each of {nodes}, then one of each of {clients}")
         print(f"open before the sweep: {self.before.words()}")
         print(f"open after the sweep: {self.after.words()}")
         for ticks, opened in enumerate(self.over):
-            print(f"open after {ticks} ticks a node: {opened.words()}")
+            print(f"open after {ticked(ticks)} a node: {opened.words()}")
