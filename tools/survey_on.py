@@ -34,7 +34,9 @@ def played_there(path, wanted, plan, number):
     import distributed
 
     address = distributed.get_worker().address
-    return address, played(path, plan, number) if checksum(path) == wanted else None
+    if checksum(path) != wanted:
+        return address, None
+    return address, played(path, survey_runs.Plan(*plan), number)
 
 
 def say(text):
@@ -91,7 +93,8 @@ class Cluster:
 
     def hand_out(self, plan, number):
         where = sorted(self.allowed) if self.allowed is not None else None
-        words = (self.path, self.wanted, plan, number)
+        # (a plain tuple, since a worker cannot load a class of this file's neighbours by its name)
+        words = (self.path, self.wanted, tuple(plan), number)
         return self.client.submit(played_there, *words, pure=False, workers=where)
 
     def refuse(self, address):

@@ -1,0 +1,185 @@
+"""Surveys by a dask.distributed scheduler and two workers on the loopback, for `survey_test --on`.
+
+Each worker has its own folder, and in it a program `there`, a script that notes each run, waits a
+little, and then runs the program. So two workers on one machine can have different programs, and a
+worker can be ended while it runs one. Only processes that are started here are ended, by their ids.
+"""
+
+import contextlib
+import os
+import shutil
+import subprocess
+import sys
+import time
+
+from checks import HERE, same
+
+SURVEY = os.path.join(HERE, "tools", "survey")
+SCENARIOS = [
+    os.path.join(HERE, "scenarios", f"{name}.scatter")
+    for name in ("storms_over_a_merge", "policy_in_a_storm")
+]
+RUNS = 12
+PATIENCE = 60  # seconds for what takes a few
+
+
+def wait(what, is_so):
+    """Waits until something is so."""
+    end = time.monotonic() + PATIENCE
+    while not is_so():
+        same(what, time.monotonic() < end, True)
+        time.sleep(0.05)
+
+
+def note_runs(folder, program, more=""):
+    """The program of a worker, which notes its runs in the file `runs` of the folder above."""
+    path = os.path.join(folder, "there")
+    with open(path, "w", encoding="utf-8") as out:
+        out.write(f'#!/bin/sh\n{more}echo "$$" >> ../runs\nsleep 0.3\nexec {program} "$@"\n')
+    os.chmod(path, 0o755)
+    return path
+
+
+class Machines:
+    """A scheduler and two workers."""
+
+    def __init__(self, folder, program):
+        self.folder, self.file = folder, os.path.join(folder, "scheduler.json")
+        self.scheduler = self.start("dask_scheduler", folder, "--host", "127.0.0.1", "--port", "0")
+        wait("the scheduler is there", lambda: os.path.exists(self.file))
+        self.workers = []
+        for name in ("one", "two"):
+            place = os.path.join(folder, name)
+            os.mkdir(place)
+            note_runs(place, program)
+            self.workers.append(
+                self.start("dask_worker", place, "--no-nanny", "--nthreads", "1", "--name", name)
+            )
+        with open(self.file, encoding="utf-8") as said:
+            text = said.read()
+        self.address = text.partition('"address": "')[2].partition('"')[0]
+        wait("both workers are there", lambda: self.count() == 2)
+
+    def start(self, word, place, *words):
+        command = [sys.executable, "-m", f"distributed.cli.{word}", "--scheduler-file", self.file]
+        return subprocess.Popen(
+            [*command, "--no-dashboard", *words],
+            cwd=place,
+            stdout=subprocess.DEVNULL,
+            stderr=subprocess.DEVNULL,
+        )
+
+    def count(self):
+        """How many workers the scheduler has."""
+        import distributed
+
+        with distributed.Client(self.address, set_as_default=False) as client:
+            return len(client.scheduler_info()["workers"])
+
+    def noted(self):
+        """How many runs were begun."""
+        try:
+            with open(os.path.join(self.folder, "runs"), encoding="utf-8") as notes:
+                return len(notes.readlines())
+        except FileNotFoundError:
+            return 0
+
+    def forget(self):
+        with contextlib.suppress(FileNotFoundError):
+            os.remove(os.path.join(self.folder, "runs"))
+
+    def survey(self, *words):
+        """A survey by the workers, which has begun. Its own program is not that of a worker's
+        folder, so it notes nothing, but it has the same bytes."""
+        self.forget()
+        here = os.path.join(self.folder, "here")
+        os.makedirs(os.path.join(here, "in"), exist_ok=True)
+        shutil.copy(os.path.join(self.folder, "one", "there"), os.path.join(here, "in"))
+        command = [sys.executable, SURVEY, "--ours", "there", "--on", self.address]
+        return subprocess.Popen(
+            [*command, "--there", "./there", *words, *SCENARIOS, str(RUNS)],
+            cwd=os.path.join(here, "in"),
+            stdout=subprocess.PIPE,
+            stderr=subprocess.PIPE,
+            text=True,
+        )
+
+    def close(self):
+        for process in [*self.workers, self.scheduler]:
+            process.kill()
+            process.wait()
+
+
+def alone(program):
+    """What the survey says without other machines."""
+    words = ["--ours", program, *SCENARIOS, str(RUNS)]
+    run = subprocess.run(
+        [sys.executable, SURVEY, *words], stdout=subprocess.PIPE, stderr=subprocess.DEVNULL, text=True
+    )
+    return run.stdout
+
+
+def ended(process, status):
+    """Output and standard error of a survey, which ends with this status."""
+    out, err = process.communicate(timeout=4 * PATIENCE)
+    same(f"status, with standard error {err!r}", process.returncode, status)
+    return out, err
+
+
+def both_work(machines, wanted):
+    out, _ = ended(machines.survey(), 0)
+    same("a survey by two workers", out, wanted)
+    same("runs that were begun", machines.noted(), 2 * RUNS)
+
+
+def one_differs(machines, wanted, program):
+    """A worker with another program gets no runs."""
+    place = os.path.join(machines.folder, "two")
+    note_runs(place, program, "# another one\n")
+    out, err = ended(machines.survey(), 0)
+    same("a survey by one of two workers", out, wanted)
+    same("that is said", " has another program at ./there, and gets no runs" in err, True)
+    os.remove(os.path.join(place, "there"))
+    _, err = ended(machines.survey(), 0)
+    same("that is said", " has no program at ./there, and gets no runs" in err, True)
+    note_runs(place, program)
+
+
+def one_is_ended(machines, wanted):
+    """The runs of a worker that is lost in the middle are tried again."""
+    process = machines.survey()
+    wait("the survey has begun", lambda: machines.noted() >= 6)
+    machines.workers[0].kill()
+    machines.workers[0].wait()
+    out, _ = ended(process, 0)
+    same("a survey in which a worker is lost", out, wanted)
+    same("a run was tried again", machines.noted() > 2 * RUNS, True)
+
+
+def all_are_ended(machines):
+    """Without workers it is said what was not run."""
+    process = machines.survey("--patience", "3")
+    wait("the survey has begun", lambda: machines.noted() >= 5)
+    machines.workers[1].kill()
+    machines.workers[1].wait()
+    out, _ = ended(process, 1)
+    lines = out.split("\n")
+    lost = [line for line in lines if line.startswith("not run: ")]
+    same("files with lost runs", len(lost), 2)
+    same("the last runs were not run", lost[0].endswith(f" to {RUNS}"), True)
+    same("nothing of the second file was run", lost[1], f"not run: 1 to {RUNS}")
+    run = int(lines[0].split(": ")[1].split(" ")[0])
+    same("runs that were run", 3 <= run <= 5, True)
+
+
+def other_machines(program, folder):
+    """All of it, one after the other."""
+    wanted = alone(program)
+    machines = Machines(folder, program)
+    try:
+        both_work(machines, wanted)
+        one_differs(machines, wanted, program)
+        one_is_ended(machines, wanted)
+        all_are_ended(machines)
+    finally:
+        machines.close()
