@@ -10,7 +10,7 @@ NEVER = float("inf")
 
 
 class Asked:
-    """One request: who asked what, the row that issued it, the row that took the answer, the reply."""
+    """One request: who asked what, the rows of its issue and of its answer, and the reply."""
 
     def __init__(self, client, seq, said, row):
         self.client, self.seq, self.issued = client, seq, row
@@ -35,7 +35,7 @@ class Asked:
 
 
 def requests(journal):
-    """All requests, read off the rows of the clients alone, in the order in which they were issued."""
+    """All requests in the order of their issue, read off the rows of the clients alone."""
     waiting, found = {}, []
     for row in journal.rows:
         if row.who <= journals.NODES:

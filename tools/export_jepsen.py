@@ -78,7 +78,7 @@ def knossos(asked):
 
 
 def steps(journal, key):
-    """The steps of the history, in their order: time, process, key, and type, function and value."""
+    """The steps of the history in their order: time, process, key; type, function and value."""
     found, last = [], len(journal.rows) + 1
     for place, asked in enumerate(requests(journal)):
         if key not in (None, asked.key):
@@ -127,7 +127,8 @@ def notes(journal, key=None):
             values.add(asked.value)
     found = []
     if again:
-        found.append(f"a value is written twice, so Elle may refuse: keys {' '.join(sorted(again))}")
+        keys = " ".join(sorted(again))
+        found.append(f"a value is written twice, so Elle may refuse: keys {keys}")
     if gone:
         found.append(
             "a delete is a write of nil, which Elle takes for the first value, so it may find"

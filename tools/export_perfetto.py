@@ -1,11 +1,11 @@
 """A journal as Chrome trace events, for `export --perfetto`.
 
-Each actor is a track, and each of its rows a slice on it. A mail is a flow from the row that sent it
-to the row that took, lost or repeated it. Orders, transactions and requests are slices of tracks of
-their own: an order from the row that told it to the one that told what it came to, a transaction
-from the row that decided its beginning to the one that decided its outcome, with an instant for each
-decided command about it, and a request from its issue to its answer. What is open at the end lasts
-to the end. A row is ten microseconds long, since the format has no other clock.
+Each actor is a track, and each of its rows a slice on it. A mail is a flow from the row that sent
+it to the row that took, lost or repeated it. Orders, transactions and requests are slices of tracks
+of their own: an order from the row that told it to the one that told what it came to, a transaction
+from the row that decided its beginning to the one that decided its outcome, with an instant for
+each decided command about it, and a request from its issue to its answer. What is open at the end
+lasts to the end. A row is ten microseconds long, since the format has no other clock.
 """
 
 import json

@@ -8,7 +8,7 @@ import shutil
 import sys
 import time
 
-WIDE = 32
+WIDE = 20  # columns of a bar, where there is room
 BETWEEN = 0.1  # seconds between two bars, since a terminal may be slow
 PLAIN = 30.0  # seconds between two plain lines
 
@@ -64,10 +64,12 @@ class Progress:
             self.write(f"{self.tool}: {words}\n")
 
     def draw(self, words, end):
-        full = WIDE * self.done // self.count
-        line = f"[{'#' * full}{'.' * (WIDE - full)}] {words}"
+        columns = shutil.get_terminal_size().columns
+        wide = max(4, min(WIDE, columns - len(words) - 4))
+        full = wide * self.done // self.count
+        line = f"[{'#' * full}{'.' * (wide - full)}] {words}"
         # (a line that is cut stays one line, and the next bar stands where it stood)
-        cut = line[: shutil.get_terminal_size().columns - 1]
+        cut = line[: columns - 1]
         self.is_shown = not end
         self.write(f"\r\033[K{cut}{end}")
 

@@ -39,8 +39,8 @@ def operations(history):
 
 
 def fits(history):
-    """Whether some order fits: each process's operations in their order, none before one that had
-    ended when it began. A state is how many of each process stand in the order, and the register."""
+    """Whether some order fits: each process's operations in their order, and none before one that
+    had ended when it began. A state is how many of each process stand in it, and the register."""
     queues = {}
     for one in operations(history):
         queues.setdefault(one.process, []).append(one)

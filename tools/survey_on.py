@@ -7,6 +7,8 @@ another one; where no worker is left for a while, or the scheduler is gone, what
 given back as that.
 """
 
+import asyncio
+import contextlib
 import hashlib
 import logging
 import sys
@@ -17,6 +19,8 @@ from survey_runs import Refused, played
 
 LOOK = 0.05  # seconds between two looks at what has ended
 ASK = 2.0  # seconds between two questions to the scheduler, who is there
+# where nobody answers
+GONE = (OSError, RuntimeError, TimeoutError, asyncio.TimeoutError, ValueError, KeyError)
 TRIES = 3  # how often a run is handed out again where it went to another program
 
 
@@ -39,6 +43,11 @@ def played_there(path, wanted, plan, number):
     return address, played(path, survey_runs.Plan(*plan), number)
 
 
+def is_over(future):
+    """Whether nothing more comes of a run that was handed out, or could not be."""
+    return future is None or future.done()
+
+
 def say(text):
     print(f"survey: {text}", file=sys.stderr)
 
@@ -59,29 +68,34 @@ class Cluster:
         for module in (survey_runs, sys.modules[__name__]):
             cloudpickle.register_pickle_by_value(module)
         # (what it says of lost workers is said here, in fewer words)
-        logging.getLogger("distributed").setLevel(logging.CRITICAL)
+        for name in ("distributed", "distributed.client", "distributed.core"):
+            logging.getLogger(name).setLevel(logging.CRITICAL)
         dask.config.set({"distributed.comm.timeouts.connect": "5s"})
         self.path, self.wanted, self.patience = there or program, checksum(program), patience
         self.allowed, self.lost = None, []
         try:
             self.client = distributed.Client(address, timeout=10, set_as_default=False)
-        except (OSError, ValueError, TimeoutError, distributed.TimeoutError) as fault:
+        except GONE as fault:
             raise Refused(f"no scheduler answers at {address}: {fault}") from None
         self.check()
 
     def close(self):
-        self.client.close(timeout=2)
+        with contextlib.suppress(*GONE):
+            self.client.close(timeout=2)
 
     def workers(self):
         """The addresses of all workers that are there; none where the scheduler is gone."""
         try:
             return set(self.client.scheduler_info()["workers"])
-        except (OSError, RuntimeError, TimeoutError, ValueError, KeyError):
+        except GONE:
             return set()
 
     def check(self):
         """Leaves out the workers with another program."""
-        found = self.client.run(checksum, self.path)
+        try:
+            found = self.client.run(checksum, self.path)
+        except GONE as fault:
+            raise Refused(f"the scheduler's workers do not answer: {fault}") from None
         good = {address for address, said in found.items() if said == self.wanted}
         for address in sorted(set(found) - good):
             has = "no program" if found[address] is None else "another program"
@@ -92,10 +106,14 @@ class Cluster:
             self.allowed = good
 
     def hand_out(self, plan, number):
+        """What becomes of a run; nothing where the scheduler is gone."""
         where = sorted(self.allowed) if self.allowed is not None else None
         # (a plain tuple, since a worker cannot load a class of this file's neighbours by its name)
         words = (self.path, self.wanted, tuple(plan), number)
-        return self.client.submit(played_there, *words, pure=False, workers=where)
+        try:
+            return self.client.submit(played_there, *words, pure=False, workers=where)
+        except GONE:
+            return None
 
     def refuse(self, address):
         """Leaves out one more worker, that came later or whose program was replaced."""
@@ -103,11 +121,13 @@ class Cluster:
         self.allowed = (self.workers() if self.allowed is None else self.allowed) - {address}
 
     def result(self, number, future):
-        """The address and what a run came to; nothing where its workers or the scheduler are lost."""
+        """The address and what a run came to; nothing where workers or the scheduler are lost."""
+        if future is None:
+            return None
         if future.status == "finished":
             try:
                 return future.result(timeout=30)
-            except (OSError, TimeoutError):
+            except GONE:
                 return None  # the worker went with it
         if future.status == "error":
             fault = future.exception()
@@ -122,6 +142,11 @@ class Cluster:
             return None
         return time.monotonic() if since is None else since
 
+    def is_there(self, alone):
+        """Whether somebody may still do something: the client closes itself without a scheduler."""
+        is_alone = alone is not None and time.monotonic() - alone >= self.patience
+        return not is_alone and self.client.status not in ("closing", "closed")
+
     def runs(self, plan, numbers):
         """All runs, each as soon as it has ended: the number, and what it came to. Those that were
         not run are in `lost` afterwards."""
@@ -129,8 +154,8 @@ class Cluster:
         waiting = {number: self.hand_out(plan, number) for number in numbers}
         asked, alone = time.monotonic(), None
         try:
-            while waiting and (alone is None or time.monotonic() - alone < self.patience):
-                for number in [one for one, future in waiting.items() if future.done()]:
+            while waiting and self.is_there(alone):
+                for number in [one for one, future in waiting.items() if is_over(future)]:
                     ended = self.result(number, waiting.pop(number))
                     if ended and ended[1]:
                         yield number, ended[1]
@@ -146,4 +171,6 @@ class Cluster:
                 time.sleep(LOOK)
         finally:
             self.lost += waiting
-            self.client.cancel(list(waiting.values()))
+            if waiting and self.client.status == "running":
+                with contextlib.suppress(*GONE):
+                    self.client.cancel([future for future in waiting.values() if future])

@@ -6,6 +6,7 @@ worker can be ended while it runs one. Only processes that are started here are 
 """
 
 import contextlib
+import logging
 import os
 import shutil
 import subprocess
@@ -58,7 +59,7 @@ class Machines:
         with open(self.file, encoding="utf-8") as said:
             text = said.read()
         self.address = text.partition('"address": "')[2].partition('"')[0]
-        wait("both workers are there", lambda: self.count() == 2)
+        self.meet()
 
     def start(self, word, place, *words):
         command = [sys.executable, "-m", f"distributed.cli.{word}", "--scheduler-file", self.file]
@@ -69,12 +70,13 @@ class Machines:
             stderr=subprocess.DEVNULL,
         )
 
-    def count(self):
-        """How many workers the scheduler has."""
+    def meet(self):
+        """Waits until the scheduler has both workers."""
         import distributed
 
+        logging.getLogger("asyncio").setLevel(logging.CRITICAL)  # it tells of its own timeouts
         with distributed.Client(self.address, set_as_default=False) as client:
-            return len(client.scheduler_info()["workers"])
+            client.wait_for_workers(2, timeout=PATIENCE)
 
     def noted(self):
         """How many runs were begun."""
@@ -113,10 +115,9 @@ class Machines:
 def alone(program):
     """What the survey says without other machines."""
     words = ["--ours", program, *SCENARIOS, str(RUNS)]
-    run = subprocess.run(
-        [sys.executable, SURVEY, *words], stdout=subprocess.PIPE, stderr=subprocess.DEVNULL, text=True
-    )
-    return run.stdout
+    command = [sys.executable, SURVEY, *words]
+    quiet = {"stdout": subprocess.PIPE, "stderr": subprocess.DEVNULL}
+    return subprocess.run(command, text=True, check=False, **quiet).stdout
 
 
 def ended(process, status):
@@ -172,14 +173,28 @@ def all_are_ended(machines):
     same("runs that were run", 3 <= run <= 5, True)
 
 
+def scheduler_is_ended(machines):
+    """Without the scheduler it is said what was not run, too."""
+    process = machines.survey("--patience", "3")
+    wait("the survey has begun", lambda: machines.noted() >= 3)
+    machines.scheduler.kill()
+    machines.scheduler.wait()
+    out, _ = ended(process, 1)
+    lost = [line for line in out.split("\n") if line.startswith("not run: ")]
+    same("nothing of the second file was run", lost[1:], [f"not run: 1 to {RUNS}"])
+
+
 def other_machines(program, folder):
-    """All of it, one after the other."""
-    wanted = alone(program)
-    machines = Machines(folder, program)
-    try:
-        both_work(machines, wanted)
-        one_differs(machines, wanted, program)
-        one_is_ended(machines, wanted)
-        all_are_ended(machines)
-    finally:
-        machines.close()
+    """All of it, one after the other; the last with other machines, since the first are gone."""
+    wanted, again = alone(program), os.path.join(folder, "again")
+    os.mkdir(again)
+    for place, parts in (
+        (folder, (both_work, one_differs, one_is_ended, all_are_ended)),
+        (again, (scheduler_is_ended,)),
+    ):
+        machines = Machines(place, program)
+        try:
+            for part in parts:
+                part(*(machines, wanted, program)[: part.__code__.co_argcount])
+        finally:
+            machines.close()

@@ -67,8 +67,8 @@ progress_to() {
         printf '%s: %s\n' "$progress_name" "$(progress_words "$1")" >&2
         return 0
     fi
-    full="$((32 * $1 / progress_count))"
-    bar='................................' progress_shown=1
+    full="$((20 * $1 / progress_count))"
+    bar='....................' progress_shown=1
     if [ "$1" -eq "$progress_count" ]; then
         end=$'\n' progress_shown=''
     fi
