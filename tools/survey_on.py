@@ -11,6 +11,7 @@ import asyncio
 import contextlib
 import hashlib
 import logging
+import os
 import sys
 import time
 
@@ -33,14 +34,28 @@ def checksum(path):
         return None
 
 
+def checksum_there(worker, path):
+    """The same, reckoned anew only where the file is another one than it was at the worker's last
+    run: to read a program may take longer than to run it."""
+    try:
+        now = os.stat(path)
+    except OSError:
+        return None
+    mark = (path, now.st_dev, now.st_ino, now.st_size, now.st_mtime_ns, now.st_ctime_ns)
+    known = getattr(worker, "survey_program", None)
+    if known is None or known[0] != mark:
+        worker.survey_program = known = mark, checksum(path)
+    return known[1]
+
+
 def played_there(path, wanted, plan, number):
     """At a worker: its address, and what a run came to; nothing where it has another program."""
     import distributed
 
-    address = distributed.get_worker().address
-    if checksum(path) != wanted:
-        return address, None
-    return address, played(path, survey_runs.Plan(*plan), number)
+    worker = distributed.get_worker()
+    if checksum_there(worker, path) != wanted:
+        return worker.address, None
+    return worker.address, played(path, survey_runs.Plan(*plan), number)
 
 
 def is_over(future):

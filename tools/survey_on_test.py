@@ -170,7 +170,17 @@ def all_are_ended(machines):
     same("the last runs were not run", lost[0].endswith(f" to {RUNS}"), True)
     same("nothing of the second file was run", lost[1], f"not run: 1 to {RUNS}")
     run = int(lines[0].split(": ")[1].split(" ")[0])
-    same("runs that were run", 3 <= run <= 5, True)
+    same("runs that were run, and that were not", run + named(lost[0]), RUNS)
+    same("no more were run than were begun", run <= machines.noted(), True)
+
+
+def named(line):
+    """How many runs a line names, as `not run: 1, 3 to 5`."""
+    count = 0
+    for part in line.split(": ")[1].split(", "):
+        ends = part.split(" to ")
+        count += int(ends[-1]) - int(ends[0]) + 1
+    return count
 
 
 def scheduler_is_ended(machines):

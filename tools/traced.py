@@ -58,7 +58,7 @@ class Traced:
 
 
 class Request:
-    """A request by the lines of a trace: the rows of its issue and answer, and the reply's words."""
+    """A request by the lines of a trace: the rows of its issue and its answer, and the reply."""
 
     def __init__(self, client, seq, words, row):
         self.client, self.seq, self.words, self.issued = client, seq, words.split(" "), row
