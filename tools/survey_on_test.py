@@ -13,7 +13,7 @@ import subprocess
 import sys
 import time
 
-from checks import HERE, same
+from checks import HERE, Failed, same
 
 SURVEY = os.path.join(HERE, "tools", "survey")
 SCENARIOS = [
@@ -122,7 +122,11 @@ def alone(program):
 
 def ended(process, status):
     """Output and standard error of a survey, which ends with this status."""
-    out, err = process.communicate(timeout=4 * PATIENCE)
+    try:
+        out, err = process.communicate(timeout=4 * PATIENCE)
+    except subprocess.TimeoutExpired:
+        process.kill()
+        raise Failed(f"a survey did not end in {4 * PATIENCE} seconds") from None
     same(f"status, with standard error {err!r}", process.returncode, status)
     return out, err
 
