@@ -48,6 +48,10 @@ def tails(text, ticks, has_plot):
     return [sweep(cast, ticks), "", *more]
 
 
+def many(count, what):
+    return f"{count} {what}" if count == 1 else f"{count} {what}s"
+
+
 class Open:
     """How much is open in some runs, and in how many of them."""
 
@@ -73,10 +77,10 @@ class Open:
         self.order_runs += outcome.open > 0
 
     def words(self):
-        unknown = f"; {self.unknown} runs have no report" if self.unknown else ""
+        unknown = f"; no report of {many(self.unknown, 'run')}" if self.unknown else ""
         return (
-            f"{self.requests} of {self.asked} requests, in {self.request_runs} runs;"
-            f" {self.orders} of {self.told} orders, in {self.order_runs} runs{unknown}"
+            f"{self.requests} of {self.asked} requests, in {many(self.request_runs, 'run')};"
+            f" {self.orders} of {self.told} orders, in {many(self.order_runs, 'run')}{unknown}"
         )
 
     def request_share(self):
@@ -84,10 +88,6 @@ class Open:
 
     def order_share(self):
         return self.orders / self.told if self.told else None
-
-
-def ticked(count):
-    return f"{count} tick" if count == 1 else f"{count} ticks"
 
 
 class Healed:
@@ -104,8 +104,9 @@ class Healed:
         """Prints what was open, and what the sweeps healed."""
         nodes = " ".join(f"n{node}" for node in self.cast.living) or "no node"
         clients = " ".join(f"c{client}" for client in self.cast.clients) or "no client"
-        print(f"sweep: {ticked(self.ticks)} of each of {nodes}, then one of each of {clients}")
+        ticks = many(self.ticks, "tick")
+        print(f"sweep: {ticks} of each of {nodes}, then one of each of {clients}")
         print(f"open before the sweep: {self.before.words()}")
         print(f"open after the sweep: {self.after.words()}")
         for ticks, opened in enumerate(self.over):
-            print(f"open after {ticked(ticks)} a node: {opened.words()}")
+            print(f"open after {many(ticks, 'tick')} a node: {opened.words()}")
