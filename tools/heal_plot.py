@@ -5,7 +5,7 @@ before a sweep and after sweeps of 0 to 12 ticks a node, and the same of the ord
 SVG, with nothing from elsewhere.
 """
 
-from survey_heal import MOST
+from survey_heal import MOST, many
 from survey_plot import STYLE, line, text
 
 WIDTH, LABELS, PANEL, GAP = 960, 190, 330, 60
@@ -67,8 +67,8 @@ def row(name, healed, y):
     nodes = len(healed.cast.living)
     return [
         text(14, y - 34, name.replace("_", " "), "name"),
-        text(14, y - 18, f"{healed.runs} runs, {nodes} living nodes", "soft"),
-        text(14, y - 2, f"{len(healed.cast.clients)} clients", "soft"),
+        text(14, y - 18, f"{many(healed.runs, 'run')}, {many(nodes, 'living node')}", "soft"),
+        text(14, y - 2, many(len(healed.cast.clients), "client"), "soft"),
         *panel(
             LABELS, y, [one.request_share() for one in opened], "of-requests", "no requests"
         ),
