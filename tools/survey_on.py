@@ -85,11 +85,11 @@ class Cluster:
         # (what it says of lost workers is said here, in fewer words)
         for name in ("distributed", "distributed.client", "distributed.core"):
             logging.getLogger(name).setLevel(logging.CRITICAL)
-        dask.config.set({"distributed.comm.timeouts.connect": "5s"})
+        dask.config.set({"distributed.comm.timeouts.connect": "15s"})
         self.path, self.wanted, self.patience = there or program, checksum(program), patience
         self.allowed, self.lost = None, []
         try:
-            self.client = distributed.Client(address, timeout=10, set_as_default=False)
+            self.client = distributed.Client(address, timeout=30, set_as_default=False)
         except GONE as fault:
             raise Refused(f"no scheduler answers at {address}: {fault}") from None
         self.check()

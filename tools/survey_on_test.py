@@ -21,7 +21,7 @@ SCENARIOS = [
     for name in ("storms_over_a_merge", "policy_in_a_storm")
 ]
 RUNS = 12
-PATIENCE = 60  # seconds for what takes a few
+PATIENCE = 180  # seconds for what takes a few, since the machine may be busy
 
 
 def wait(what, is_so):
@@ -46,16 +46,23 @@ class Machines:
 
     def __init__(self, folder, program):
         self.folder, self.file = folder, os.path.join(folder, "scheduler.json")
-        self.scheduler = self.start("dask_scheduler", folder, "--host", "127.0.0.1", "--port", "0")
+        self.scheduler, self.workers = None, []
+        try:
+            self.begin(program)
+        except BaseException:
+            self.close()
+            raise
+
+    def begin(self, program):
+        words = ["--host", "127.0.0.1", "--port", "0"]
+        self.scheduler = self.start("dask_scheduler", self.folder, *words)
         wait("the scheduler is there", lambda: os.path.exists(self.file))
-        self.workers = []
         for name in ("one", "two"):
-            place = os.path.join(folder, name)
+            place = os.path.join(self.folder, name)
             os.mkdir(place)
             note_runs(place, program)
-            self.workers.append(
-                self.start("dask_worker", place, "--no-nanny", "--nthreads", "1", "--name", name)
-            )
+            words = ["--no-nanny", "--nthreads", "1", "--name", name]
+            self.workers.append(self.start("dask_worker", place, *words))
         with open(self.file, encoding="utf-8") as said:
             text = said.read()
         self.address = text.partition('"address": "')[2].partition('"')[0]
@@ -75,8 +82,11 @@ class Machines:
         import distributed
 
         logging.getLogger("asyncio").setLevel(logging.CRITICAL)  # it tells of its own timeouts
-        with distributed.Client(self.address, set_as_default=False) as client:
-            client.wait_for_workers(2, timeout=PATIENCE)
+        try:
+            with distributed.Client(self.address, timeout=60, set_as_default=False) as client:
+                client.wait_for_workers(2, timeout=PATIENCE)
+        except (OSError, TimeoutError, distributed.TimeoutError) as fault:
+            raise Failed(f"the workers do not come: {fault}") from None
 
     def noted(self):
         """How many runs were begun."""
@@ -107,7 +117,7 @@ class Machines:
         )
 
     def close(self):
-        for process in [*self.workers, self.scheduler]:
+        for process in [*self.workers, *([self.scheduler] if self.scheduler else [])]:
             process.kill()
             process.wait()
 
@@ -123,10 +133,10 @@ def alone(program):
 def ended(process, status):
     """Output and standard error of a survey, which ends with this status."""
     try:
-        out, err = process.communicate(timeout=4 * PATIENCE)
+        out, err = process.communicate(timeout=2 * PATIENCE)
     except subprocess.TimeoutExpired:
         process.kill()
-        raise Failed(f"a survey did not end in {4 * PATIENCE} seconds") from None
+        raise Failed(f"a survey did not end in {2 * PATIENCE} seconds") from None
     same(f"status, with standard error {err!r}", process.returncode, status)
     return out, err
 
