@@ -1,0 +1,149 @@
+"""What `survey` runs: a scenario with other storms, as it stands and with what is appended to it.
+
+`played` runs one of them. It takes and gives plain values, and needs nothing of the tools beside
+it, so that a worker on another machine can be handed it as it is (`survey_on.py`).
+"""
+
+import collections
+import concurrent.futures
+import json
+import re
+import signal
+import subprocess
+
+SPREAD = 100000  # between the storms of one run and those of the next
+STORM = re.compile(r"^([ \t]*storm[ \t]+)\d+([ \t]+\d+[ \t\r]*)$", re.MULTILINE)
+NODES = 32  # actors above are clients
+
+# What is the same in all runs of a scenario: its text, what is appended to it, one run for each of
+# these; how long a run may take; and whether the rows of requests are counted in the first of them.
+Plan = collections.namedtuple("Plan", "text tails seconds is_timed")
+
+
+class Refused(Exception):
+    """Why nothing is surveyed."""
+
+
+# ---- one run
+
+
+def seeded(text, number):
+    """The scenario of a run: each storm has a number of its own."""
+    place = 0
+
+    def other(found):
+        nonlocal place
+        place += 1
+        return f"{found[1]}{number * SPREAD + place}{found[2]}"
+
+    return STORM.sub(other, text)
+
+
+def source(plan, number, tail):
+    """A run's scenario with something behind it."""
+    text = seeded(plan.text, number)
+    end = "\n" if tail and not text.endswith("\n") else ""
+    return text + end + tail
+
+
+def run(program, word, text, seconds):
+    """Status and output of the program; None is the status of a run that took too long."""
+    try:
+        ended = subprocess.run(
+            [program, word],
+            input=text.encode("latin-1"),
+            stdout=subprocess.PIPE,
+            stderr=subprocess.DEVNULL,
+            timeout=seconds,
+            check=False,
+        )
+        return ended.returncode, ended.stdout.decode("latin-1")
+    except subprocess.TimeoutExpired:
+        return None, ""
+
+
+def taken(journal):
+    """The rows between issue and answer of each answered request of a stored journal's text."""
+    asked, found, mails = {}, [], []
+    lines = journal.partition("\njournal\n")[2].splitlines()
+    for number, line in enumerate(lines, 1):
+        row = json.loads(line)
+        who, event = row["who"], row["event"]
+        got = event.get("Deliver") if isinstance(event, dict) and who > NODES else None
+        mail = mails[got - 1].get("Answer") if got else None
+        if mail and "Value" in mail["answer"]:
+            issued = asked.pop((who, mail["seq"]), None)
+            if issued is not None:
+                found.append(number - issued)
+        for sent in row["sent"]:
+            mails.append(sent["body"])
+            if "Request" in sent["body"]:
+                asked.setdefault((who, sent["body"]["Request"]["seq"]), number)
+    return found
+
+
+def played(program, plan, number):
+    """Status and report of a run for each of its tails, and the rows that its requests took."""
+    ends = [run(program, "run", source(plan, number, tail), plan.seconds) for tail in plan.tails]
+    took = []
+    if plan.is_timed and ends[0][0] in (0, 6):
+        journal = run(program, "journal", source(plan, number, plan.tails[0]), plan.seconds)[1]
+        try:
+            took = taken(journal)
+        except (ValueError, KeyError, TypeError, AttributeError, IndexError) as fault:
+            raise Refused(f"run {number}: its journal cannot be read: {fault!r}") from None
+    return ends, took
+
+
+# ---- what a run came to
+
+
+class Outcome:
+    """What one run came to: its status, and what its report says."""
+
+    def __init__(self, number, status, report, took=()):
+        self.number, self.status, self.took = number, status, took
+        self.requests, self.orders, self.counts = {}, {}, {}
+        for line in report.split("\n"):
+            words = line.split(" ")
+            if words[0] in ("reply", "unanswered", "unsent"):
+                word = "answered" if words[0] == "reply" else words[0]
+                self.requests[f"c{words[1]} {words[2]} {words[3]}"] = word
+            elif words[0] == "order":
+                self.orders[int(words[1])] = " ".join([words[2], *words[4:]])
+            elif words[0] in ("rows", "mail", "delivered"):
+                self.counts[words[0]] = int(words[1])
+        self.answered = sum(word == "answered" for word in self.requests.values())
+        self.open = sum(word == "open" for word in self.orders.values())
+
+    def share(self):
+        return self.answered / len(self.requests) if self.requests else 1.0
+
+    def rank(self):
+        """The worst runs have the least."""
+        return self.answered, -self.open, -self.counts.get("rows", 0), self.number
+
+
+def outcomes_of(number, ends, took):
+    """The outcomes of one run, for each of its tails."""
+    times = [took] + [()] * (len(ends) - 1)
+    return [Outcome(number, *end, time) for end, time in zip(ends, times)]
+
+
+# ---- all runs on this machine
+
+
+def here(program, plan, numbers, jobs):
+    """All runs, each as soon as it has ended: the number, and what it came to."""
+    quiet = (signal.SIGINT, signal.SIG_IGN)  # this process alone ends at Ctrl-C, and them with it
+    with concurrent.futures.ProcessPoolExecutor(
+        jobs, initializer=signal.signal, initargs=quiet
+    ) as pool:
+        futures = {pool.submit(played, program, plan, number): number for number in numbers}
+        try:
+            for future in concurrent.futures.as_completed(futures):
+                yield futures[future], future.result()
+        except BaseException:
+            for future in futures:
+                future.cancel()
+            raise
