@@ -204,7 +204,7 @@ class Runs:
                 if status not in (0, CUT_OFF):
                     raise Refused(NO_ANSWER, f"no journal: status {status}")
                 count = count_rows(run.journal)
-                words = [sys.executable, os.path.join(TOOLS, "page"), run.journal, run.page]
+                words = [sys.executable, "-B", os.path.join(TOOLS, "page"), run.journal, run.page]
                 words += ["--title", f"run {number}"]
                 if self.call(words, os.devnull, run.file("said"), until, number) != 0:
                     raise Refused(NO_ANSWER, "tools/page could not read the journal")
