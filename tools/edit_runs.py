@@ -21,7 +21,8 @@ CHECK_SECONDS = 10
 BUSY, GONE, NO_ANSWER = 409, 410, 503  # statuses of HTTP
 BAD_INPUT, CUT_OFF = 3, 6  # statuses of the program
 
-# A limit on files, since a journal may grow to a gigabyte; and no core files. (`-f` counts 512 bytes.)
+# A limit on files, since a journal may grow to a gigabyte; and no core files. (`-f` counts in 512
+# bytes.)
 LIMITED = f'ulimit -c 0; ulimit -f {MOST_OUTPUT // 512 + 1}; exec "$@"'
 
 

@@ -23,12 +23,12 @@ FILES = {
     "edit.js": ("edit.js", "text/javascript"),
 }
 HTML, JSON, TEXT = "text/html", "application/json", "text/plain"
-# What the page may load, and who may show it. The page of rows has a rule of its own in it as well.
+# What the page may load, and who may show it.
 RULE = (
     "default-src 'none'; script-src 'self'; style-src 'self'; connect-src 'self'; frame-src 'self';"
-    " base-uri 'none'; form-action 'none'; frame-ancestors 'none'"
+    " base-uri 'none'; form-action 'none'; frame-ancestors 'self'"
 )
-RULE_OF_ROWS = "frame-ancestors 'self'"
+RULE_OF_ROWS = "frame-ancestors 'self'"  # beside its own, which forbids it every request
 BAD, FORBIDDEN, NOT_FOUND, NO_LENGTH, TOO_LARGE = 400, 403, 404, 411, 413
 MOST_DROPPED = 4 * edit_runs.MOST_INPUT  # of what is too large, so much is read and dropped
 SECONDS = 60  # how long a request may take to come

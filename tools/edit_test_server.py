@@ -103,13 +103,13 @@ def refuses_strangers(served, checks):
         ("a Host without the port", 403, served.ask("GET", own, Host="127.0.0.1")),
         ("another page", 403, served.ask("GET", own, Sec_Fetch_Site="cross-site")),
         ("no Origin", 403, served.ask("POST", own + "run", b"scatter 1\n")),
-        ("another Origin", 403, served.ask("POST", own + "run", b"x", Origin="http://evil.example")),
+        ("another Origin", 403, served.ask("POST", own + "run", b"x", Origin="http://a.example")),
         ("a null Origin", 403, served.ask("POST", own + "run", b"x", Origin="null")),
         ("no token, its Origin", 403, served.ask("POST", "/run", b"x", Origin=good)),
         ("a file above", 404, served.ask("GET", own + "../scatter")),
         ("a scenario above", 404, served.ask("GET", own + "scenario?name=../README")),
         ("a run that is not", 410, served.ask("GET", own + "rows?run=1")),
-        ("a scan of no number", 400, served.ask("GET", own + "scan?run=1&lo=-1&len=1&row=1&most=1")),
+        ("no number", 400, served.ask("GET", own + "scan?run=1&lo=-1&len=1&row=1&most=1")),
         ("another method", 501, served.ask("PUT", own + "run", b"x", Origin=good)),
     ):
         checks.same(what, status, wanted)
@@ -134,10 +134,12 @@ def refuses_two(served, checks):
     status, said = served.post("run", b"scatter 1\n")
     wanted = (409, "another run is under way: wait for it, or stop it")
     checks.same("two at once", (status, said.get("fault")), wanted)
-    checks.same("a check meanwhile", served.post("check", b"x")[1]["said"], "line 1: missing header")
+    said = served.post("check", b"x")[1]["said"]
+    checks.same("a check meanwhile", said, "line 1: missing header")
     checks.same("a stop", served.post("stop", b"")[0], 200)
     first.join(SECONDS)
-    checks.same("the first", [(one[0], one[1].get("fault")) for one in came], [(410, "it was stopped")])
+    came = [(one[0], one[1].get("fault")) for one in came]
+    checks.same("the first", came, [(410, "it was stopped")])
     status, said = served.post("run", b"scatter 1\nnodes 1\ngroup 0 1\n")
     checks.same("the next one", (status, said.get("status")), (200, 0))
 

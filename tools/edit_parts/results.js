@@ -19,6 +19,7 @@ const results = {
   row: 0,
   statuses: {},
   scanTimer: 0,
+  frame: "", // the address of a page of rows that is not loaded yet
 
   say(id, text, look) {
     find(id).textContent = text;
@@ -59,6 +60,7 @@ const results = {
   },
 
   hideRows(why) {
+    this.frame = "";
     find("rows").hidden = true;
     find("no-rows").hidden = false;
     find("no-rows").textContent = why;
@@ -88,10 +90,18 @@ const results = {
     } else {
       find("no-rows").hidden = true;
       find("rows").hidden = false;
-      find("rows").src = `page?run=${run}#row=${this.row}`;
+      this.frame = `page?run=${run}#row=${this.row}`;
+      this.loadFrame();
     }
     find("row").textContent = String(this.row);
     this.scanSoon(0);
+  },
+
+  /** The page of the rows is loaded once it is seen, since it needs to know how large it is. */
+  loadFrame() {
+    if (!this.frame || find("rows-panel").hidden) return;
+    find("rows").src = this.frame;
+    this.frame = "";
   },
 
   /** The scan comes when the reader rests at a row. */
@@ -130,6 +140,7 @@ const results = {
       find(`tab-${other}`).tabIndex = is ? 0 : -1;
       find(`${other}-panel`).hidden = !is;
     }
+    this.loadFrame();
   },
 
   onTabKey(event) {

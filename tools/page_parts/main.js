@@ -96,6 +96,7 @@ function drawStrip() {
   const canvas = find("strip");
   const scale = window.devicePixelRatio || 1;
   const width = canvas.clientWidth;
+  if (!width) return; // nothing is seen of it, as in a frame that is hidden
   const height = 46;
   canvas.width = width * scale;
   canvas.height = height * scale;
