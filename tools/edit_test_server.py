@@ -9,7 +9,7 @@ import threading
 import time
 
 HERE = os.path.dirname(os.path.dirname(os.path.abspath(__file__)))
-SECONDS = 60
+SECONDS = 300  # a busy machine may be slow
 # Long for any program: storms over a scenario that has much to lose.
 LONG = "\n".join(
     [
@@ -148,12 +148,12 @@ def refuses_long(served, checks):
     begun = time.monotonic()
     status, said = served.post("run", LONG)
     checks.same("a long run", (status, said["fault"][:26]), (503, "stopped after 2 seconds, t"))
-    checks.same("how long it took", time.monotonic() - begun < SECONDS / 2, True)
+    checks.same("how long it took", time.monotonic() - begun < SECONDS / 10, True)
     checks.same("after it", served.post("check", b"")[1]["said"], "line 1: missing header")
 
 
 def all_of(program, folder, checks):
-    with Served(program, folder) as served:
+    with Served(program, folder, "--seconds", str(SECONDS)) as served:
         refuses_strangers(served, checks)
         refuses_large(served, checks)
         refuses_two(served, checks)
