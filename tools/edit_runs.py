@@ -91,7 +91,10 @@ class Runs:
                 start_new_session=True,
             )
         with self.guard:
-            self.calls[one] = number
+            is_old = 0 < number < self.number
+            self.calls[one] = None if is_old else number
+        if is_old:
+            kill(one)
         try:
             status = one.wait(max(0.0, until - time.monotonic()))
         except subprocess.TimeoutExpired:
@@ -192,7 +195,7 @@ class Runs:
     def following(self, number):
         """The last run, with nothing else at work for it."""
         with self.at_work:
-            if self.last is None or self.last.number != number:
+            if self.last is None or number != self.last.number or number < self.number:
                 raise Refused(GONE, "a newer run took its place")
             yield self.last, time.monotonic() + self.seconds
 

@@ -141,7 +141,8 @@ class Handler(http.server.BaseHTTPRequestHandler):
                 return self.send(200, kind, source.read())
         runs, number = self.server.runs, fields.get("run", "")
         if name == "start":
-            return self.json({**self.server.scenarios.all(), "proved": runs.program.now()[1]})
+            said = {"proved": runs.program.now()[1], "playing": runs.playing}
+            return self.json({**self.server.scenarios.all(), **said})
         if name == "scenario":
             return self.json({"text": self.server.scenarios.text(fields.get("name", ""))})
         if name in ("rows", "page", "audit", "scan") and not number.isdecimal():

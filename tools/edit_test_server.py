@@ -84,6 +84,10 @@ class Served:
         finally:
             line.close()
 
+    def get(self, name):
+        status, said = self.ask("GET", f"/{self.token}/{name}")
+        return status, json.loads(said)
+
     def post(self, name, body):
         """What the page would send."""
         status, said = self.ask("POST", f"/{self.token}/{name}", body, Origin=f"http://{self.host}")
@@ -130,7 +134,9 @@ def refuses_two(served, checks):
     came = []
     first = threading.Thread(target=lambda: came.append(served.post("run", LONG)))
     first.start()
-    time.sleep(1)
+    until = time.monotonic() + SECONDS
+    while not served.get("start")[1]["playing"] and time.monotonic() < until:
+        time.sleep(0.1)
     status, said = served.post("run", b"scatter 1\n")
     wanted = (409, "another run is under way: wait for it, or stop it")
     checks.same("two at once", (status, said.get("fault")), wanted)
