@@ -136,12 +136,14 @@ class Browser:
                 raise Failed(f"{address} was not loaded in {SECONDS} seconds")
             time.sleep(0.02)
 
-    def press(self, key, shift=False):
+    def press(self, key, shift=False, ctrl=False):
         """Presses a key."""
         code = {" ": "Space"}.get(key, key)
-        fields = {"key": key, "code": code, "modifiers": 8 if shift else 0}
+        fields = {"key": key, "code": code, "modifiers": 8 * shift + 2 * ctrl}
         if len(key) == 1:
             fields["text"] = key
+        if key == "Tab":
+            fields["windowsVirtualKeyCode"] = 9  # without which the focus stays
         self.ask("Input.dispatchKeyEvent", type="keyDown", **fields)
         self.ask("Input.dispatchKeyEvent", type="keyUp", key=key, code=code)
 

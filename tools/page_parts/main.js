@@ -48,11 +48,18 @@ function writeAddress() {
   }, 200);
 }
 
+/** A page around this one, as that of tools/edit, hears which row is looked at. */
+function tellRow() {
+  if (window.parent === window || !location.protocol.startsWith("http")) return;
+  window.parent.postMessage({ row: state.row }, location.origin);
+}
+
 function go(row) {
   const wanted = Math.max(1, Math.min(ROWS, Math.round(row) || 1));
   state.row = wanted;
   showAll();
   writeAddress();
+  tellRow();
 }
 
 function choose(what) {
@@ -89,6 +96,7 @@ function drawStrip() {
   const canvas = find("strip");
   const scale = window.devicePixelRatio || 1;
   const width = canvas.clientWidth;
+  if (!width) return; // nothing is seen of it, as in a frame that is hidden
   const height = 46;
   canvas.width = width * scale;
   canvas.height = height * scale;

@@ -2,7 +2,7 @@
 # been going.
 # shellcheck shell=bash
 
-group='' ticker=''
+group='' ticker='' child=''
 
 # Says each second how long this has been going, on a terminal alone. `read` waits in place of `sleep`, so that no
 # process is left behind.
@@ -44,8 +44,21 @@ apart() {
     return "$status"
 }
 
+# Runs a command on this script's own input, in its process group, so that it may read a terminal. It is ended with
+# this script at once, which a command in the foreground is not.
+beside() {
+    local status
+    "$@" <&0 &
+    child=$!
+    wait "$child" 2>/dev/null # (bash would tell of a signal)
+    status=$?
+    child=
+    return "$status"
+}
+
 # Ends what still runs.
 end_waiting() {
     stop_ticking
+    [ -z "$child" ] || kill -TERM "$child" 2>/dev/null
     [ -z "$group" ] || kill -TERM -- "-$group" 2>/dev/null
 }

@@ -172,9 +172,10 @@ help_page() {
     wrapped '  ./scatter --version' 29 'prints which version this is, and whether it is built'
     wrapped '' 0 'Other words are answered by the usage line and status 2.'
     echo
-    wrapped '' 0 "Until it is built, a run is of the same code unproved, by \`rt try\`: it takes one to
-        three minutes, and says so on standard error. The first report to look at is
-        \`./scatter run < scenarios/lost_answer.scatter\`; then there is \`./scatter demo\`."
+    wrapped '' 0 "Until it is built, a run is of the same code unproved, and says so on standard error:
+        the first compiles it in one to three minutes, and it is kept. The first report to look at is
+        \`./scatter run < scenarios/lost_answer.scatter\`; then there are \`./scatter demo\` and
+        \`./scatter edit\`, and the page docs/FIRST_HOUR.md."
     echo
     echo 'Statuses of the program'
     statuses_of program
@@ -201,7 +202,7 @@ help_word() {
     done
     [ "${input["$1"]}" = - ] || wrapped '' 2 "FILE has at most ${input["$1"]} bytes"
     if [ "${by["$1"]}" = program ]; then
-        wrapped '' 2 "until the program is built, the same code runs unproved, in one to three minutes"
+        wrapped '' 2 "until the program is built, the same code runs unproved, compiled once in one to three minutes"
     fi
     echo "./scatter help has the other words and the statuses."
 }
