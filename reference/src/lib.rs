@@ -1,0 +1,19 @@
+//! The plain implementation of the rules of scatter: unproved, untuned, and written from the rules alone.
+
+pub mod chacha;
+pub mod client;
+pub mod decided;
+pub mod explain;
+pub mod machine;
+pub mod mail;
+pub mod node;
+pub mod program;
+pub mod random;
+pub mod replica;
+pub mod report;
+pub mod scenario;
+pub mod sound;
+pub mod text;
+pub mod values;
+pub mod weights;
+pub mod world;

@@ -1,0 +1,5 @@
+//! Random scenarios, drawn by a seed.
+
+mod dice;
+
+pub use dice::*;
