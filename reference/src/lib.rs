@@ -1,5 +1,6 @@
 //! The plain implementation of the rules of scatter: unproved, untuned, and written from the rules alone.
 
+pub mod budget;
 pub mod chacha;
 pub mod client;
 pub mod decided;

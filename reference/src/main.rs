@@ -3,6 +3,7 @@
 use reference::program::{self, Done};
 use reference::text::MOST_STORED;
 use reference::values::{read_number, Dials};
+use reference::{budget, random};
 use std::io::{Read, Write};
 
 /// Reads up to so many bytes of standard input.
@@ -31,6 +32,21 @@ fn dials(words: &[&str; 4]) -> Option<Dials> {
     })
 }
 
+/// Reads the numbers of a search: its seed and how many scenarios it has.
+fn search(seed: &str, count: &str) -> Option<(u64, u64)> {
+    let number = |w: &str| read_number(w.as_bytes(), u64::MAX);
+    Some((number(seed)?, number(count)?))
+}
+
+/// Answers a subcommand that has a seed and a count.
+fn searched(word: &str, (seed, count): (u64, u64), dials: &Dials) -> Done {
+    match word {
+        "fuzz" => Done::check(random::fuzz(seed, count)),
+        "budget" => Done::check(budget::budget(seed, count, dials)),
+        _ => Done::usage(),
+    }
+}
+
 fn answer(words: &[&str], dials: &Dials) -> Done {
     match words {
         ["run"] => program::run(&scenario(), dials),
@@ -38,6 +54,14 @@ fn answer(words: &[&str], dials: &Dials) -> Done {
         ["make", n, s] => program::make(n, s, dials),
         ["explain"] => program::explain(&stdin(MOST_STORED as u64 + 1)),
         ["sound"] => program::sound(&scenario(), dials),
+        ["gen", seed] => match read_number(seed.as_bytes(), u64::MAX) {
+            Some(seed) => Done { status: 0, output: random::generate(seed, dials).into_bytes() },
+            None => Done::usage(),
+        },
+        [word, seed, count] => match search(seed, count) {
+            Some(numbers) => searched(word, numbers, dials),
+            None => Done::usage(),
+        },
         _ => Done::usage(),
     }
 }
