@@ -8,6 +8,7 @@ pub mod explain;
 pub mod machine;
 pub mod mail;
 pub mod node;
+pub mod plain;
 pub mod program;
 pub mod random;
 pub mod replica;

@@ -3,7 +3,7 @@
 use reference::program::{self, Done};
 use reference::text::MOST_STORED;
 use reference::values::{read_number, Dials};
-use reference::{budget, random};
+use reference::{budget, plain, random};
 use std::io::{Read, Write};
 
 /// Reads up to so many bytes of standard input.
@@ -42,6 +42,7 @@ fn search(seed: &str, count: &str) -> Option<(u64, u64)> {
 fn searched(word: &str, (seed, count): (u64, u64), dials: &Dials) -> Done {
     match word {
         "fuzz" => Done::check(random::fuzz(seed, count)),
+        "plain" => Done::check(plain::plain(seed, count, dials)),
         "budget" => Done::check(budget::budget(seed, count, dials)),
         _ => Done::usage(),
     }

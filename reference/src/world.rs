@@ -165,6 +165,13 @@ impl<'a> World<'a> {
         }
         None
     }
+    /// Returns the pending mail of each actor, in order.
+    pub fn rests(&self) -> BTreeMap<u32, Vec<&Mail>> {
+        let rest = |who: u32| {
+            self.spots(Some(who)).into_iter().map(|n| self.mail(n).expect("it was sent")).collect()
+        };
+        self.actors.keys().map(|who| (*who, rest(*who))).collect()
+    }
     /// Returns how many copies are pending for an actor.
     pub fn waiting(&self, who: u32) -> u32 {
         self.pending.get(&who).map_or(0, |p| p.values().sum())
