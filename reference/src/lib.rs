@@ -1,7 +1,9 @@
 //! The plain implementation of the rules of scatter: unproved, untuned, and written from the rules alone.
 
 pub mod budget;
+pub mod calm;
 pub mod chacha;
+pub mod checks;
 pub mod client;
 pub mod decided;
 pub mod explain;

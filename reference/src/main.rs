@@ -3,7 +3,7 @@
 use reference::program::{self, Done};
 use reference::text::MOST_STORED;
 use reference::values::{read_number, Dials};
-use reference::{budget, plain, random};
+use reference::{budget, calm, plain, random};
 use std::io::{Read, Write};
 
 /// Reads up to so many bytes of standard input.
@@ -43,6 +43,7 @@ fn searched(word: &str, (seed, count): (u64, u64), dials: &Dials) -> Done {
     match word {
         "fuzz" => Done::check(random::fuzz(seed, count)),
         "plain" => Done::check(plain::plain(seed, count, dials)),
+        "calm" => Done::check(calm::calm(seed, count, dials)),
         "budget" => Done::check(budget::budget(seed, count, dials)),
         _ => Done::usage(),
     }

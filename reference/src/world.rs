@@ -47,6 +47,16 @@ pub const JOURNAL_LIMIT: u128 = 1 << 30;
 /// The journal is full.
 pub struct Full;
 
+/// The replicas of one group, by node.
+pub type GroupReplicas<'a> = BTreeMap<u16, &'a Replica>;
+/// The replicas of all groups.
+pub type Replicas<'a> = BTreeMap<Draw, GroupReplicas<'a>>;
+
+/// Returns the replica that has executed most, and among equals one that runs.
+pub fn newest<'a>(group: &GroupReplicas<'a>) -> &'a Replica {
+    group.values().max_by_key(|r| (r.next, r.running())).expect("a group has a replica")
+}
+
 /// A run of a scenario so far.
 #[derive(Clone)]
 pub struct World<'a> {
@@ -101,8 +111,8 @@ impl<'a> World<'a> {
         }
     }
     /// Returns the replicas of each group by node.
-    pub fn replicas(&self) -> BTreeMap<Draw, BTreeMap<u16, &Replica>> {
-        let mut all: BTreeMap<Draw, BTreeMap<u16, &Replica>> = BTreeMap::new();
+    pub fn replicas(&self) -> Replicas<'_> {
+        let mut all = Replicas::new();
         for n in self.nodes() {
             for (id, r) in &n.replicas {
                 all.entry(*id).or_default().insert(n.me, r);

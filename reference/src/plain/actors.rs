@@ -1,19 +1,12 @@
 //! P2 and P3: what replicas and clients are in a plain run.
 
 use super::mails::own_call;
+use crate::checks::all_hold;
 use crate::client::Client;
 use crate::replica::*;
 use crate::scenario::Scenario;
 use crate::values::*;
 use std::collections::BTreeSet;
-
-/// Returns the first of these that does not hold.
-fn all_hold(what: &str, parts: &[(bool, &str)]) -> Result<(), String> {
-    match parts.iter().find(|(holds, _)| !holds) {
-        Some((_, name)) => Err(format!("{what}: {name}")),
-        None => Ok(()),
-    }
-}
 
 /// P2: checks what a replica is.
 pub fn plain_replica(s: &Scenario, b: &Base, me: u16, r: &Replica, requests: u64) -> Result<(), String> {
@@ -46,21 +39,9 @@ pub fn plain_replica(s: &Scenario, b: &Base, me: u16, r: &Replica, requests: u64
     }
 }
 
-/// Returns the slots that are in flight or ready.
-pub fn taken_slots(l: &Leader) -> BTreeSet<u32> {
-    l.flights.keys().chain(l.ready.keys()).copied().collect()
-}
-
-/// Returns whether the taken slots are the first open ones, each in flight or ready, and the next is not ready.
-pub fn is_window(r: &Replica, l: &Leader) -> bool {
-    let taken = taken_slots(l);
-    let want: BTreeSet<u32> = (0..taken.len() as u32).map(|k| r.next + k).collect();
-    taken == want && taken.len() == l.flights.len() + l.ready.len() && !l.ready.contains_key(&r.next)
-}
-
 fn plain_leader(s: &Scenario, b: &Base, r: &Replica, l: &Leader) -> Result<(), String> {
     let first = b.core.first_ballot();
-    let taken = taken_slots(l).len();
+    let taken = l.taken_slots().len();
     let fresh = l.ballot == first && l.promised.is_empty() && l.reports.is_empty();
     let flies = |f: &Flight| !is_majority(&b.core.members, &f.voters) && f.voters.is_subset(&b.core.members);
     let client = |c: &Command| match c {
@@ -76,7 +57,7 @@ fn plain_leader(s: &Scenario, b: &Base, r: &Replica, l: &Leader) -> Result<(), S
                 l.commands().chain(r.calls.iter()).all(|c| own_call(s, b, c)),
                 "a queued command that is no call of its own",
             ),
-            (is_window(r, l) && taken <= 4, "taken slots are not the first open ones"),
+            (r.has_window(l) && taken <= 4, "taken slots are not the first open ones"),
             (l.flights.values().all(flies), "a flight with a majority"),
             (r.calls.is_empty() || taken == 4, "a call waits though a slot is open"),
             (names.len() == r.calls.len(), "two calls of one client wait"),

@@ -1,8 +1,9 @@
 //! What a replica has that runs.
 
+use super::Replica;
 use crate::mail::Report;
 use crate::values::*;
-use std::collections::BTreeMap;
+use std::collections::{BTreeMap, BTreeSet};
 
 /// A command in flight and the nodes that accepted it.
 #[derive(Clone, PartialEq, Eq, Debug)]
@@ -83,5 +84,19 @@ impl Leader {
             return Must::Gap;
         }
         Must::Free
+    }
+
+    /// Returns the slots that are in flight or ready.
+    pub fn taken_slots(&self) -> BTreeSet<u32> {
+        self.flights.keys().chain(self.ready.keys()).copied().collect()
+    }
+}
+
+impl Replica {
+    /// Returns whether the taken slots are the first open ones, each in flight or ready, and the next is not ready.
+    pub fn has_window(&self, l: &Leader) -> bool {
+        let taken = l.taken_slots();
+        let want: BTreeSet<u32> = (0..taken.len() as u32).map(|k| self.next + k).collect();
+        taken == want && taken.len() == l.flights.len() + l.ready.len() && !l.ready.contains_key(&self.next)
     }
 }
