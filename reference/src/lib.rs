@@ -13,6 +13,7 @@ pub mod node;
 pub mod plain;
 pub mod program;
 pub mod random;
+pub mod recover;
 pub mod replica;
 pub mod report;
 pub mod scenario;

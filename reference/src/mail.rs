@@ -28,6 +28,7 @@ pub struct Report {
 }
 
 #[derive(Clone, PartialEq, Eq, Debug)]
+#[allow(clippy::large_enum_variant)] // as the rules have it: mail is plain data
 pub enum MailBody {
     Request { group: Draw, client: u16, seq: u32, op: Op },
     Answer { group: Draw, seq: u32, answer: AnswerBody },
@@ -75,6 +76,7 @@ pub struct Row {
 
 /// What an actor is stepped with.
 #[derive(Clone, PartialEq, Eq, Debug)]
+#[allow(clippy::large_enum_variant)] // mail is plain data
 pub enum Input {
     Got(Mail),
     Tick,

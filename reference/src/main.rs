@@ -3,7 +3,7 @@
 use reference::program::{self, Done};
 use reference::text::MOST_STORED;
 use reference::values::{read_number, Dials};
-use reference::{budget, calm, plain, random};
+use reference::{budget, calm, plain, random, recover};
 use std::io::{Read, Write};
 
 /// Reads up to so many bytes of standard input.
@@ -44,6 +44,7 @@ fn searched(word: &str, (seed, count): (u64, u64), dials: &Dials) -> Done {
         "fuzz" => Done::check(random::fuzz(seed, count)),
         "plain" => Done::check(plain::plain(seed, count, dials)),
         "calm" => Done::check(calm::calm(seed, count, dials)),
+        "recover" => Done::check(recover::recover(seed, count, dials)),
         "budget" => Done::check(budget::budget(seed, count, dials)),
         _ => Done::usage(),
     }

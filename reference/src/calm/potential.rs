@@ -90,7 +90,7 @@ impl Owing<'_> {
             let taken = r.leader.iter().flat_map(|l| l.commands());
             queued.sum::<u64>() + taken.map(|c| self.bounds.command(c) - SLOT).sum::<u64>()
         };
-        group.values().map(|r| replica(&r)).sum::<u64>() + if elects { ELECTION } else { 0 }
+        group.values().map(replica).sum::<u64>() + if elects { ELECTION } else { 0 }
     }
 
     /// Returns how far it is by hints, by the ballots seen.

@@ -119,6 +119,21 @@ fn led_group(all: &Replicas, group: &GroupReplicas, new: &Replica, most: &mut Mo
     if !core.members.iter().all(up_to_date) {
         return Err("a member is not up to date".to_string());
     }
+    open_slots(group, lead, l, core, most)?;
+    if group.values().any(|r| r.acceptor.promised > l.ballot || r.top > l.ballot) {
+        return Err("promise or top above the leader's ballot".to_string());
+    }
+    successor(all, core, most)
+}
+
+/// Checks the members of a group's open slots: a later ballot has their promises, and they know the leader.
+fn open_slots(
+    group: &GroupReplicas,
+    lead: &Replica,
+    l: &Leader,
+    core: &Core,
+    most: &mut Most,
+) -> Result<(), String> {
     let later = l.ballot != core.first_ballot();
     most.later_ballots += u64::from(later);
     let open: BTreeSet<u16> = core.members.iter().chain(lead.sets.iter().flatten()).copied().collect();
@@ -130,15 +145,12 @@ fn led_group(all: &Replicas, group: &GroupReplicas, new: &Replica, most: &mut Mo
             &format!("open at {m}"),
             &[
                 (!later || promised, "no promise"),
-                (r.acceptor.floor < next, "floor"),
+                (r.acceptor.floor < lead.next, "floor"),
                 (*m == lead.me || r.hint == Some(lead.me), "hint"),
             ],
         )?;
     }
-    if group.values().any(|r| r.acceptor.promised > l.ballot || r.top > l.ballot) {
-        return Err("promise or top above the leader's ballot".to_string());
-    }
-    successor(all, core, most)
+    Ok(())
 }
 
 /// Checks that the nodes of the link to the successor have its replica, and that it starts where the group ends.

@@ -61,8 +61,14 @@ impl View<'_> {
         let of = |b: &Ballot, g: &Draw, t: &u32, slot: u32| (*b, *g, *t) == (l.ballot, id, slot);
         for (slot, f) in &l.flights {
             let set = &r.sets[(*slot - r.next) as usize];
-            let asked = |x: &&Mail| matches!(&x.body, MailBody::Accept { group, slot: t, ballot, .. } if of(ballot, group, t, *slot));
-            let voted = |x: &&Mail| matches!(&x.body, MailBody::Accepted { group, slot: t, ballot } if of(ballot, group, t, *slot));
+            let asked = |x: &&Mail| match &x.body {
+                MailBody::Accept { group, slot: t, ballot, .. } => of(ballot, group, t, *slot),
+                _ => false,
+            };
+            let voted = |x: &&Mail| match &x.body {
+                MailBody::Accepted { group, slot: t, ballot } => of(ballot, group, t, *slot),
+                _ => false,
+            };
             for m in set {
                 let comes = self.rest(r.me).iter().any(|x| x.from == u32::from(*m) && voted(x));
                 if !f.voters.contains(m) && !comes && !self.rest(*m).iter().any(asked) {
@@ -134,10 +140,10 @@ impl View<'_> {
                 {
                     return Err(format!("A2 member {m}: asked before it is there"));
                 }
-                MailBody::Accept { group: g, slot, .. } if *g == id => {
-                    if replica.is_some_and(|r| *slot <= r.acceptor.floor || *slot < at) {
-                        return Err(format!("A3 member {m}: accept {slot} at {at}"));
-                    }
+                MailBody::Accept { group: g, slot, .. }
+                    if *g == id && replica.is_some_and(|r| *slot <= r.acceptor.floor || *slot < at) =>
+                {
+                    return Err(format!("A3 member {m}: accept {slot} at {at}"));
                 }
                 _ => {}
             }

@@ -29,7 +29,7 @@ impl View<'_> {
             let slots = r.leader.iter().flat_map(|l| l.commands());
             r.acts.iter().chain(slots).filter(|c| command_tx(c) == Some(tx) && is(c)).count()
         };
-        self.all.get(&id).map_or(0, |g| g.values().map(|r| commands(&r)).sum())
+        self.all.get(&id).map_or(0, |g| g.values().map(commands).sum())
     }
 
     /// Counts the places where a coordinator's question to a watcher stands.
@@ -56,7 +56,10 @@ impl View<'_> {
 
     /// Counts the places where an outcome for a group stands: its coordinator that has not decided is one.
     fn outcome_places(&self, id: Draw, me: u16, tx: Draw) -> usize {
-        let coordinates = |g: &Draw| matches!(&newest(&self.all[g]).base.core.lock, Lock::Coordinating { tx: t, .. } if *t == tx);
+        let coordinates = |g: &Draw| match &newest(&self.all[g]).base.core.lock {
+            Lock::Coordinating { tx: t, .. } => *t == tx,
+            _ => false,
+        };
         let outcome =
             |m: &Mail| matches!(&m.body, MailBody::TxOutcome { tx: t, part, .. } if (*t, *part) == (tx, id));
         usize::from(self.all.keys().any(coordinates))

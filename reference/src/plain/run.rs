@@ -162,6 +162,23 @@ impl<'a> Making<'a> {
         }
         Ok(used)
     }
+
+    /// Notes how a line ended: within the budget none is cut off.
+    fn end_line(&self, used: u64, most: u64, budget: u64, seen: &mut Seen) -> Result<(), String> {
+        if budget > 0 {
+            seen.line_share = seen.line_share.max(used as f64 / budget as f64);
+        }
+        if self.w.quiet() {
+            seen.quiet_lines += 1;
+            return Ok(());
+        }
+        seen.cut_off_lines += 1;
+        if most >= budget {
+            Err("unsettled within the budget".to_string())
+        } else {
+            Ok(())
+        }
+    }
 }
 
 /// Plays the lines of one scenario: clients that go, and deliveries.
@@ -193,17 +210,7 @@ fn play(d: &mut Dice, m: &mut Making, made: &mut Scenario, seen: &mut Seen) -> R
             Some(_) => SchedLine::Free { most: most as u32, workers: 4 },
         });
         let used = m.deliver(d, &way, most, seen)?;
-        if budget > 0 {
-            seen.line_share = seen.line_share.max(used as f64 / budget as f64);
-        }
-        if m.w.quiet() {
-            seen.quiet_lines += 1;
-        } else {
-            seen.cut_off_lines += 1;
-            if most >= budget {
-                return Err("unsettled within the budget".to_string());
-            }
-        }
+        m.end_line(used, most, budget, seen)?;
     }
     Ok(())
 }

@@ -12,14 +12,7 @@ impl Replica {
 
         // 1. apply it, and the mail by the effect
         let effect = self.base.apply(&command).effect;
-        self.log.insert(slot, command.clone());
-        self.next += 1;
-        self.sets.pop_front();
-        self.sets.push_back(self.base.core.members.clone());
-        if self.base.core.lock == Lock::Free {
-            self.waits = 0;
-        }
-        self.cut();
+        self.advance(&command);
         self.effect_mails(&command, &effect, counted, &before, out);
 
         // 2. counted: Learn and Install
@@ -34,13 +27,7 @@ impl Replica {
         self.clear_slot(slot, &command, counted);
 
         // 5. the group is gone, or this node is no member
-        if self.running() {
-            if let Some(into) = self.base.core.gone.clone() {
-                self.dismiss(Farewell::Gone { into }, out);
-            } else if !self.members().contains(&self.me) {
-                self.stop(Some(least(self.members())), out);
-            }
-        }
+        self.leave(out);
 
         // 6.
         self.look_for_leader(out);
@@ -53,6 +40,30 @@ impl Replica {
 
         // 8.
         self.pump(out);
+    }
+
+    /// Takes the executed command into the log, and opens one more slot.
+    fn advance(&mut self, command: &Command) {
+        self.log.insert(self.next, command.clone());
+        self.next += 1;
+        self.sets.pop_front();
+        self.sets.push_back(self.base.core.members.clone());
+        if self.base.core.lock == Lock::Free {
+            self.waits = 0;
+        }
+        self.cut();
+    }
+
+    /// Ends the leader where the group is gone, or this node is no member.
+    fn leave(&mut self, out: &mut Out) {
+        if !self.running() {
+            return;
+        }
+        if let Some(into) = self.base.core.gone.clone() {
+            self.dismiss(Farewell::Gone { into }, out);
+        } else if !self.members().contains(&self.me) {
+            self.stop(Some(least(self.members())), out);
+        }
     }
 
     /// Tells the members what was chosen, and sends new members the state.

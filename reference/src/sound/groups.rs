@@ -69,7 +69,7 @@ impl Checker<'_> {
         Ok(())
     }
 
-    /// The ring covers, and each cut's group has its arc and its neighbours.
+    /// Checks that the ring covers, that each cut's group has its arc and its neighbours, and who serves.
     pub(super) fn ring(&self) -> Result<(), String> {
         if !covers(&self.decided) {
             return Err(format!("(cover) the ring does not cover: {:?}", self.decided.sorted_ring()));
@@ -77,42 +77,39 @@ impl Checker<'_> {
         let ring = self.decided.sorted_ring();
         let n = ring.len();
         for (i, cut) in ring.iter().enumerate() {
-            let eff = match self.decided.effective(cut.group) {
-                Some(e) => e,
-                None => return Err(format!("(ring) {} has a cut and no effective record", cut.group)),
-            };
-            let next = ring[(i + 1) % n].group;
-            let before = ring[(i + n - 1) % n].group;
-            if eff.core.gone.is_some() {
-                return Err(format!("(ring) {} has a cut and is gone", cut.group));
-            }
-            if eff.core.arc != cut.arc {
-                return Err(format!("(ring) {} has {:?}, its cut is {:?}", cut.group, eff.core.arc, cut.arc));
-            }
-            if eff.core.succ.group != next {
-                return Err(format!(
-                    "(ring) {} names {} as successor, not {next}",
-                    cut.group, eff.core.succ.group
-                ));
-            }
-            if eff.core.pred.group != before {
-                return Err(format!(
-                    "(ring) {} names {} as predecessor, not {before}",
-                    cut.group, eff.core.pred.group
-                ));
-            }
+            let (next, before) = (ring[(i + 1) % n].group, ring[(i + n - 1) % n].group);
+            self.cut(cut, next, before).map_err(|e| format!("(ring) {} {e}", cut.group))?;
         }
-        // a group that serves is the group of the cut
+        self.serves(&ring)
+    }
+
+    /// Checks that the effective record of a cut's group has its arc and these neighbours.
+    fn cut(&self, cut: &Cut, next: Draw, before: Draw) -> Result<(), String> {
+        let core = self.decided.effective(cut.group).ok_or("has a cut and no effective record")?.core;
+        if core.gone.is_some() {
+            return Err("has a cut and is gone".to_string());
+        }
+        if core.arc != cut.arc {
+            return Err(format!("has {:?}, its cut is {:?}", core.arc, cut.arc));
+        }
+        if core.succ.group != next {
+            return Err(format!("names {} as successor, not {next}", core.succ.group));
+        }
+        if core.pred.group != before {
+            return Err(format!("names {} as predecessor, not {before}", core.pred.group));
+        }
+        Ok(())
+    }
+
+    /// Checks that a group that serves keys has the cut that holds them.
+    fn serves(&self, ring: &[Cut]) -> Result<(), String> {
         for (id, g) in &self.decided.groups {
             let core = &g.state.core;
-            if core.gone.is_some() || !core.lock.open() {
-                continue;
-            }
             let inside = ring.iter().any(|c| {
                 let from = u64::from(core.arc.lo.wrapping_sub(c.arc.lo));
                 c.group == *id && from + core.arc.len <= c.arc.len
             });
-            if !inside {
+            if core.gone.is_none() && core.lock.open() && !inside {
                 return Err(format!("(ring) {id} serves {:?} outside its cut", core.arc));
             }
         }

@@ -12,10 +12,8 @@ impl Key {
     /// The first four bytes, filled on the right with zero bytes, read big-endian.
     pub fn pos(&self) -> u32 {
         let mut b = [0u8; 4];
-        for i in 0..4 {
-            if i < self.0.len() {
-                b[i] = self.0[i];
-            }
+        for (to, from) in b.iter_mut().zip(&self.0) {
+            *to = *from;
         }
         u32::from_be_bytes(b)
     }
