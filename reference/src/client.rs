@@ -3,6 +3,7 @@
 use crate::mail::*;
 use crate::values::*;
 
+/// A group that a client knows, and the member that it prefers.
 #[derive(Clone, PartialEq, Eq, Debug)]
 pub struct Known {
     pub group: Draw,
@@ -20,6 +21,7 @@ impl Known {
     }
 }
 
+/// A client.
 #[derive(Clone, PartialEq, Eq, Debug)]
 pub struct Client {
     pub me: u16,
@@ -34,6 +36,7 @@ pub struct Client {
 }
 
 impl Client {
+    /// Makes a client at its birth, which knows one group.
     pub fn born(me: u16, requests: Vec<Op>, first: &Route) -> Client {
         Client {
             me,
@@ -97,6 +100,7 @@ impl Client {
         self.send_to(group)
     }
 
+    /// Takes an input, and returns what the client sends.
     pub fn step(&mut self, input: &Input) -> Vec<Mail> {
         match input {
             Input::Go => self.start(1),

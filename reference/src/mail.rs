@@ -20,6 +20,7 @@ pub enum AnswerBody {
     Stale { last: u32 },
 }
 
+/// What a node has accepted at a slot, as it reports it with a promise.
 #[derive(Clone, PartialEq, Eq, Debug)]
 pub struct Report {
     pub slot: u32,
@@ -27,6 +28,7 @@ pub struct Report {
     pub value: Command,
 }
 
+/// What a mail says.
 #[derive(Clone, PartialEq, Eq, Debug)]
 #[allow(clippy::large_enum_variant)] // as the rules have it: mail is plain data
 pub enum MailBody {
@@ -49,6 +51,7 @@ pub enum MailBody {
     Told { order: u32, result: ToldResult },
 }
 
+/// A mail, with the numbers of its actors.
 #[derive(Clone, PartialEq, Eq, Debug)]
 pub struct Mail {
     pub from: u32,
@@ -56,6 +59,7 @@ pub struct Mail {
     pub body: MailBody,
 }
 
+/// What happened in a row. Mail is named by its number.
 #[derive(Clone, PartialEq, Eq, Debug)]
 pub enum Event {
     Deliver(u32),
@@ -67,6 +71,7 @@ pub enum Event {
     Again(u32),
 }
 
+/// A row of the journal: whose it is, what happened, and what it sends.
 #[derive(Clone, PartialEq, Eq, Debug)]
 pub struct Row {
     pub who: u32,

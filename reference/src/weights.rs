@@ -60,6 +60,7 @@ fn base_weight(b: &Base) -> u128 {
     pairs_weight(&b.pairs) + seen_weight(&b.clients) + decided + heard
 }
 
+/// Returns the bytes that a mail counts by what it carries.
 pub fn mail_weight(m: &Mail) -> u128 {
     match &m.body {
         MailBody::Request { op, .. } => op_weight(op),
@@ -73,7 +74,7 @@ pub fn mail_weight(m: &Mail) -> u128 {
     }
 }
 
-/// The bytes that a row with these mails counts.
+/// Returns the bytes that a row with these mails counts.
 pub fn row_bytes(sent: &[Mail]) -> u128 {
     64 + sent.iter().map(|m| 256 + mail_weight(m)).sum::<u128>()
 }

@@ -1,5 +1,6 @@
 //! Random numbers, drawn by a seed.
 
+/// A small generator of numbers.
 #[derive(Clone)]
 pub struct Dice(u64);
 

@@ -2,6 +2,7 @@
 
 use super::{Body, Draw, Offer, Op, Outcome, Past, Vote, Watch};
 
+/// A command of a group's log.
 #[derive(Clone, PartialEq, Eq, Debug)]
 pub enum Command {
     Noop,
@@ -19,7 +20,7 @@ pub enum Command {
 }
 
 impl Command {
-    /// The number of an order command, or none for a command of another kind.
+    /// Returns the number of an order command, or none for a command of another kind.
     pub fn order(&self) -> Option<u32> {
         match self {
             Command::Join { order, .. }

@@ -9,7 +9,7 @@ pub struct Key(pub Vec<u8>);
 pub struct Value(pub Vec<u8>);
 
 impl Key {
-    /// The first four bytes, filled on the right with zero bytes, read big-endian.
+    /// Returns the first four bytes, filled on the right with zero bytes, read big-endian.
     pub fn pos(&self) -> u32 {
         let mut b = [0u8; 4];
         for (to, from) in b.iter_mut().zip(&self.0) {

@@ -8,7 +8,7 @@ pub const MOST_MEMBERS: usize = 9;
 /// A set of nodes.
 pub type Members = BTreeSet<u16>;
 
-/// The least member greater than the node, or the least member where none is.
+/// Returns the least member greater than the node, or the least member where none is.
 pub fn member_after(members: &Members, node: u16) -> u16 {
     match members.iter().find(|m| **m > node) {
         Some(m) => *m,
@@ -16,16 +16,17 @@ pub fn member_after(members: &Members, node: u16) -> u16 {
     }
 }
 
+/// Returns the least member.
 pub fn least(members: &Members) -> u16 {
     *members.iter().next().expect("a member set is never empty")
 }
 
-/// Whether more than half of the members are among the voters.
+/// Returns whether more than half of the members are among the voters.
 pub fn is_majority(members: &Members, voters: &Members) -> bool {
     2 * members.iter().filter(|m| voters.contains(m)).count() > members.len()
 }
 
-/// The members in ascending order, cut in two: the first `n - n/2`, and the rest.
+/// Returns the members in ascending order, cut in two: the first `n - n/2`, and the rest.
 pub fn halves(members: &Members) -> (Members, Members) {
     let n = members.len();
     let keep = n - n / 2;

@@ -30,12 +30,15 @@ pub struct Draws {
 }
 
 impl Draws {
+    /// Returns the draws of a node at its birth.
     pub fn start(node: u16) -> Draws {
         Draws { node, next: 1 }
     }
+    /// Returns whether the node has no name left.
     pub fn spent(&self) -> bool {
         self.next == u32::MAX
     }
+    /// Draws the next name.
     pub fn draw(&mut self) -> Draw {
         let d = Draw { node: self.node, count: self.next };
         self.next += 1;

@@ -1,6 +1,6 @@
 //! Decimal numbers.
 
-/// Decimal digits without sign and without a leading zero, at most `most`.
+/// Reads decimal digits without sign and without a leading zero, at most `most`.
 pub fn read_number(text: &[u8], most: u64) -> Option<u64> {
     if text.is_empty() || text.iter().any(|b| !b.is_ascii_digit()) {
         return None;

@@ -14,6 +14,7 @@ pub enum Op {
 }
 
 impl Op {
+    /// Returns the key of the operation.
     pub fn key(&self) -> &Key {
         match self {
             Op::Get { key }
@@ -23,6 +24,7 @@ impl Op {
             | Op::Cas { key, .. } => key,
         }
     }
+    /// Returns the word of the operation in a scenario.
     pub fn word(&self) -> &'static str {
         match self {
             Op::Get { .. } => "get",
@@ -45,7 +47,7 @@ pub type Pairs = BTreeMap<Key, Value>;
 /// For each client its last number and the reply to it.
 pub type SeenList = BTreeMap<u16, (u32, Reply)>;
 
-/// One operation on a map: the map changes and the old value is the reply.
+/// Applies one operation to a map: the map changes and the old value is the reply.
 pub fn apply_op(map: &mut Pairs, op: &Op) -> Reply {
     let old = map.get(op.key()).cloned();
     match op {
@@ -70,12 +72,12 @@ pub fn apply_op(map: &mut Pairs, op: &Op) -> Reply {
     Reply { old }
 }
 
-/// The pairs whose positions the arc holds.
+/// Returns the pairs whose positions the arc holds.
 pub fn part(pairs: &Pairs, arc: &RingArc) -> Pairs {
     pairs.iter().filter(|(k, _)| arc.holds(k.pos())).map(|(k, v)| (k.clone(), v.clone())).collect()
 }
 
-/// Two client tables joined: the greater number per client; with equal numbers the first stays.
+/// Joins two client tables: the greater number per client; with equal numbers the first stays.
 pub fn join_seen(mine: &SeenList, other: &SeenList) -> SeenList {
     let mut all = mine.clone();
     for (client, (seq, reply)) in other {

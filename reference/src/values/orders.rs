@@ -2,6 +2,7 @@
 
 use super::{Body, Command, Draw};
 
+/// Why an order is refused.
 #[derive(Clone, PartialEq, Eq, Debug)]
 pub enum OrderRefusal {
     NotLeader { hint: Option<u16> },
@@ -16,6 +17,7 @@ pub enum OrderRefusal {
 }
 
 impl OrderRefusal {
+    /// Returns the number and the name of the cause.
     pub fn code_and_name(&self) -> (u8, &'static str) {
         match self {
             OrderRefusal::NotLeader { .. } => (1, "not-leader"),
@@ -31,6 +33,7 @@ impl OrderRefusal {
     }
 }
 
+/// The result of an order.
 #[derive(Clone, PartialEq, Eq, Debug)]
 pub enum ToldResult {
     Done,
@@ -39,12 +42,14 @@ pub enum ToldResult {
     Refused(OrderRefusal),
 }
 
+/// An order with its number.
 #[derive(Clone, PartialEq, Eq, Debug)]
 pub struct OrderLine {
     pub number: u32,
     pub order: Order,
 }
 
+/// An order.
 #[derive(Clone, PartialEq, Eq, Debug)]
 pub enum Order {
     Join { node: u16, group: Draw },
@@ -56,6 +61,7 @@ pub enum Order {
 }
 
 impl Order {
+    /// Returns the group to which the order goes.
     pub fn group(&self) -> Draw {
         match self {
             Order::Join { group, .. }
@@ -66,11 +72,11 @@ impl Order {
             | Order::Migrate { group, .. } => *group,
         }
     }
-    /// Whether the command of this order carries a draw.
+    /// Returns whether the command of this order carries a draw.
     pub fn needs_draw(&self) -> bool {
         !matches!(self, Order::Join { .. } | Order::Leave { .. })
     }
-    /// The command of this order, with the draw where it carries one.
+    /// Returns the command of this order, with the draw where it carries one.
     pub fn command(&self, number: u32, draw: Draw) -> Command {
         match self {
             Order::Join { node, .. } => Command::Join { node: *node, order: number },

@@ -5,6 +5,7 @@ use super::{
     Watch,
 };
 
+/// Whether a group is in a transaction, and as what.
 #[derive(Clone, PartialEq, Eq, Debug)]
 pub enum Lock {
     Free,
@@ -14,6 +15,7 @@ pub enum Lock {
 }
 
 impl Lock {
+    /// Returns the transaction that locks the group.
     pub fn tx(&self) -> Option<Draw> {
         match self {
             Lock::Free => None,
@@ -22,7 +24,7 @@ impl Lock {
             }
         }
     }
-    /// Whether a group with this lock executes calls.
+    /// Returns whether a group with this lock executes calls.
     pub fn open(&self) -> bool {
         matches!(self, Lock::Free | Lock::Watching { .. })
     }
@@ -63,13 +65,15 @@ impl Core {
             gone: None,
         }
     }
+    /// Returns the outcome that the group has decided for a transaction.
     pub fn outcome_of(&self, tx: Draw) -> Option<&Outcome> {
         self.decided.iter().find(|(t, _)| *t == tx).map(|(_, o)| o)
     }
+    /// Returns what the group has voted on a transaction.
     pub fn past_of(&self, tx: Draw) -> Option<&Past> {
         self.voted.iter().find(|(t, _)| *t == tx).map(|(_, p)| p)
     }
-    /// The first ballot of the group.
+    /// Returns the first ballot of the group.
     pub fn first_ballot(&self) -> Ballot {
         Ballot { round: 1, node: self.first }
     }

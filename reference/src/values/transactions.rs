@@ -2,12 +2,14 @@
 
 use super::{Draw, Members, Pairs, RingArc, SeenList};
 
+/// A neighbour: its name and its members.
 #[derive(Clone, PartialEq, Eq, Debug)]
 pub struct Link {
     pub group: Draw,
     pub members: Members,
 }
 
+/// The way to a group: its name, where its arc starts, and its members.
 #[derive(Clone, PartialEq, Eq, Debug)]
 pub struct Route {
     pub group: Draw,
@@ -15,6 +17,7 @@ pub struct Route {
     pub members: Members,
 }
 
+/// What a transaction is to do.
 #[derive(Clone, PartialEq, Eq, Debug)]
 pub enum Body {
     Merge,
@@ -23,6 +26,7 @@ pub enum Body {
     Split { at: u32, child: Draw },
 }
 
+/// What a participant is asked.
 #[derive(Clone, PartialEq, Eq, Debug)]
 pub struct Offer {
     pub coord: Draw,
@@ -33,6 +37,7 @@ pub struct Offer {
     pub by: u16,
 }
 
+/// The record of a participant that has voted Yes.
 #[derive(Clone, PartialEq, Eq, Debug)]
 pub struct Frozen {
     pub arc: RingArc,
@@ -60,6 +65,7 @@ pub struct Watch {
     pub by: u16,
 }
 
+/// Why a group votes No.
 #[derive(Clone, PartialEq, Eq, Debug)]
 pub enum No {
     Busy { tx: Draw },
@@ -68,12 +74,14 @@ pub enum No {
     TooMany { n: u8 },
 }
 
+/// A vote as mail carries it.
 #[derive(Clone, PartialEq, Eq, Debug)]
 pub enum Vote {
     Yes(Frozen),
     No(No),
 }
 
+/// A vote as a record keeps it.
 #[derive(Clone, PartialEq, Eq, Debug)]
 pub enum Past {
     Yes,
@@ -81,12 +89,14 @@ pub enum Past {
     Ended,
 }
 
+/// What a moved boundary brings to the participant.
 #[derive(Clone, PartialEq, Eq, Debug)]
 pub struct Gift {
     pub pairs: Pairs,
     pub clients: SeenList,
 }
 
+/// The outcome of a transaction.
 #[derive(Clone, PartialEq, Eq, Debug)]
 pub enum Outcome {
     Abort,
