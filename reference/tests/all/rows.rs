@@ -50,7 +50,7 @@ fn rows_are_explained() {
     assert_eq!(lines[2], "{\"ring\":[[\"0.1\",[0,4294967296]]],\"row\":0}");
     let has = |part: &str| lines.iter().any(|line| line.contains(part));
     assert!(has("{\"birth\":{\"group\":\"1.1\",\"members\":[2]}"));
-    assert!(has("\"effect\":{\"Done\":{\"old\":null}},\"group\":\"0.1\""));
+    assert!(has("\"effect\":{\"Done\":{\"old\":null}},\"group\":\"1.1\""));
     assert!(has("\"reply\":{\"old\":null},\"seq\":1}"));
     assert!(has("{\"ring\":[[\"0.1\",[0,9]],[\"1.1\",[9,4294967287]]]"));
     assert!(has("\"name\":\"1.1\",\"pairs\":1,\"pred\":\"0.1\",\"succ\":\"0.1\""));
