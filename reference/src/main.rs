@@ -1,0 +1,86 @@
+//! The program: reads its subcommand, and prints what the library answers.
+
+use reference::program::{self, Done};
+use reference::text::MOST_STORED;
+use reference::values::{read_number, Dials};
+use reference::{budget, calm, plain, random, recover};
+use std::io::{Read, Write};
+
+/// Reads up to so many bytes of standard input.
+fn stdin(most: u64) -> Vec<u8> {
+    let mut input = Vec::new();
+    if std::io::stdin().take(most).read_to_end(&mut input).is_err() {
+        println!("read fault");
+        std::process::exit(4);
+    }
+    input
+}
+
+fn scenario() -> Vec<u8> {
+    stdin(program::SCENARIO_BYTES)
+}
+
+/// Reads four numbers, each at least 1.
+fn dials(words: &[&str; 4]) -> Option<Dials> {
+    let number = |w: &str| read_number(w.as_bytes(), 1 << 20).filter(|n| *n >= 1);
+    let [unit, patience, crowd, heap] = words;
+    Some(Dials {
+        unit: number(unit)? as u32,
+        patience: number(patience)? as u32,
+        crowd: number(crowd)? as usize,
+        heap: number(heap)? as usize,
+    })
+}
+
+/// Reads the numbers of a search: its seed and how many scenarios it has.
+fn search(seed: &str, count: &str) -> Option<(u64, u64)> {
+    let number = |w: &str| read_number(w.as_bytes(), u64::MAX);
+    Some((number(seed)?, number(count)?))
+}
+
+/// Answers a subcommand that has a seed and a count.
+fn searched(word: &str, (seed, count): (u64, u64), dials: &Dials) -> Done {
+    match word {
+        "fuzz" => Done::check(random::fuzz(seed, count)),
+        "plain" => Done::check(plain::plain(seed, count, dials)),
+        "calm" => Done::check(calm::calm(seed, count, dials)),
+        "recover" => Done::check(recover::recover(seed, count, dials)),
+        "budget" => Done::check(budget::budget(seed, count, dials)),
+        _ => Done::usage(),
+    }
+}
+
+fn answer(words: &[&str], dials: &Dials) -> Done {
+    match words {
+        ["run"] => program::run(&scenario(), dials),
+        ["journal"] => program::journal(&scenario(), dials),
+        ["make", n, s] => program::make(n, s, dials),
+        ["explain"] => program::explain(&stdin(MOST_STORED as u64 + 1)),
+        ["sound"] => program::sound(&scenario(), dials),
+        ["gen", seed] => match read_number(seed.as_bytes(), u64::MAX) {
+            Some(seed) => Done { status: 0, output: random::generate(seed, dials).into_bytes() },
+            None => Done::usage(),
+        },
+        [word, seed, count] => match search(seed, count) {
+            Some(numbers) => searched(word, numbers, dials),
+            None => Done::usage(),
+        },
+        _ => Done::usage(),
+    }
+}
+
+fn main() {
+    let words: Vec<String> = std::env::args().skip(1).collect();
+    let words: Vec<&str> = words.iter().map(|w| w.as_str()).collect();
+    let done = match &words[..] {
+        ["--dials", a, b, c, d, rest @ ..] => match dials(&[a, b, c, d]) {
+            Some(dials) => answer(rest, &dials),
+            None => Done::usage(),
+        },
+        rest => answer(rest, &Dials::RULES),
+    };
+    let mut out = std::io::stdout();
+    let _ = out.write_all(&done.output);
+    let _ = out.flush();
+    std::process::exit(i32::from(done.status));
+}

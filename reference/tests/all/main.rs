@@ -1,0 +1,8 @@
+//! Tests of the reference over its public items.
+
+mod chacha;
+mod machine;
+mod parser;
+mod replica;
+mod rows;
+mod scenarios;
