@@ -14,13 +14,14 @@ use std::process::Abort;
 fn birth(rt: &impl Abort) -> GroupBirth {
     let group = Draw { node: 0, count: 1 };
     let members = Members::one(1);
-    let around = Link { group, members };
+    let succ = Link { group, members };
+    let pred = succ;
     GroupBirth {
         group,
         arc: RingArc::try_new(0, 0x1_0000_0000).expect(rt, "the whole ring"),
         members,
-        succ: around,
-        pred: around,
+        succ,
+        pred,
     }
 }
 
