@@ -1,5 +1,5 @@
 -- A calm scenario whose order is carried out, computed: a node joins the group of one member, and then the client puts a value and gets it. Scenario and report are stored as `calm_join`.
-use Rattle.std.proofs.Common.{◌≡◌, ℕ, List, [], ◌∷◌, map, Some, None, inl, inr, refl, subst}
+use Rattle.std.proofs.Common.{◌≡◌, ℕ, List, [], ◌∷◌, Some, None, inl, inr, refl, subst}
 use Rattle.std.specs.Prelude.{false, length}
 use Rattle.sc_cmd.specs.declared.cores.Base.{Base}
 use Rattle.sc_cmd.specs.declared.commands.Command.TheVariants.{Call, Join as Joins}
@@ -9,19 +9,16 @@ use Rattle.sc_cmd.specs.declared.orders.ToldResult.TheVariants.{Done}
 use Rattle.sc_mail.specs.declared.bodies.AnswerBody.TheVariants.{Value}
 use Rattle.sc_mail.specs.declared.bodies.Mail.{Mail}
 use Rattle.sc_mail.specs.declared.bodies.MailBody.TheVariants.{Request, Answer, Accept, Accepted, Learn, Install, Told as Tells}
-use Rattle.sc_actor.specs.Replay.{value}
 use Rattle.sc_actor.specs.Walk.{unsettled}
 use Rattle.sc_actor.specs.declared.rows.Row.{Row}
 use Rattle.sc_actor.specs.declared.rows.Event.TheVariants.{Deliver, Go, Told}
-use Rattle.sc_node_table.specs.Replica.{members}
 use Rattle.sc_scenario.specs.Groups.{lone_name}
 use Rattle.sc_scenario.specs.declared.scenarios.Asks.{Asks}
 use Rattle.sc_scenario.specs.declared.scenarios.Scenario.{Scenario}
 use Rattle.sc_sound.specs.Example.{alone, put_it, get_it, ballot, mail, row}
-use Rattle.sc_sound.specs.Players.{player_table, node_seat, system_of, schedule, as_nodes, route_of}
+use Rattle.sc_sound.specs.Players.{system_of, schedule, as_nodes, route_of}
 use Rattle.sc_sound.specs.Requests.{kept_replies}
 use Rattle.sc_budget_law.specs.Budget.{AreAnswered}
-use Rattle.sc_budget_law.specs.BetweenJournal.{replicas_of}
 use Rattle.sc_budget_law.specs.Calm.{IsCalmAtBudget}
 use Rattle.sc_budget_law.proofs.Worked.{asks, calm_at_budget, lines_of, ordered}
 
@@ -37,7 +34,7 @@ joined = record (ordered join_it) { nodes = 2 }
 abbrev joined_base : Base
 joined_base = record alone { core = record alone.core { members = 1 ∷ 2 ∷ [] } }
 
--- the rows: the order is offered, accepted and carried out; then each request is, and the new member learns it
+-- the rows: the order is offered, accepted and carried out, which the third row reports; then each request is, and the new member learns it
 rows : List (Row Mail OrderLine)
 rows =
     row 1 (Told join_it) (mail 1 1 (Accept lone_name ballot 1 (Joins 2 1)))
@@ -60,15 +57,6 @@ rows =
 calm : IsCalmAtBudget joined
 unfolding ordered lines_of
 calm = let at = calm_at_budget join_it in record { lines = at.lines; followed = at.followed; parted = at.parted }
-
--- the order is carried out: at the end each replica has both members
-first_members : map members (replicas_of (value player_table (node_seat as_nodes (alone ∷ []) false 1) rows)) ≡ (1 ∷ 2 ∷ []) ∷ []
-unfolding rows
-first_members = refl
-
-second_members : map members (replicas_of (value player_table (node_seat as_nodes (alone ∷ []) false 2) rows)) ≡ (1 ∷ 2 ∷ []) ∷ []
-unfolding rows
-second_members = refl
 
 -- no line is cut off with mail pending
 settled : (words : ℕ → ℕ → ℕ × ℕ) → unsettled (system_of as_nodes words joined) (schedule joined) rows ≡ false

@@ -154,6 +154,25 @@ fn lend_to_a_sleeper<R: Wait + Abort + Clock>(
     let _ = office.close(rt);
 }
 
+fn helped_and_lent<R: Threads + Wait + Abort + Clock + Sync>(
+    rt: &R,
+    office: &Office<Half>,
+    lender: &mut Lender<Half>,
+    helpers: Vec<Helper<Half>>,
+    helped: &AtomicU64,
+)
+    requires lender { IsLenderOf office.now lender.old }
+    requires helpers { All (λ p. IsHelperOf office.now p) helpers.items }
+{
+    join(
+        rt,
+        ||
+            requires { All (λ p. IsHelperOf office.now p) helpers.items }
+        { help_counting(rt, office, helpers, helped) },
+        || lend_to_a_sleeper(rt, office, lender, helped),
+    );
+}
+
 fn by_a_sleeper<R: Threads + Wait + Abort + Clock + Sync>(
     rt: &R,
     office: &Office<Half>,
@@ -168,12 +187,10 @@ fn by_a_sleeper<R: Threads + Wait + Abort + Clock + Sync>(
     join(
         rt,
         || watch(rt, &ended, "the one that helps was not woken by the end"),
-        || {
-            join(
-                rt,
-                || help_counting(rt, office, helpers, &helped),
-                || lend_to_a_sleeper(rt, office, lender, &helped),
-            );
+        ||
+            requires { (IsLenderOf office.now lender.now) × All (λ p. IsHelperOf office.now p) helpers.items }
+        {
+            helped_and_lent(rt, office, lender, helpers, &helped);
             ended.store(1, Ordering::SeqCst);
         },
     );
