@@ -1,4 +1,4 @@
-//! P2 and P3: what replicas and clients are in a plain run.
+//! What replicas and clients are in a plain run.
 
 use super::mails::own_call;
 use crate::checks::all_hold;
@@ -8,11 +8,11 @@ use crate::scenario::Scenario;
 use crate::values::*;
 use std::collections::BTreeSet;
 
-/// P2: checks what a replica is.
+/// Checks what a replica is.
 pub fn plain_replica(s: &Scenario, b: &Base, me: u16, r: &Replica, requests: u64) -> Result<(), String> {
     let first = b.core.first_ballot();
     let mut commands = r.log.values().chain(r.acceptor.accepted.values().map(|x| &x.1));
-    let what = format!("P2 replica {} at {me}", b.core.id);
+    let what = format!("replica {} at {me}", b.core.id);
     all_hold(
         &what,
         &[
@@ -65,13 +65,13 @@ fn plain_leader(s: &Scenario, b: &Base, r: &Replica, l: &Leader) -> Result<(), S
     )
 }
 
-/// P3: checks what a client is.
+/// Checks what a client is.
 pub fn plain_client(s: &Scenario, c: &Client, gone: bool) -> Result<(), String> {
     let known = |(k, b): (&crate::client::Known, &Base)| {
         let core = &b.core;
         k.group == core.id && k.lo == core.arc.lo && k.members == core.members && k.preferred.is_none()
     };
-    let what = format!("P3 client {}", c.me);
+    let what = format!("client {}", c.me);
     all_hold(
         &what,
         &[

@@ -1,4 +1,4 @@
-//! P1: which mail there is in a plain run.
+//! Which mail there is in a plain run.
 
 use crate::mail::*;
 use crate::scenario::Scenario;

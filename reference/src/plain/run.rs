@@ -93,7 +93,7 @@ impl<'a> Making<'a> {
             for m in &row.sent {
                 *seen.mails.entry(kind(m)).or_default() += 1;
                 if !plain_mail(self.s, m) {
-                    return Err(format!("P1 {m:?}"));
+                    return Err(format!("mail of another kind: {m:?}"));
                 }
             }
         }

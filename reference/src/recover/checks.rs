@@ -159,7 +159,7 @@ impl Checks {
         let place = || format!("client {c} request {seq} asked {g} at {x}");
         self.looked.look("R request", deaf || waits || mails.iter().any(comes), place)?;
         if mails.is_empty() && self.turns.after {
-            self.looked.look("R2 quiet is answered or deaf", deaf, place)?;
+            self.looked.look("quiet is answered or deaf", deaf, place)?;
         }
         Ok(())
     }

@@ -50,22 +50,22 @@ pub fn led(v: &GroupView, turns: &Turns, looked: &mut Looked) -> Result<(), Stri
     Ok(())
 }
 
-/// Q1, T1 and T2: what holds of a member whose tick has settled.
+/// Checks what holds of a member whose tick has settled.
 pub fn ticked(v: &GroupView, r: &Replica, turns: &Turns, looked: &mut Looked) -> Result<(), String> {
     let place = || format!("{} at {}", v.id, r.me);
     let settled = r.settled();
-    looked.look("Q1 after its tick it is settled or does not run", settled || !r.running(), place)?;
-    looked.look("T1 settled or level", settled || v.is_level(r), place)?;
+    looked.look("after its tick it is settled or does not run", settled || !r.running(), place)?;
+    looked.look("settled or level", settled || v.is_level(r), place)?;
     if turns.elected.contains(&(v.id, r.me)) {
         for o in v.replicas() {
             let seen = r.acceptor.promised <= o.top;
-            looked.look("T2 all have seen its promise", seen, || format!("{}, {}", place(), o.me))?;
+            looked.look("all have seen its promise", seen, || format!("{}, {}", place(), o.me))?;
         }
     }
     Ok(())
 }
 
-/// T4: where the last member's turn ends without an election, all lead. Notes what the turn has ended.
+/// Where the last member's turn ends without an election, all lead. Notes what the turn has ended.
 pub fn turned(v: &GroupView, r: &Replica, turns: &mut Turns, looked: &mut Looked) -> Result<(), String> {
     looked.count(if r.settled() { "(a turn ended settled)" } else { "(a turn did not end settled)" });
     let last = v.living().all(|m| turns.swept.contains(&u32::from(m)));
@@ -75,7 +75,7 @@ pub fn turned(v: &GroupView, r: &Replica, turns: &mut Turns, looked: &mut Looked
     turns.done.insert(v.id);
     if !turns.elected.contains(&(v.id, r.me)) {
         let all = v.replicas().all(|r| r.settled());
-        return looked.look("T4 all lead or the last was elected", all, || format!("{} at {}", v.id, r.me));
+        return looked.look("all lead or the last was elected", all, || format!("{} at {}", v.id, r.me));
     }
     if r.settled() {
         turns.led.insert(v.id);

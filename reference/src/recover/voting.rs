@@ -66,11 +66,11 @@ pub fn poll(v: &GroupView, turns: &Turns, looked: &mut Looked) -> Result<(), Str
         looked.look("P poll", way, || format!("{}: {n} polls {m}", v.id))?;
         let seen = asked || v.group[&m].top >= b;
         looked
-            .look("P2 all see the poll", seen, || format!("{}: {m} has not seen the ballot of {n}", v.id))?;
+            .look("all see the poll", seen, || format!("{}: {m} has not seen the ballot of {n}", v.id))?;
     }
     if runs.is_none() {
         let cause = r.top > b || v.is_level(r) || !v.quiet();
-        looked.look("P3 why it stopped", cause, || format!("{}: {n} stopped", v.id))?;
+        looked.look("why it stopped", cause, || format!("{}: {n} stopped", v.id))?;
     }
     Ok(())
 }
@@ -111,19 +111,19 @@ fn votes(v: &GroupView, r: &Replica, l: &Leader, looked: &mut Looked) -> Result<
 fn slots(v: &GroupView, r: &Replica, l: &Leader, looked: &mut Looked) -> Result<(), String> {
     let place = || format!("{} at {}", v.id, r.me);
     if v.quiet() {
-        looked.look("Q2 in quiet who runs is settled", r.settled(), place)?;
-        looked.look("Q3 in quiet who runs is idle", r.calls.is_empty() && l.idle(), place)?;
+        looked.look("in quiet who runs is settled", r.settled(), place)?;
+        looked.look("in quiet who runs is idle", r.calls.is_empty() && l.idle(), place)?;
     }
     let mut taken: Vec<u32> = l.flights.keys().chain(l.ready.keys()).copied().collect();
     taken.sort();
     let first = taken.iter().enumerate().all(|(i, x)| *x == r.next + i as u32);
-    looked.look("V1 taken slots are the first", first, place)?;
+    looked.look("taken slots are the first", first, place)?;
     if r.settled() {
         let q = taken.len() as u32;
         let reported = l.reports.iter().all(|x| x.slot < r.next + q);
-        looked.look("V2 calls wait with four", r.calls.is_empty() || q == AHEAD, place)?;
-        looked.look("V3 reports are under way", q == AHEAD || reported, place)?;
-        looked.look("V4 next is not ready", !l.ready.contains_key(&r.next), place)?;
+        looked.look("calls wait with four", r.calls.is_empty() || q == AHEAD, place)?;
+        looked.look("reports are under way", q == AHEAD || reported, place)?;
+        looked.look("next is not ready", !l.ready.contains_key(&r.next), place)?;
     }
     Ok(())
 }
