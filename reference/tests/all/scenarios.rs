@@ -40,7 +40,7 @@ fn each_scenario_has_its_report_and_status() {
 fn stored_journals_of_scenarios_are_explained() {
     for path in scenarios() {
         let stored = program::journal(&read(&path), &Dials::RULES);
-        let explained = program::explain(&stored.output);
+        let explained = program::explain(&stored.output, &Dials::RULES);
         assert_eq!(explained.status, if stored.status == 3 { 3 } else { 0 }, "{}", path.display());
     }
 }
