@@ -14,6 +14,7 @@ import reference
 
 SCRIPT = os.path.join(reference.HERE, "scatter")
 NOT_LAWFUL = 9  # the status after a row that is not lawful
+NO_ANSWER = 120  # the least status of the script where the program does not answer
 ROLES = {"Coordinating": "asks", "Promised": "voted yes", "Watching": "watches"}
 ASKS = ROLES["Coordinating"]
 OPTION = {
@@ -87,6 +88,11 @@ def command(program=None):
             return [asked, "explain"]
     except OSError as fault:
         raise Unexplained(f"{asked}: {fault.strerror}") from None
+    return of_reference()
+
+
+def of_reference():
+    """Returns the reference's command that explains."""
     other = reference.build()
     if other is None:
         raise Unexplained("neither the program nor the reference can say what was decided")
@@ -97,6 +103,9 @@ def explain(text, program=None):
     """Asks what the rows of a stored journal decided: all, or those before the first unlawful one."""
     words = command(program)
     done = run(words, text)
+    if done.returncode >= NO_ANSWER and words[0] == SCRIPT:
+        words = of_reference()
+        done = run(words, text)
     if done.returncode == NOT_LAWFUL:
         row = int(done.stdout.split()[-1])
         known = "only what the rows before it decided is known"
