@@ -167,6 +167,10 @@ class Browser:
                 clickCount=1,
             )
 
+    def point(self, x, y):
+        """Moves the pointer."""
+        self.ask("Input.dispatchMouseEvent", type="mouseMoved", x=x, y=y)
+
     def picture(self, name):
         """Writes a picture of what is seen."""
         data = self.ask("Page.captureScreenshot", format="png")["data"]

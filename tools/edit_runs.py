@@ -209,7 +209,7 @@ class Runs:
                     raise Refused(NO_ANSWER, f"no journal: status {status}")
                 count = count_rows(run.journal)
                 words = [sys.executable, "-B", os.path.join(TOOLS, "page"), run.journal, run.page]
-                words += ["--title", f"run {number}"]
+                words += ["--title", f"run {number}", "--by", file]
                 if self.call(words, os.devnull, run.file("said"), until, number) != 0:
                     raise Refused(NO_ANSWER, "tools/page could not read the journal")
                 run.rows = {"rows": count, "proved": is_proved}

@@ -11,7 +11,7 @@ lasts to the end. A row is ten microseconds long, since the format has no other 
 import json
 
 import client_history
-import groups
+import explained
 import journals
 
 ROW, LASTS, SENDS, TAKES = 10, 8, 6, 2  # microseconds of a row, of its slice, and in the slice
@@ -113,7 +113,7 @@ def orders(journal):
 
 def about(entry):
     """The transaction that a decided command is about."""
-    fields = groups.kind_and_fields(entry.command)[1]
+    fields = journals.kind_and_fields(entry.command)[1]
     return fields.get("tx") or fields.get("child")
 
 
@@ -122,22 +122,22 @@ def transactions(journal):
     said, last = {}, len(journal.rows)
     for entry in journal.decided().entries:
         said.setdefault(about(entry), []).append(entry)
-    begun = [one for one in journal.decided().shapes if one.role == groups.Lock.ASKS]
-    for shape in {one.tx: one for one in reversed(begun)}.values():
-        entries = [one for one in said[shape.tx] if one.row >= shape.row]
-        ends = [one for one in entries if one.group == shape.group and one.effect[0] == "Decided"]
-        outcome = journals.outcome(ends[0].effect[1]) if ends else "open"
-        args = {"transaction": shape.tx, "group": shape.group, "outcome": outcome}
+    begun = [one for one in journal.decided().records if one.role == explained.ASKS]
+    for record in {one.tx: one for one in reversed(begun)}.values():
+        entries = [one for one in said[record.tx] if one.row >= record.row]
+        ends = [one for one in entries if one.group == record.group and "Decided" in one.effect]
+        outcome = journals.outcome(ends[0].effect["Decided"]) if ends else "open"
+        args = {"transaction": record.tx, "group": record.group, "outcome": outcome}
         steps = [(one.row, journals.decision(one)) for one in entries]
-        name = f"{shape.tx} {kind_of(entries[0])} of {shape.group}"
-        place = (TRANSACTIONS, "transaction", shape.tx, name)
-        yield from slice_of(place, shape.row, ends[0].row if ends else last, args, steps)
+        name = f"{record.tx} {kind_of(entries[0])} of {record.group}"
+        place = (TRANSACTIONS, "transaction", record.tx, name)
+        yield from slice_of(place, record.row, ends[0].row if ends else last, args, steps)
 
 
 def kind_of(entry):
     """Whether a transaction splits, merges, moves a boundary or hands over a member."""
-    kind, fields = groups.kind_and_fields(entry.command)
-    return (kind if kind == "Split" else groups.kind_and_fields(fields["body"])[0]).lower()
+    kind, fields = journals.kind_and_fields(entry.command)
+    return (kind if kind == "Split" else journals.kind_and_fields(fields["body"])[0]).lower()
 
 
 def requests(journal):

@@ -1,16 +1,18 @@
 """Reads stored journals: a scenario's lines, the line `journal`, and one JSON row a line.
 
-It is for the tools beside it, which are not proved and say so. It takes a journal as it stands and
-does not ask whether it is lawful. `Journal.decided` reckons, once for all tools, what the journal
-decided: the groups' logs, the groups, and the ring (`decided.py`, `groups.py`).
+It is for the tools beside it, which are not proved and say so. It takes the rows as they stand and
+does not ask whether they are lawful. `Journal.decided` has what they decided, as the subcommand
+`explain` says it (`explained.py`).
 """
 
 import gc
 import json
+import re
 import sys
 
-import decided
+import explained
 
+RING = 2**32  # positions on the circle
 NODES = 32  # actors above are clients, and 0 is the desk, which gets what orders came to
 
 
@@ -41,26 +43,26 @@ class Row:
 
 
 class Journal:
-    def __init__(self, scenario, rows, mails):
-        self.scenario, self.rows, self.mails = scenario, rows, mails
-        self.reckoned = None
+    def __init__(self, text, scenario, rows, mails):
+        self.text, self.scenario, self.rows, self.mails = text, scenario, rows, mails
+        self.program, self.explained = None, None
 
     def decided(self):
-        """The logs, groups and ring that the journal decided, reckoned once."""
-        if self.reckoned is None:
+        """What the rows decided, which is asked once: of a program, or else of the repository's."""
+        if self.explained is None:
             try:
-                self.reckoned = decided.Decided(self)
-            except (ValueError, KeyError, TypeError, AttributeError, IndexError) as fault:
-                raise BadJournal(f"a mail lacks what such mail says: {fault!r}") from None
-        return self.reckoned
+                self.explained = explained.explain(self.text, self.program)
+            except explained.Unexplained as fault:
+                raise BadJournal(str(fault)) from None
+        return self.explained
 
     def mail(self, number):
         """The mail with this number, if it was sent."""
         return self.mails[number - 1] if 1 <= number <= len(self.mails) else None
 
 
-def read(name):
-    """The journal in a file, or in standard input where the name is `-`."""
+def read(name, program=None):
+    """The journal in a file, or in standard input where the name is `-`. A program may be named that explains it."""
     try:
         if name == "-":
             text = sys.stdin.buffer.read()
@@ -88,7 +90,9 @@ def read(name):
         except (ValueError, KeyError, TypeError, AttributeError):
             raise BadJournal(f"{name}: line {place} is no row") from None
         rows.append(row)
-    return Journal(lines[:end], rows, mails)
+    journal = Journal(text, lines[:end], rows, mails)
+    journal.program = program
+    return journal
 
 
 def actor(number):
@@ -96,6 +100,14 @@ def actor(number):
     if number == 0:
         return "desk"
     return f"n{number}" if number <= NODES else f"c{number - NODES}"
+
+
+def kind_and_fields(said):
+    """The name of a variant, and its content."""
+    if isinstance(said, str):
+        return said, {}
+    ((kind, fields),) = said.items()
+    return kind, fields
 
 
 def command(said):
@@ -231,23 +243,32 @@ def doer(row):
 
 def effect(said):
     """What a decided command came to, in a few words."""
-    word, of = said
+    word, of = kind_and_fields(said)
     if word in ("Done", "Again"):
-        done = "none" if of is None else f"value {of}"
+        done = "none" if of["old"] is None else f"value {of['old']}"
         return done if word == "Done" else f"{done}, once more"
     if word == "Voted":
         return f"votes {vote(of)}"
     if word == "Decided":
         return outcome(of)
     if word == "Refused":
-        return f"refused, {of}"
+        return f"refused, {cause(of)}"
     if word == "NotMine":
-        return f"not mine, next is {of}"
+        return f"not mine, next is {of['succ']['group']}"
     if word == "Gone":
-        return f"gone into {of['group']}"
+        return f"gone into {of['into']['group']}"
     if word == "NoEffect":
-        return "no effect" if of is None else f"no effect, by {of}"
-    return f"stale, last is {of}" if word == "Stale" else {"Changed": "taken"}.get(word, word.lower())
+        return f"no effect, by {of['tx']}"
+    return f"stale, last is {of['last']}" if word == "Stale" else EFFECTS[word]
+
+
+EFFECTS = {"Changed": "taken", "Idle": "idle"}
+
+
+def cause(said):
+    """Why an order is refused, as a report spells it."""
+    kind, _ = kind_and_fields(said)
+    return re.sub("(?<!^)([A-Z])", r"-\1", kind).lower()
 
 
 def decision(entry):

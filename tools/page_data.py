@@ -9,7 +9,6 @@ import array
 import base64
 import sys
 
-import groups
 import journals
 
 EVENTS = ["Deliver", "Tick", "Go", "Told", "Crash", "Drop", "Again"]
@@ -93,7 +92,7 @@ class Page:
 
     def about(self, command):
         """What a command is about."""
-        kind, fields = groups.kind_and_fields(command)
+        kind, fields = journals.kind_and_fields(command)
         if kind == "Call":
             return Subject(self.request(fields["client"], fields["seq"], fields["op"]))
         tx = fields.get("child") if kind == "Split" else fields.get("tx")
@@ -208,19 +207,18 @@ class Page:
     def shapes(self):
         """Of each group, from which rows on it was how."""
         found = []
-        for shape in self.decided.shapes:
-            gone = shape.gone["group"] if shape.gone else None
+        for one in self.decided.records:
             found.append(
                 [
-                    shape.row,
-                    self.groups.place(shape.group),
-                    *shape.arc,
-                    shape.members,
-                    shape.role,
-                    self.txs.place(shape.tx) if shape.tx else 0,
-                    gone,
-                    shape.succ,
-                    shape.pred,
+                    one.row,
+                    self.groups.place(one.group),
+                    *one.arc,
+                    one.members,
+                    one.role,
+                    self.txs.place(one.tx) if one.tx else 0,
+                    one.gone,
+                    one.succ,
+                    one.pred,
                 ]
             )
         return found

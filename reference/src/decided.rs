@@ -51,7 +51,10 @@ pub struct GroupLog {
 pub struct Decided {
     keep_states: bool,
     pub groups: BTreeMap<Draw, GroupLog>,
+    /// The names of the groups, in the order of their birth.
+    pub born: Vec<Draw>,
     votes: BTreeMap<Draw, Votes>,
+    /// The cuts, each before the one behind it on the circle.
     pub ring: Vec<Cut>,
     pub history: Vec<Entry>,
     /// The group of each coordinator, by transaction.
@@ -68,6 +71,7 @@ impl Decided {
         let mut d = Decided {
             keep_states,
             groups: BTreeMap::new(),
+            born: Vec::new(),
             votes: BTreeMap::new(),
             ring: Vec::new(),
             history: Vec::new(),
@@ -89,6 +93,8 @@ impl Decided {
         let old = self.groups.insert(id, GroupLog { log: Vec::new(), state: base, members, states });
         if old.is_some() {
             self.blame(format!("(birth) group {id} is born twice"));
+        } else {
+            self.born.push(id);
         }
     }
 
@@ -251,7 +257,7 @@ impl Decided {
         match parts {
             Some((i, (left, right))) => {
                 self.ring[i].arc = left;
-                self.ring.push(Cut { arc: right, group: child });
+                self.ring.insert(i + 1, Cut { arc: right, group: child });
             }
             None => self.blame(format!("(cover) the cut of {group} can't be cut at {at}")),
         }
@@ -301,8 +307,8 @@ impl Decided {
             Lock::Promised { tx, .. } | Lock::Watching { tx, .. } => *tx,
             _ => return Some(state),
         };
-        let coord = self.coordinators.get(&tx)?;
-        let outcome = self.groups.get(coord)?.state.core.outcome_of(tx).cloned();
+        let coord = self.coordinators.get(&tx).and_then(|name| self.groups.get(name));
+        let outcome = coord.and_then(|g| g.state.core.outcome_of(tx)).cloned();
         match outcome {
             None | Some(Outcome::Abort) => {}
             Some(outcome) => {

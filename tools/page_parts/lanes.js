@@ -197,14 +197,17 @@ function rowText(view, row) {
   const said = `decides ${count === 1 ? "a place of a log" : `${count} places of logs`}`;
   const mark = `M${GUTTER - 6} ${y - 4.5}l4.5 4.5l-4.5 4.5l-4.5-4.5z`;
   const at = { y: y + 4 };
-  return draw("g", { class: look, onclick: () => go(row), "data-row": row },
-    draw("title", {}, text),
+  const open = () => go(row);
+  const part = cutTo(text, view.width - view.text - 4);
+  const whole = part === text ? {} : { role: "button", ...shownWhole(text, view.text, y - 11),
+    onkeydown: (event) => { if (event.key === "Enter") open(); } };
+  return draw("g", { class: look, onclick: open, "data-row": row, ...whole },
+    part === text ? draw("title", {}, text) : null,
     draw("rect", { class: "hit-row", x: 0, y: y - HEIGHT / 2, width: view.width, height: HEIGHT }),
     draw("text", { ...at, x: GUTTER - 14, "text-anchor": "end", class: "row-number" },
       spelled(row)),
     count ? draw("path", { class: "decided", d: mark }, draw("title", {}, said)) : null,
-    draw("text", { ...at, x: view.text, class: "row-words" },
-      cutTo(text, view.width - view.text - 4)));
+    draw("text", { ...at, x: view.text, class: "row-words" }, part));
 }
 
 /** The names of the lanes: groups of a node, and how much mail is under way to it. */
@@ -233,7 +236,10 @@ function laneHeads(view) {
     const at = { x: laneX(view, who), "text-anchor": "middle" };
     const name = { ...at, y: isNarrow && place % 2 ? 27 : 15,
       class: isNarrow ? "lane-name small" : "lane-name" };
-    return draw("g", { class: isDown ? "head down" : "head" }, draw("title", {}, about),
+    const isCut = all.length > (isNarrow ? 0 : most);
+    const whole = isCut ? { role: "note", ...shownWhole(about, Math.max(0, at.x - 60), 44) } : {};
+    return draw("g", { class: isDown ? "head down" : "head", ...whole },
+      isCut ? null : draw("title", {}, about),
       draw("text", name, isDown ? `${actor(who)}✕` : actor(who)),
       isNarrow ? null : draw("text", { ...at, y: 28, class: "lane-groups" }, some),
       count ? draw("text", { ...at, y: 40, class: "lane-waiting" },
@@ -279,5 +285,6 @@ function showLanes() {
     draw("rect", { class: "head-back", x: 0, y: 0, width: view.width, height: HEADS - 2 }),
     draw("g", { "clip-path": "url(#middle)" }, laneHeads(view)),
     visible.length ? null : draw("text", { x: 20, y: 90, class: "row-words" }, "no row is so"));
+  hideWhole();
   find("lanes").replaceChildren(picture);
 }

@@ -11,11 +11,12 @@ function keepFocus(show) {
   const old = document.activeElement;
   const part = PARTS.find((name) => old && old.closest(name) && old !== find(name.slice(1)));
   const place = part ? [...find(part.slice(1)).querySelectorAll(CAN_FOCUS)].indexOf(old) : -1;
-  const mail = old?.dataset?.mail;
+  const { mail, row } = old?.dataset ?? {};
   show();
   if (!part || document.contains(old)) return;
   const all = [...find(part.slice(1)).querySelectorAll(CAN_FOCUS)];
-  const same = mail ? all.find((one) => one.dataset.mail === mail) : all[place];
+  const isSame = (one) => one?.dataset.mail === mail && one?.dataset.row === row;
+  const same = !(mail || row) || isSame(all[place]) ? all[place] : all.find(isSame);
   (same ?? all[Math.min(place, all.length - 1)] ?? find("lanes")).focus({ preventScroll: true });
 }
 

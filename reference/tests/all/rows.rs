@@ -47,7 +47,7 @@ fn rows_are_explained() {
     let lines: Vec<&str> = text.lines().collect();
     assert_eq!(done.status, 0);
     assert_eq!(lines[0], "{\"birth\":{\"group\":\"0.1\",\"members\":[1,2]},\"row\":0}");
-    assert_eq!(lines[2], "{\"ring\":[[\"0.1\",[0,4294967296]]],\"row\":0}");
+    assert_eq!(lines[3], "{\"ring\":[[\"0.1\",[0,4294967296]]],\"row\":0}");
     let has = |part: &str| lines.iter().any(|line| line.contains(part));
     assert!(has("{\"birth\":{\"group\":\"1.1\",\"members\":[2]}"));
     assert!(has("\"effect\":{\"Done\":{\"old\":null}},\"group\":\"1.1\""));
