@@ -38,6 +38,15 @@ def parts_of(scenario):
     return head, schedule
 
 
+def actors(scenario):
+    """The names of all actors, nodes first."""
+    head, _ = parts_of(scenario)
+    words = [line.split() for line in head]
+    count = next((int(one[1]) for one in words if one[0] == "nodes"), 0)
+    clients = sorted(int(one[1]) for one in words if one[0] == "client")
+    return [f"n{node}" for node in range(1, count + 1)] + [f"c{one}" for one in clients]
+
+
 def actor_number(word):
     """The number of an actor of a scenario's line."""
     return int(word[1:]) + (journals.NODES if word[0] == "c" else 0)
