@@ -49,7 +49,8 @@ class Facts:
             place = (said["group"], said["slot"])
             self.accepts.setdefault(place, []).append(mail)
         elif mail.kind == "Accepted":
-            self.accepted.setdefault((said["group"], said["slot"], *said["ballot"]), []).append(mail)
+            place = (said["group"], said["slot"], *said["ballot"])
+            self.accepted.setdefault(place, []).append(mail)
         elif mail.kind == "Promise" and mail.number in self.taken:
             self.promises.setdefault((said["group"], *said["ballot"]), set()).add(mail.sender)
         if mail.kind in ("Accept", "Prepare"):
@@ -124,7 +125,8 @@ class Facts:
         told = []
         for mail in mails:
             if tuple(mail.fields["ballot"]) == ballot and mail.receiver not in have:
-                told.append(f"mail {mail.number} to {journals.actor(mail.receiver)} {self.fate(mail)}")
+                who = journals.actor(mail.receiver)
+                told.append(f"mail {mail.number} to {who} {self.fate(mail)}")
         count = len(have & set(members))
         head = f"slot {slot} of {group} has {count} of {len(members)} members, by ballot"
         tail = f": {'; '.join(told)}" if told else ""
@@ -190,7 +192,8 @@ class Facts:
             lines.append(f"{tx} of {group} has sent nothing yet")
         if mails:
             lines.append(f"its last: {self.mail_words(mails[-1])}")
-        for name in sorted({group, *(one.group for one in self.records.values() if one.tx == tx)} - {None}):
+        names = {group, *(one.group for one in self.records.values() if one.tx == tx)}
+        for name in sorted(names - {None}):
             why = self.leading(name)
             if why:
                 lines.append(why)
@@ -358,5 +361,6 @@ def held(facts, mail, client, seq):
     lines = [f"it was decided in row {entry.row}: {journals.decision(entry)}"]
     kind, _ = journals.kind_and_fields(entry.effect)
     if kind == "NoEffect":
-        return [*lines, "it had no effect, and is to be decided again", *of_queue(facts, group, "it")]
+        lines.append("it had no effect, and is to be decided again")
+        return lines + of_queue(facts, group, "it")
     return [*lines, f"n{mail.receiver} has not heard of that, or not executed it yet"]
