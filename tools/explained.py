@@ -67,10 +67,10 @@ def cuts(ring):
     return sorted((lo, length, group) for group, (lo, length) in ring)
 
 
-def has_subcommand(program):
+def has_subcommand(*words):
     """Whether the usage line of a program names the subcommand."""
     usage = subprocess.run(
-        [program, "explain", "?"], stdin=subprocess.DEVNULL, capture_output=True, check=False
+        [*words, "explain", "?"], stdin=subprocess.DEVNULL, capture_output=True, check=False
     )
     return b"scatter explain" in usage.stdout
 

@@ -1,13 +1,20 @@
-"""Where the reference is: the plain implementation in reference/, built by cargo where there is one."""
+"""Where the reference is: the plain implementation in reference/, built by cargo where there is one.
+
+A command may stand for it: one of another implementation, to which a subcommand is added. The
+reference itself answers many texts in one process, since to start one costs more than to answer.
+"""
 
 import os
+import select
 import shlex
 import shutil
 import subprocess
 import sys
+import time
 
 HERE = os.path.dirname(os.path.dirname(os.path.abspath(__file__)))
 FOLDER = os.path.join(HERE, "reference")
+SECONDS = 60  # how long an answer may take
 
 
 def build():
@@ -33,3 +40,83 @@ def command(asked, *words):
         print("name the command of another implementation, or install cargo", file=sys.stderr)
         sys.exit(2)
     return [program, *words]
+
+
+class Calls:
+    """A process for each subcommand and text."""
+
+    def __init__(self, words):
+        self.words = words
+
+    def ask(self, word, text, seconds=SECONDS):
+        """The status and the output of a subcommand. The status is None where it took too long."""
+        try:
+            done = subprocess.run(
+                [*self.words, *word.split()],
+                input=text,
+                stdout=subprocess.PIPE,
+                stderr=subprocess.DEVNULL,
+                timeout=seconds,
+                check=False,
+            )
+        except subprocess.TimeoutExpired:
+            return None, b""
+        return done.returncode, done.stdout
+
+
+class Batch:
+    """One process of the reference, which answers many texts."""
+
+    def __init__(self, program):
+        self.program, self.process, self.held = program, None, b""
+
+    def start(self):
+        self.held = b""
+        self.process = subprocess.Popen(
+            [self.program, "batch"],
+            stdin=subprocess.PIPE,
+            stdout=subprocess.PIPE,
+            stderr=subprocess.DEVNULL,
+        )
+
+    def ask(self, word, text, seconds=SECONDS):
+        """The status and the output of a subcommand. The status is None where it took too long."""
+        if self.process is None:
+            self.start()
+        self.process.stdin.write(b"%s %d\n" % (word.encode(), len(text)) + text)
+        self.process.stdin.flush()
+        until = time.monotonic() + seconds
+        try:
+            while b"\n" not in self.held:
+                self.more(until)
+            head, self.held = self.held.split(b"\n", 1)
+            status, length = map(int, head.split())
+            while len(self.held) < length:
+                self.more(until)
+        except TimeoutError:
+            self.end()
+            return None, b""
+        output, self.held = self.held[:length], self.held[length:]
+        return status, output
+
+    def more(self, until):
+        """Reads what has come, or waits for it."""
+        out = self.process.stdout.fileno()
+        if not select.select([out], [], [], max(0.0, until - time.monotonic()))[0]:
+            raise TimeoutError
+        part = os.read(out, 2**20)
+        if not part:
+            raise EOFError("the reference ended")
+        self.held += part
+
+    def end(self):
+        self.process.kill()
+        self.process.wait()
+        self.process.stdin.close()
+        self.process.stdout.close()
+        self.process = None
+
+
+def other(asked):
+    """Another implementation, to which subcommands are added: the one asked for, or else the reference."""
+    return Calls(shlex.split(asked)) if asked else Batch(command(None)[0])

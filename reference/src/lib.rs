@@ -1,5 +1,7 @@
 //! The plain implementation of the rules of scatter: unproved, untuned, and written from the rules alone.
 
+pub mod audit;
+pub mod batch;
 pub mod budget;
 pub mod calm;
 pub mod chacha;

@@ -3,7 +3,7 @@
 use reference::program::{self, Done};
 use reference::text::MOST_STORED;
 use reference::values::{read_number, Dials};
-use reference::{budget, calm, plain, random, recover};
+use reference::{batch, budget, calm, plain, random, recover};
 use std::io::{Read, Write};
 
 /// Reads up to so many bytes of standard input.
@@ -16,8 +16,15 @@ fn stdin(most: u64) -> Vec<u8> {
     input
 }
 
-fn scenario() -> Vec<u8> {
-    stdin(program::SCENARIO_BYTES)
+/// Answers a subcommand that reads standard input, up to so many bytes.
+fn read_and_answer(word: &str, most: u64, dials: &Dials) -> Done {
+    batch::answer(word, &stdin(most), dials).unwrap_or_else(Done::usage)
+}
+
+/// Answers the texts on standard input, one after another.
+fn serve(dials: &Dials) -> Done {
+    let served = batch::serve(std::io::stdin().lock(), std::io::stdout().lock(), dials);
+    Done { status: if served.is_ok() { 0 } else { 5 }, output: Vec::new() }
 }
 
 /// Reads four numbers, each at least 1.
@@ -52,11 +59,10 @@ fn searched(word: &str, (seed, count): (u64, u64), dials: &Dials) -> Done {
 
 fn answer(words: &[&str], dials: &Dials) -> Done {
     match words {
-        ["run"] => program::run(&scenario(), dials),
-        ["journal"] => program::journal(&scenario(), dials),
         ["make", n, s] => program::make(n, s, dials),
-        ["explain"] => program::explain(&stdin(MOST_STORED as u64 + 1)),
-        ["sound"] => program::sound(&scenario(), dials),
+        [word @ ("run" | "journal" | "sound")] => read_and_answer(word, program::SCENARIO_BYTES, dials),
+        [word @ ("audit" | "explain")] => read_and_answer(word, MOST_STORED as u64 + 1, dials),
+        ["batch"] => serve(dials),
         ["gen", seed] => match read_number(seed.as_bytes(), u64::MAX) {
             Some(seed) => Done { status: 0, output: random::generate(seed, dials).into_bytes() },
             None => Done::usage(),

@@ -3,12 +3,12 @@
 use crate::scenario::*;
 use crate::values::*;
 use crate::world::*;
-use crate::{explain, report, sound, text};
+use crate::{audit, explain, report, sound, text};
 
 /// The line that is printed where the subcommand is none.
 pub const USAGE: &str =
-    "usage: reference [--dials UNIT PATIENCE CROWD HEAP] run | journal | make N S | explain \
-    | sound | gen SEED | fuzz SEED COUNT | budget SEED COUNT | plain SEED COUNT | calm SEED COUNT \
+    "usage: reference [--dials UNIT PATIENCE CROWD HEAP] run | journal | make N S | audit \
+    | explain | sound | batch | gen SEED | fuzz SEED COUNT | budget SEED COUNT | plain SEED COUNT | calm SEED COUNT \
     | recover SEED COUNT";
 /// The most bytes of a scenario that are read: one more than it may have.
 pub const SCENARIO_BYTES: u64 = 16_777_217;
@@ -88,12 +88,26 @@ pub fn make(n: &str, s: &str, dials: &Dials) -> Done {
     }
 }
 
-/// Says what the rows of a stored journal decided.
-pub fn explain(input: &[u8]) -> Done {
-    match text::read_file(input) {
-        Err(bad) => Done::line(3, bad),
-        Ok(stored) => Done { status: 0, output: explain::lines(&stored) },
+/// Says of a stored journal what this does where its rows are lawful, and else which is not.
+fn audited(input: &[u8], dials: &Dials, lawful: impl Fn(&text::Stored) -> Done) -> Done {
+    let stored = match text::read_file(input) {
+        Err(bad) => return Done::line(3, bad),
+        Ok(stored) => stored,
+    };
+    match audit::unlawful_row(&stored, dials) {
+        Some(row) => Done::line(9, format!("unlawful row {row}")),
+        None => lawful(&stored),
     }
+}
+
+/// Says whether the rows of a stored journal are lawful.
+pub fn audit(input: &[u8], dials: &Dials) -> Done {
+    audited(input, dials, |stored| Done::line(0, format!("lawful rows {}", stored.rows.len())))
+}
+
+/// Says what the rows of a stored journal decided.
+pub fn explain(input: &[u8], dials: &Dials) -> Done {
+    audited(input, dials, |stored| Done { status: 0, output: explain::lines(stored) })
 }
 
 /// Checks that every prefix of a scenario's run keeps what it must.

@@ -65,8 +65,7 @@ pub fn poll(v: &GroupView, turns: &Turns, looked: &mut Looked) -> Result<(), Str
         let way = asked || runs.is_none_or(|l| l.promised.contains(&m)) || v.comes_from(m, n, answers);
         looked.look("P poll", way, || format!("{}: {n} polls {m}", v.id))?;
         let seen = asked || v.group[&m].top >= b;
-        looked
-            .look("all see the poll", seen, || format!("{}: {m} has not seen the ballot of {n}", v.id))?;
+        looked.look("all see the poll", seen, || format!("{}: {m} has not seen the ballot of {n}", v.id))?;
     }
     if runs.is_none() {
         let cause = r.top > b || v.is_level(r) || !v.quiet();

@@ -40,9 +40,23 @@ fn each_scenario_has_its_report_and_status() {
 fn stored_journals_of_scenarios_are_explained() {
     for path in scenarios() {
         let stored = program::journal(&read(&path), &Dials::RULES);
-        let explained = program::explain(&stored.output);
+        let explained = program::explain(&stored.output, &Dials::RULES);
         assert_eq!(explained.status, if stored.status == 3 { 3 } else { 0 }, "{}", path.display());
     }
+}
+
+#[test]
+fn stored_explanations_are_those_of_the_journals() {
+    let mut count = 0;
+    for path in scenarios() {
+        let Ok(wanted) = std::fs::read(path.with_extension("explain")) else { continue };
+        let stored = program::journal(&read(&path), &Dials::RULES);
+        let explained = program::explain(&stored.output, &Dials::RULES);
+        assert_eq!(explained.status, 0, "{}", path.display());
+        assert!(explained.output == wanted, "{}", path.display());
+        count += 1;
+    }
+    assert_eq!(count, 20);
 }
 
 #[test]

@@ -1,0 +1,44 @@
+"""Many cases of a tool, by their numbers: as many at a time as is asked, and their results in order.
+
+A case is made from a seed and its number alone, so whoever stops a tool goes on with the next number.
+"""
+
+import collections
+import concurrent.futures
+import signal
+import threading
+
+AHEAD = 64  # cases that are under way or wait for their turn, for each thread
+
+
+class Stopped(Exception):
+    """The tool was asked to stop."""
+
+
+def stop(*_):
+    raise Stopped
+
+
+def in_order(numbers, jobs, made, one):
+    """The results of `one(made, number)` in the order of numbers, where each thread has its own `made()`."""
+    signal.signal(signal.SIGTERM, stop)
+    signal.signal(signal.SIGINT, stop)
+    own = threading.local()
+
+    def case(number):
+        if not hasattr(own, "made"):
+            own.made = made()
+        return one(own.made, number)
+
+    waiting = collections.deque()
+    with concurrent.futures.ThreadPoolExecutor(jobs) as pool:
+        try:
+            for number in numbers:
+                waiting.append(pool.submit(case, number))
+                if len(waiting) >= AHEAD * jobs:
+                    yield waiting.popleft().result()
+            while waiting:
+                yield waiting.popleft().result()
+        finally:
+            for future in waiting:
+                future.cancel()
