@@ -75,13 +75,14 @@ class Pending:
 
     def __init__(self, journal):
         self.journal, self.of, self.crashed, self.gone = journal, {}, set(), set()
-        self.sent = 0
+        self.sent, self.total = 0, 0
 
     def add(self, number):
         """One more copy of a mail."""
         receiver = self.journal.mail(number).receiver
         if receiver and receiver not in self.crashed:
             bisect.insort(self.of.setdefault(receiver, []), number)
+            self.total += 1
 
     def take(self, row):
         """Goes behind a row."""
@@ -90,11 +91,12 @@ class Pending:
             numbers = self.of.get(mail.receiver, []) if mail else []
             if row.of in numbers:
                 numbers.remove(row.of)
+                self.total -= 1
         elif row.event == "Again" and self.journal.mail(row.of):
             self.add(row.of)
         elif row.event == "Crash":
             self.crashed.add(row.who)
-            self.of.pop(row.who, None)
+            self.total -= len(self.of.pop(row.who, []))
         elif row.event == "Go":
             self.gone.add(row.who)
         for mail in row.sent:
@@ -102,7 +104,8 @@ class Pending:
             self.add(mail.number)
 
     def count(self):
-        return sum(len(numbers) for numbers in self.of.values())
+        """How much is pending."""
+        return self.total
 
     def least(self):
         """The lowest-numbered mail; None where none is pending."""
