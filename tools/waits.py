@@ -309,6 +309,19 @@ def of_answer(facts, mail, answers):
     return [*lines, "the client has not asked anew since: a tick makes it ask again"]
 
 
+def turned_away(facts, actor, seq):
+    """Who said to a client that it does not lead, how often, and the last cause."""
+    found = {}
+    for mail in facts.journal.mails:
+        if mail.cause and (mail.receiver, mail.fields["seq"]) == (actor, seq):
+            count, _ = found.get(mail.sender, (0, ""))
+            found[mail.sender] = count + 1, mail.cause
+    return [
+        f"n{node} answered not leader {'once' if count == 1 else f'{count} times'}: {cause}"
+        for node, (count, cause) in sorted(found.items())
+    ]
+
+
 def of_request(facts, client, seq):
     """What an unanswered request waits for, line by line."""
     actor = client + journals.NODES
@@ -327,7 +340,7 @@ def of_request(facts, client, seq):
     last = asked[-1]
     times = "once" if len(asked) == 1 else f"{len(asked)} times, at last"
     lines = [f"asked {times} of n{last.receiver} in row {last.row}"]
-    lines += facts.no_majority(last.fields["group"])
+    lines += facts.no_majority(last.fields["group"]) + turned_away(facts, actor, seq)
     if last.number not in facts.taken:
         return [*lines, facts.mail_words(last)]
     row = facts.taken[last.number]
