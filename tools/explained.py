@@ -1,4 +1,4 @@
-"""What a stored journal decided, as the subcommand `explain` prints it: entries of logs, records of groups, and rings.
+"""Reads what a stored journal decided, as the subcommand `explain` prints it.
 
 docs/JOURNALS.md has its lines. They are asked of the program where its usage line names the
 subcommand, and else of the implementation in reference/, which cargo builds. Nothing is found out
@@ -14,17 +14,21 @@ import reference
 
 SCRIPT = os.path.join(reference.HERE, "scatter")
 NOT_LAWFUL = 9  # the status after a row that is not lawful
+NO_ANSWER = 120  # the least status of the script where the program does not answer
 ROLES = {"Coordinating": "asks", "Promised": "voted yes", "Watching": "watches"}
 ASKS = ROLES["Coordinating"]
-OPTION = {"metavar": "PROGRAM", "help": "the program that says what the rows decided; else ./scatter"}
+OPTION = {
+    "metavar": "PROGRAM",
+    "help": "the program that says what the rows decided; else ./scatter",
+}
 
 
 class Unexplained(Exception):
-    """Why it is not known what a journal decided."""
+    """Says why it is not known what a journal decided."""
 
 
 class Entry:
-    """An entry of a group's log: the row that decided it, its slot, its command and its effect."""
+    """Holds an entry of a group's log: the row that decided it, its slot, command and effect."""
 
     def __init__(self, row, said):
         self.row, self.group, self.slot = row, said["group"], said["slot"]
@@ -32,10 +36,11 @@ class Entry:
 
 
 class Record:
-    """A group from some row on, by its own log. It has a role in a transaction, or None for both."""
+    """Holds a group from some row on, by its own log: a role in a transaction, or None for both."""
 
     def __init__(self, row, said):
-        self.row, self.group, self.arc, self.members = row, said["name"], said["arc"], said["members"]
+        self.row, self.group = row, said["name"]
+        self.arc, self.members = said["arc"], said["members"]
         self.succ, self.pred, self.gone = said["succ"], said["pred"], said["gone"]
         self.role, self.tx = None, None
         if said["lock"] != "Free":
@@ -44,7 +49,7 @@ class Record:
 
 
 class Explained:
-    """All that a journal decided, in the order of its rows."""
+    """Holds all that a journal decided, in the order of its rows."""
 
     def __init__(self, lines):
         self.groups, self.entries, self.records, self.rings = [], [], [], []
@@ -63,12 +68,12 @@ class Explained:
 
 
 def cuts(ring):
-    """The arcs of a ring by ascending start: where each begins, how long it is, and whose it is."""
+    """Sorts the arcs of a ring by their start: where each begins, its length, and whose it is."""
     return sorted((lo, length, group) for group, (lo, length) in ring)
 
 
 def has_subcommand(*words):
-    """Whether the usage line of a program names the subcommand."""
+    """Tries whether the usage line of a program names the subcommand."""
     usage = subprocess.run(
         [*words, "explain", "?"], stdin=subprocess.DEVNULL, capture_output=True, check=False
     )
@@ -76,13 +81,18 @@ def has_subcommand(*words):
 
 
 def command(program=None):
-    """The command that explains: of this program or the repository's, or else of the reference."""
+    """Finds the command that explains: this program's or the repository's, or the reference's."""
     asked = program or SCRIPT
     try:
         if has_subcommand(asked):
             return [asked, "explain"]
     except OSError as fault:
         raise Unexplained(f"{asked}: {fault.strerror}") from None
+    return of_reference()
+
+
+def of_reference():
+    """Returns the reference's command that explains."""
     other = reference.build()
     if other is None:
         raise Unexplained("neither the program nor the reference can say what was decided")
@@ -90,16 +100,20 @@ def command(program=None):
 
 
 def explain(text, program=None):
-    """What the rows of a stored journal decided. Of an unlawful one, what the rows before the first unlawful row did."""
+    """Asks what the rows of a stored journal decided: all, or those before the first unlawful one."""
     words = command(program)
     done = run(words, text)
+    if done.returncode >= NO_ANSWER and words[0] == SCRIPT:
+        words = of_reference()
+        done = run(words, text)
     if done.returncode == NOT_LAWFUL:
         row = int(done.stdout.split()[-1])
-        print(f"row {row} is not lawful: only what the rows before it decided is known", file=sys.stderr)
+        known = "only what the rows before it decided is known"
+        print(f"row {row} is not lawful: {known}", file=sys.stderr)
         done = run(words, first_rows(text, row - 1))
     if done.returncode:
-        said = done.stdout.decode("latin-1").strip() or f"{words[0]} ended with status {done.returncode}"
-        raise Unexplained(said)
+        said = done.stdout.decode("latin-1").strip()
+        raise Unexplained(said or f"{words[0]} ended with status {done.returncode}")
     return Explained(done.stdout.decode("latin-1").splitlines())
 
 
@@ -108,7 +122,7 @@ def run(words, text):
 
 
 def first_rows(text, count):
-    """A stored journal with its first rows alone."""
+    """Cuts a stored journal behind so many rows."""
     lines = text.split(b"\n")
     end = lines.index(b"journal") + 1 + count
     return b"\n".join(lines[:end]) + b"\n"

@@ -49,7 +49,7 @@ class Journal:
         self.program, self.explained = None, None
 
     def decided(self):
-        """What the rows decided, which is asked once: of a program, or else of the repository's."""
+        """Asks once what the rows decided: of a program, or else of the repository's."""
         if self.explained is None:
             try:
                 self.explained = explained.explain(self.text, self.program)
@@ -63,7 +63,7 @@ class Journal:
 
 
 def read(name, program=None):
-    """The journal in a file, or in standard input where the name is `-`. A program may be named that explains it."""
+    """Reads a file, or standard input where the name is `-`. A program may be named to explain it."""
     try:
         if name == "-":
             text = sys.stdin.buffer.read()

@@ -1,6 +1,7 @@
-"""Many cases of a tool, by their numbers: as many at a time as is asked, and their results in order.
+"""Runs many cases by their numbers, several at a time, and gives their results in order.
 
-A case is made from a seed and its number alone, so whoever stops a tool goes on with the next number.
+A case is made from a seed and its number alone, so a tool that was stopped goes on with the next
+number.
 """
 
 import collections
@@ -12,7 +13,7 @@ AHEAD = 64  # cases that are under way or wait for their turn, for each thread
 
 
 class Stopped(Exception):
-    """The tool was asked to stop."""
+    """Says that the tool was asked to stop."""
 
 
 def stop(*_):
@@ -20,7 +21,7 @@ def stop(*_):
 
 
 def in_order(numbers, jobs, made, one):
-    """The results of `one(made, number)` in the order of numbers, where each thread has its own `made()`."""
+    """Gives the results of `one(made, number)` by number; each thread has its own `made()`."""
     signal.signal(signal.SIGTERM, stop)
     signal.signal(signal.SIGINT, stop)
     own = threading.local()

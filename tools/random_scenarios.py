@@ -1,4 +1,4 @@
-"""Random scenarios, each from a seed and its own number alone, for the tools that compare two programs.
+"""Makes random scenarios, each from a seed and its own number alone, for tools that compare.
 
 They have nodes, 1 to 16 groups on them, with a policy or without, clients with requests, and a
 schedule with losses, repeats, deliveries out of order, ticks, crashes, storms and orders of all six
@@ -20,8 +20,10 @@ class Maker:
     def __init__(self, seed, number, groups=1):
         self.dice = random.Random(f"{seed}/{number}")
         self.most = groups
-        self.nodes = self.some([(30, (1, 1)), (45, (2, 3)), (20, (4, 6)), (4, (7, 12)), (1, (13, 32))])
-        members = min(self.nodes, self.some([(20, (1, 1)), (60, (2, 3)), (15, (4, 5)), (5, (6, 9))]))
+        nodes = [(30, (1, 1)), (45, (2, 3)), (20, (4, 6)), (4, (7, 12)), (1, (13, 32))]
+        self.nodes = self.some(nodes)
+        some = self.some([(20, (1, 1)), (60, (2, 3)), (15, (4, 5)), (5, (6, 9))])
+        members = min(self.nodes, some)
         self.members = self.dice.sample(range(1, self.nodes + 1), members)
         count = self.some([(8, (0, 0)), (50, (1, 2)), (35, (3, 5)), (6, (6, 10)), (1, (11, 64))])
         self.clients = self.dice.sample(range(1, 65), count)
@@ -36,7 +38,8 @@ class Maker:
         self.kind = self.dice.choices(["plain", "long", "lagging"], [92, 5, 3])[0]
         if self.kind == "lagging":
             self.nodes = self.dice.randint(3, 5)
-            self.members = self.dice.sample(range(1, self.nodes + 1), self.dice.randint(3, self.nodes))
+            count = self.dice.randint(3, self.nodes)
+            self.members = self.dice.sample(range(1, self.nodes + 1), count)
             self.clients = self.dice.sample(range(1, 65), self.dice.randint(1, 5))
         self.sent = 0
         # the members of each group, in the order of the groups' lines
@@ -119,12 +122,14 @@ class Maker:
 
     def mail(self):
         """Mostly the number of a mail that may have been sent."""
-        return self.some([(97, (1, max(1, self.sent))), (2, (1, 2 * self.sent + 9)), (1, (1, LAST))])
+        sent = self.sent
+        return self.some([(97, (1, max(1, sent))), (2, (1, 2 * sent + 9)), (1, (1, LAST))])
 
     def line(self, crashes):
         kind = self.dice.choices(
             ["deliver", "drop", "again", "tick", "settle", "go", "crash", "order", "storm"],
-            [50, 6, 8, 9 if self.calm else 14, 6, 10 if self.clients else 0, crashes, self.orders, self.storms],
+            [50, 6, 8, 9 if self.calm else 14, 6, 10 if self.clients else 0]
+            + [crashes, self.orders, self.storms],
         )[0]
         self.sent += 1
         if kind in ("deliver", "drop"):
@@ -135,13 +140,15 @@ class Maker:
             return f"tick {self.actor()}"
         if kind == "settle":
             many = 6 if self.kind == "long" else 0
-            return f"settle {self.some([(8, (1, 3)), (4, (4, 12)), (2, (13, 60)), (many, (60, 600))])}"
+            most = self.some([(8, (1, 3)), (4, (4, 12)), (2, (13, 60)), (many, (60, 600))])
+            return f"settle {most}"
         if kind == "go":
             return f"go {self.dice.choice(self.clients)}"
         if kind == "order":
             return self.order()
         if kind == "storm":
-            return f"storm {self.dice.choice([self.dice.randint(0, 9), self.dice.randint(0, 2**64 - 1)])} {self.dice.randint(1, 80)}"
+            number = self.dice.choice([self.dice.randint(0, 9), self.dice.randint(0, 2**64 - 1)])
+            return f"storm {number} {self.dice.randint(1, 80)}"
         return f"crash {self.dice.randint(1, self.nodes)}"
 
     def group(self):
@@ -212,7 +219,8 @@ class Maker:
     def lagging(self):
         """Mail for all but one member, whose own is lost, so that it falls behind."""
         left_out = self.dice.choice(self.members)
-        who = [f"n{m}" for m in self.members if m != left_out] * 3 + [f"c{c}" for c in self.clients] * 2
+        who = [f"n{m}" for m in self.members if m != left_out] * 3
+        who += [f"c{c}" for c in self.clients] * 2
         lines = []
         for _ in range(self.dice.randint(50, 300)):
             self.dice.shuffle(who)
@@ -227,7 +235,8 @@ class Maker:
             who = [f"n{m}" for m in self.members] + [f"c{c}" for c in self.clients]
             self.dice.shuffle(who)
             lines += [f"tick {w}" for w in who[: self.dice.randint(1, len(who))]]
-            lines.append(f"settle {self.some([(1, (20, 100)), (4, (400, 3000)), (1, (1000000, 1000000))])}")
+            most = self.some([(1, (20, 100)), (4, (400, 3000)), (1, (1000000, 1000000))])
+            lines.append(f"settle {most}")
         return lines
 
     def lines(self):
@@ -241,7 +250,8 @@ class Maker:
         crashes = self.dice.choice([0, 0, 1, 3])
         if self.dice.random() < 0.8:
             lines += [f"go {c}" for c in self.clients if self.dice.random() < 0.8]
-        count = self.some([(5, (0, 0)), (35, (1, 15)), (40, (16, 60)), (18, (61, 200)), (2, (201, 900))])
+        counts = [(5, (0, 0)), (35, (1, 15)), (40, (16, 60)), (18, (61, 200)), (2, (201, 900))]
+        count = self.some(counts)
         if self.kind == "lagging":
             lines += self.lagging()
         if self.orders and self.dice.random() < 0.2:
@@ -257,5 +267,5 @@ class Maker:
 
 
 def scenario_of(seed, number, groups, workers=1):
-    """The text of a scenario with at most so many groups, and with so many workers of a `free` line."""
+    """Makes a text with at most so many groups, and `free` lines of at most so many workers."""
     return widened.text(f"{seed}/{number}", Maker(seed, number, groups).lines(), workers)

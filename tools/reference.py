@@ -1,4 +1,4 @@
-"""Where the reference is: the plain implementation in reference/, built by cargo where there is one.
+"""Finds the reference, the plain implementation in reference/, built by cargo where there is one.
 
 A command may stand for it: one of another implementation, to which a subcommand is added. The
 reference itself answers many texts in one process, since to start one costs more than to answer.
@@ -18,7 +18,7 @@ SECONDS = 60  # how long an answer may take
 
 
 def build():
-    """Builds the reference, and returns the path of its program. None where that cannot be, and says why."""
+    """Builds the reference, and returns its path, or None where that cannot be, and says why."""
     if shutil.which("cargo") is None:
         print("the reference is not built: there is no cargo on the PATH", file=sys.stderr)
         return None
@@ -32,7 +32,7 @@ def build():
 
 
 def command(asked, *words):
-    """The command that was asked for, or else the reference with these words. Ends with status 2 where there is none."""
+    """Returns the command that was asked for, or the reference's. Ends where there is none."""
     if asked:
         return shlex.split(asked)
     program = build()
@@ -43,13 +43,13 @@ def command(asked, *words):
 
 
 class Calls:
-    """A process for each subcommand and text."""
+    """Starts a process for each subcommand and text."""
 
     def __init__(self, words):
         self.words = words
 
     def ask(self, word, text, seconds=SECONDS):
-        """The status and the output of a subcommand. The status is None where it took too long."""
+        """Returns status and output of a subcommand; None for the status of one that took too long."""
         try:
             done = subprocess.run(
                 [*self.words, *word.split()],
@@ -65,7 +65,7 @@ class Calls:
 
 
 class Batch:
-    """One process of the reference, which answers many texts."""
+    """Keeps one process of the reference, which answers many texts."""
 
     def __init__(self, program):
         self.program, self.process, self.held = program, None, b""
@@ -80,7 +80,7 @@ class Batch:
         )
 
     def ask(self, word, text, seconds=SECONDS):
-        """The status and the output of a subcommand. The status is None where it took too long."""
+        """Returns status and output of a subcommand; None for the status of one that took too long."""
         if self.process is None:
             self.start()
         self.process.stdin.write(b"%s %d\n" % (word.encode(), len(text)) + text)
@@ -118,5 +118,5 @@ class Batch:
 
 
 def other(asked):
-    """Another implementation, to which subcommands are added: the one asked for, or else the reference."""
+    """Returns the other implementation, to which subcommands are added, or the reference."""
     return Calls(shlex.split(asked)) if asked else Batch(command(None)[0])

@@ -10,7 +10,7 @@ COMMENTS = ["# a comment", "#", "#\tx y"]
 
 
 def conditional(dice, line):
-    """A request, or a conditional write in its place."""
+    """Gives a request, or a conditional write in its place."""
     words = line.split(" ")
     if words[0] != "put" or dice.random() < 0.5:
         return line
@@ -20,7 +20,7 @@ def conditional(dice, line):
 
 
 def freed(dice, line, workers):
-    """A line of the schedule, or a `free` line in place of a `settle` line."""
+    """Gives a line of the schedule, or a `free` line in place of a `settle` line."""
     words = line.split(" ")
     if words[0] != "settle" or dice.random() < 0.6:
         return line
@@ -28,7 +28,7 @@ def freed(dice, line, workers):
 
 
 def loosened(dice, line):
-    """A line with other blanks, which are read as one."""
+    """Gives a line with other blanks, which are read as one."""
     if dice.random() < 0.8:
         return line
     blank = dice.choice(["  ", "\t", " \t "])
@@ -37,7 +37,7 @@ def loosened(dice, line):
 
 
 def loose_text(dice, lines):
-    """The lines with comments, empty lines and blanks, some with carriage returns, and some without a last line feed."""
+    """Puts comments, empty lines, blanks, carriage returns, and no last line feed into some."""
     found = [lines[0]]
     for line in lines[1:]:
         if dice.random() < 0.1:
@@ -48,7 +48,7 @@ def loose_text(dice, lines):
 
 
 def text(seed, lines, workers):
-    """The text of a scenario's lines, widened in many of them."""
+    """Makes the text of a scenario's lines, widened in many scenarios."""
     dice = random.Random(f"widened/{seed}")
     if dice.random() < 0.5:
         lines = ["scatter 2", *(conditional(dice, line) for line in lines[1:])]
